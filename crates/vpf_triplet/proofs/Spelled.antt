@@ -1,0 +1,217 @@
+-- What is read is spelled so, and what is spelled so is read.
+use Rattle.std.proofs.Common.{ltb-true, take-add, ◌≡◌, ℕ, zero, suc, ◌+◌, ◌*◌, ◌/◌, ◌%◌, ◌<◌, ◌≤◌, Bool, true, false, cond, ltb, eqb, List, [], ◌∷◌, ◌++◌, length, take, drop, Option, Some, None, Result, Ok, Err, refl, sym, ap, subst, ◌∙◌, append_assoc, arith, inl, inr}
+use Rattle.std.specs.Prelude.{◌&&◌}
+use Rattle.std.proofs.lemmas.Bool.{cases_lt, lt-ltb, ltb-false, le-ltb, eqb-true, eq-eqb}
+use Rattle.std.proofs.lemmas.List.{drop_at, length-append, length-take, length-drop, get_or-drop, get_or-take, get_or_past}
+use Rattle.std.proofs.lemmas.Nat.{le_bytes_2, be_bytes_2, le_bytes_4, be_bytes_4, from_le_bytes-to_le_bytes_2, from_be_bytes-to_be_bytes_2, from_le_bytes-to_le_bytes_4, from_be_bytes-to_be_bytes_4}
+use Rattle.vpf_triplet.specs.declared.orders.Order.{Order}
+use Rattle.vpf_triplet.specs.declared.orders.Order.TheVariants.{Little, Big}
+use Rattle.vpf_triplet.specs.declared.places.Code.{Code}
+use Rattle.vpf_triplet.specs.declared.sizes.Size.{Size}
+use Rattle.vpf_triplet.specs.declared.sizes.Size.TheVariants.{Absent, One, Two, Four}
+use Rattle.vpf_triplet.specs.declared.triplets.Triplet.{Triplet}
+use Rattle.vpf_triplet.specs.Numbers.{IsBytes}
+use Rattle.vpf_triplet.specs.Sizes.{size_of, bytes_of, part_of}
+use Rattle.vpf_triplet.specs.Spelling.{bits_of, Holds, part, spelling, IsTriplet}
+use Rattle.vpf_triplet.specs.Reading.{is_small, parts_at, triplet_at}
+
+pub IsBytes-drop : (n : ℕ) (bytes : List ℕ) → IsBytes bytes → IsBytes (drop n bytes)
+IsBytes-drop n bytes h i = rw get_or-drop (h (n + i))
+
+pub IsBytes-take : (n : ℕ) (bytes : List ℕ) → IsBytes bytes → IsBytes (take n bytes)
+IsBytes-take n bytes h i =
+    elim (cases_lt i n) [
+      | inl lt ↦ rw (get_or-take n bytes i 0 lt) (h i)
+      | inr le ↦ rw (get_or_past (take n bytes) i 0 (omega (arith, length-take n bytes))) (omega arith)
+    ]
+
+IsBytes-two : (x y : ℕ) (bytes : List ℕ) → IsBytes (x ∷ y ∷ bytes) → IsBytes (x ∷ y ∷ [])
+IsBytes-two x y bytes h = IsBytes-take 2 (x ∷ y ∷ bytes) h
+
+abbrev done : {A : Type 0} → A → Result A Code
+done x = Ok x
+
+pub ok_is : {A : Type 0} (x y : A) → done x ≡ done y → x ≡ y
+ok_is x y e = cc
+
+-- a test that did not fail
+pub passed : {A : Type 0} (b : Bool) (d : Code) (r : Result A Code) (y : A) → cond b r (Err d) ≡ Ok y → (b ≡ true) × (r ≡ Ok y)
+passed true d r y e = (refl, e)
+passed false d r y e = absurd cc
+
+pub guarded : {A : Type 0} (b : Bool) (d : Code) (r : Result A Code) (y : A) → cond b (Err d) r ≡ Ok y → (b ≡ false) × (r ≡ Ok y)
+guarded true d r y e = absurd cc
+guarded false d r y e = (refl, e)
+
+size_back : (s : Size) → size_of (bits_of s) ≡ s
+size_back Absent = refl
+size_back One = refl
+size_back Two = refl
+size_back Four = refl
+
+field_back : (k : ℕ) → k < 4 → bits_of (size_of k) ≡ k
+field_back zero h = refl
+field_back (suc zero) h = refl
+field_back (suc (suc zero)) h = refl
+field_back (suc (suc (suc n))) h = omega arith
+
+field_small : (s : Size) → bits_of s < 4
+field_small Absent = omega arith
+field_small One = omega arith
+field_small Two = omega arith
+field_small Four = omega arith
+
+byte_parts : (first : ℕ) → first < 256 → first % 4 ≡ 0 → 64 * (first / 64) + 16 * (first / 16 % 4) + 4 * (first / 4 % 4) ≡ first
+byte_parts first h e = omega arith
+
+high : (a b c : ℕ) → a < 4 → b < 4 → c < 4 → (64 * a + 16 * b + 4 * c) / 64 ≡ a
+high a b c p q r = omega arith
+
+middle : (a b c : ℕ) → a < 4 → b < 4 → c < 4 → (64 * a + 16 * b + 4 * c) / 16 % 4 ≡ b
+middle a b c p q r = omega arith
+
+low : (a b c : ℕ) → a < 4 → b < 4 → c < 4 → (64 * a + 16 * b + 4 * c) / 4 % 4 ≡ c
+low a b c p q r = omega arith
+
+reserved : (a b c : ℕ) → (64 * a + 16 * b + 4 * c) % 4 ≡ 0
+reserved a b c = omega arith
+
+-- ---- parts
+
+length-part : (o : Order) (s : Size) (v : Option ℕ) → Holds s v → length (part o s v) ≡ bytes_of s
+length-part o Absent None h = refl
+length-part o Absent (Some n) h = absurd h
+length-part o One None h = absurd h
+length-part o One (Some n) h = refl
+length-part o Two None h = absurd h
+length-part Little Two (Some n) h = refl
+length-part Big Two (Some n) h = refl
+length-part o Four None h = absurd h
+length-part Little Four (Some n) h = refl
+length-part Big Four (Some n) h = refl
+
+part_again : (o : Order) (s : Size) (v : Option ℕ) (rest : List ℕ) → Holds s v → part_of o s (part o s v ++ rest) ≡ v
+part_again o Absent None rest h = refl
+part_again o Absent (Some n) rest h = absurd h
+part_again o One None rest h = absurd h
+part_again o One (Some n) rest h = refl
+part_again o Two None rest h = absurd h
+part_again Little Two (Some n) rest h = ap (λ (k : ℕ). Some k) (from_le_bytes-to_le_bytes_2 n h)
+part_again Big Two (Some n) rest h = ap (λ (k : ℕ). Some k) (from_be_bytes-to_be_bytes_2 n h)
+part_again o Four None rest h = absurd h
+part_again Little Four (Some n) rest h = ap (λ (k : ℕ). Some k) (from_le_bytes-to_le_bytes_4 n (omega arith))
+part_again Big Four (Some n) rest h = ap (λ (k : ℕ). Some k) (from_be_bytes-to_be_bytes_4 n (omega arith))
+
+small_again : (s : Size) (v : Option ℕ) → Holds s v → is_small v ≡ true
+small_again s None h = refl
+small_again Absent (Some n) h = absurd h
+small_again One (Some n) h = lt-ltb _ _ (omega arith)
+small_again Two (Some n) h = lt-ltb _ _ (omega arith)
+small_again Four (Some n) h = lt-ltb _ _ h
+
+-- ---- triplets
+
+pub parts_again : (o : Order) (a b c : Size) (t : Triplet) (rest : List ℕ) → Holds a t.id → Holds b t.tile → Holds c t.ext
+    → parts_at o a b c ((part o a t.id ++ (part o b t.tile ++ part o c t.ext)) ++ rest) ≡ Ok (t, 1 + (bytes_of a + bytes_of b + bytes_of c))
+unfolding parts_at
+parts_again o a b c t rest p q r =
+    let la = length-part o a t.id p in
+    let lb = length-part o b t.tile q in
+    let lc = length-part o c t.ext r in
+    let x = part o a t.id in
+    let y = part o b t.tile in
+    let z = part o c t.ext in
+    let regrouped : (x ++ (y ++ z)) ++ rest ≡ x ++ (y ++ (z ++ rest)) = simp append_assoc in
+    let regrouped2 : x ++ (y ++ (z ++ rest)) ≡ (x ++ y) ++ (z ++ rest) = simp append_assoc in
+    let lxy : length (x ++ y) ≡ bytes_of a + bytes_of b = length-append x y ∙ omega arith in
+    let long : ltb (length (x ++ (y ++ (z ++ rest)))) (bytes_of a + bytes_of b + bytes_of c) ≡ false = le-ltb _ _ (omega (arith, length-append x (y ++ (z ++ rest)), length-append y (z ++ rest), length-append z rest)) in
+    let third : drop (bytes_of a + bytes_of b) (x ++ (y ++ (z ++ rest))) ≡ z ++ rest = rw regrouped2 (drop_at (x ++ y) (z ++ rest) (bytes_of a + bytes_of b) lxy) in
+    ap (parts_at o a b c) regrouped ∙ rw (long, part_again o a t.id (y ++ (z ++ rest)) p, drop_at x (y ++ (z ++ rest)) (bytes_of a) la, part_again o b t.tile (z ++ rest) q, third, part_again o c t.ext rest r, small_again a t.id p, small_again b t.tile q, small_again c t.ext r) refl
+
+pub triplet_again : (o : Order) (t : Triplet) (text rest : List ℕ) → IsTriplet o t text → triplet_at o (text ++ rest) ≡ Ok (t, length text)
+unfolding triplet_at
+triplet_again o t text rest s =
+    let a = s.id in
+    let b = s.tile in
+    let c = s.ext in
+    let first : ℕ = 64 * bits_of a + 16 * bits_of b + 4 * bits_of c in
+    let ha = field_small a in
+    let hb = field_small b in
+    let hc = field_small c in
+    let res : eqb (first % 4) 0 ≡ true = eq-eqb _ _ (reserved (bits_of a) (bits_of b) (bits_of c)) in
+    let n1 : size_of (first / 64) ≡ a = ap size_of (high (bits_of a) (bits_of b) (bits_of c) ha hb hc) ∙ size_back a in
+    let n2 : size_of (first / 16 % 4) ≡ b = ap size_of (middle (bits_of a) (bits_of b) (bits_of c) ha hb hc) ∙ size_back b in
+    let n3 : size_of (first / 4 % 4) ≡ c = ap size_of (low (bits_of a) (bits_of b) (bits_of c) ha hb hc) ∙ size_back c in
+    let body = part o a t.id ++ (part o b t.tile ++ part o c t.ext) in
+    let len : length (spelling o a b c t) ≡ 1 + (bytes_of a + bytes_of b + bytes_of c) = omega (arith, length-append (part o a t.id) (part o b t.tile ++ part o c t.ext), length-append (part o b t.tile) (part o c t.ext), length-part o a t.id s.holds_id, length-part o b t.tile s.holds_tile, length-part o c t.ext s.holds_ext) in
+    let read : triplet_at o (first ∷ (body ++ rest)) ≡ Ok (t, 1 + (bytes_of a + bytes_of b + bytes_of c)) = rw (res, n1, n2, n3) (parts_again o a b c t rest s.holds_id s.holds_tile s.holds_ext) in
+    let goal : triplet_at o (spelling o a b c t ++ rest) ≡ Ok (t, length (spelling o a b c t)) = rw len read in
+    subst (λ (x : List ℕ). triplet_at o (x ++ rest) ≡ Ok (t, length x)) (sym s.spelled) goal
+
+-- ---- the other way
+
+part_takes : (o : Order) (s : Size) (bytes : List ℕ) → IsBytes bytes → bytes_of s ≤ length bytes → is_small (part_of o s bytes) ≡ true
+    → Holds s (part_of o s bytes) × (part o s (part_of o s bytes) ≡ take (bytes_of s) bytes)
+part_takes o Absent bytes fits h e = (tt, refl)
+part_takes o One [] fits h e = absurd (omega arith)
+part_takes o One (x ∷ bytes) fits h e = (omega (arith, fits 0), refl)
+part_takes o Two [] fits h e = absurd (omega arith)
+part_takes o Two (x ∷ []) fits h e = absurd (omega arith)
+part_takes Little Two (x ∷ y ∷ bytes) fits h e = (omega (arith, fits 0, fits 1), le_bytes_2 (x ∷ y ∷ []) _ refl (λ i. IsBytes-two x y bytes fits i) refl)
+part_takes Big Two (x ∷ y ∷ bytes) fits h e = (omega (arith, fits 0, fits 1), be_bytes_2 (x ∷ y ∷ []) _ refl (λ i. IsBytes-two x y bytes fits i) refl)
+part_takes o Four [] fits h e = absurd (omega arith)
+part_takes o Four (x ∷ []) fits h e = absurd (omega arith)
+part_takes o Four (x ∷ y ∷ []) fits h e = absurd (omega arith)
+part_takes o Four (x ∷ y ∷ z ∷ []) fits h e = absurd (omega arith)
+part_takes Little Four (x ∷ y ∷ z ∷ w ∷ bytes) fits h e = (ltb-true _ _ e, le_bytes_4 (x ∷ y ∷ z ∷ w ∷ []) _ refl (IsBytes-take 4 (x ∷ y ∷ z ∷ w ∷ bytes) fits) refl)
+part_takes Big Four (x ∷ y ∷ z ∷ w ∷ bytes) fits h e = (ltb-true _ _ e, be_bytes_4 (x ∷ y ∷ z ∷ w ∷ []) _ refl (IsBytes-take 4 (x ∷ y ∷ z ∷ w ∷ bytes) fits) refl)
+
+both : (a b : Bool) → (a && b) ≡ true → (a ≡ true) × (b ≡ true)
+both true true e = (refl, refl)
+both true false e = absurd cc
+both false b e = absurd cc
+
+parts_take : (o : Order) (a b c : Size) (rest : List ℕ) (t : Triplet) (n : ℕ) → IsBytes rest → parts_at o a b c rest ≡ Ok (t, n)
+    → (n ≡ 1 + (bytes_of a + bytes_of b + bytes_of c)) × (bytes_of a + bytes_of b + bytes_of c ≤ length rest) × Holds a t.id × Holds b t.tile × Holds c t.ext
+    × (take (bytes_of a + bytes_of b + bytes_of c) rest ≡ part o a t.id ++ (part o b t.tile ++ part o c t.ext))
+unfolding parts_at
+parts_take o a b c rest t n fits e =
+    let g = guarded _ _ _ _ e in
+    let p = passed _ _ _ _ g.1 in
+    let long : bytes_of a + bytes_of b + bytes_of c ≤ length rest = ltb-false _ _ g.0 in
+    let rest2 = drop (bytes_of a) rest in
+    let rest3 = drop (bytes_of a + bytes_of b) rest in
+    let s1 = both _ _ p.0 in
+    let s2 = both _ _ s1.0 in
+    let t1 = part_takes o a rest fits (omega arith) s2.0 in
+    let t2 = part_takes o b rest2 (IsBytes-drop _ _ fits) (omega (arith, length-drop (bytes_of a) rest)) s2.1 in
+    let t3 = part_takes o c rest3 (IsBytes-drop _ _ fits) (omega (arith, length-drop (bytes_of a + bytes_of b) rest)) s1.1 in
+    let got : Triplet = record { id = part_of o a rest; tile = part_of o b rest2; ext = part_of o c rest3 } in
+    let is = ok_is (got, 1 + (bytes_of a + bytes_of b + bytes_of c)) (t, n) p.1 in
+    subst (λ (x : Triplet × ℕ). (x.1 ≡ 1 + (bytes_of a + bytes_of b + bytes_of c)) × (bytes_of a + bytes_of b + bytes_of c ≤ length rest) × Holds a x.0.id × Holds b x.0.tile × Holds c x.0.ext
+    × (take (bytes_of a + bytes_of b + bytes_of c) rest ≡ part o a x.0.id ++ (part o b x.0.tile ++ part o c x.0.ext))) is
+    (refl, long, t1.0, t2.0, t3.0, rw (t1.1, t2.1, t3.1) (take-add (bytes_of a + bytes_of b) (bytes_of c) rest ∙ rw (take-add (bytes_of a) (bytes_of b) rest) (append_assoc (take (bytes_of a) rest) (take (bytes_of b) rest2) (take (bytes_of c) rest3))))
+
+pub triplet_takes : (o : Order) (bytes : List ℕ) (t : Triplet) (n : ℕ) → IsBytes bytes → triplet_at o bytes ≡ Ok (t, n) → (n ≤ length bytes) × IsTriplet o t (take n bytes)
+unfolding triplet_at
+triplet_takes o [] t n fits e = absurd cc
+triplet_takes o (first ∷ rest) t n fits e =
+    let a = size_of (first / 64) in
+    let b = size_of (first / 16 % 4) in
+    let c = size_of (first / 4 % 4) in
+    let p = passed _ _ _ _ e in
+    let low2 : first % 4 ≡ 0 = eqb-true _ _ p.0 in
+    let k = parts_take o a b c rest t n (λ i. fits (suc i)) p.1 in
+    let first_is : 64 * bits_of a + 16 * bits_of b + 4 * bits_of c ≡ first = rw (field_back (first / 64) (omega (arith, fits 0)), field_back (first / 16 % 4) (omega arith), field_back (first / 4 % 4) (omega arith)) (byte_parts first (fits 0) low2) in
+    let n_is : n ≡ suc (bytes_of a + bytes_of b + bytes_of c) = omega (arith, k.0) in (
+      omega (arith, k.0, k.1),
+      record {
+        id = a;
+        tile = b;
+        ext = c;
+        holds_id = k.2;
+        holds_tile = k.3;
+        holds_ext = k.4;
+        spelled = rw (n_is, first_is) (ap (λ (x : List ℕ). first ∷ x) k.5);
+      },
+    )

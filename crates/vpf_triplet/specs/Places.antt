@@ -1,0 +1,44 @@
+-- What a call that reads answers, against what reading gives.
+use Rattle.std.specs.Prelude.{◌≡◌, ℕ, ◌-◌, ◌≤◌, List, ◌++◌, codes, Result, Ok, Err}
+use Rattle.std.specs.Fmt.{decimal}
+use Rattle.vpf_triplet.specs.declared.places.Place.{Place}
+use Rattle.vpf_triplet.specs.declared.places.PlaceError.{PlaceError}
+use Rattle.vpf_triplet.specs.declared.places.PlaceError.TheVariants as errors
+use Rattle.vpf_triplet.specs.declared.places.Part.TheVariants.{Table}
+use Rattle.vpf_triplet.specs.declared.places.Code.{Code}
+use Rattle.vpf_triplet.specs.Codes.{code_text}
+
+-- a fault of the table's own file
+abbrev pub fault : ℕ → Code → Place
+fault at code = record { part = Table; at = at; code = code }
+
+-- the words of a place
+abbrev pub place_text : Place → List ℕ
+place_text place = code_text place.code ++ (codes " at " ++ decimal place.at)
+
+-- first one thing and then another; the first error ends it
+infixl 10 ◌>>=◌
+abbrev pub ◌>>=◌ : {A B E : Type 0} → Result A E → (A → Result B E) → Result B E
+(Ok x) >>= next = next x
+(Err e) >>= next = Err e
+
+-- A call answered for what begins at `at`: the value and the offset past it, or the fault there. What is read is counted
+-- from `at` on.
+abbrev pub Reads : {X : Type 0} → ℕ → Result (X × ℕ) Place → Result (X × ℕ) Code → Type 0
+Reads at (Ok r) read = (at ≤ r.1) × (read ≡ Ok (r.0, r.1 - at))
+Reads at (Err p) read = (read ≡ Err p.code) × (p ≡ fault at p.code)
+
+-- a call answered what reading gives
+abbrev pub Gives : {X Y : Type 0} → (X → Y) → Result X Place → Result Y Place → Type 0
+Gives view (Ok x) read = read ≡ Ok (view x)
+Gives view (Err p) read = read ≡ Err p
+
+-- an error is that of reading, or memory ran out
+abbrev pub Fails : {Y : Type 0} → PlaceError → Result Y Place → Type 0
+Fails errors.NoMemory read = Unit {0}
+Fails (errors.Place p) read = read ≡ Err p
+
+-- a call answered what reading gives, unless memory ran out
+abbrev pub Answers : {X Y : Type 0} → (X → Y) → Result X PlaceError → Result Y Place → Type 0
+Answers view (Ok x) read = read ≡ Ok (view x)
+Answers view (Err e) read = Fails e read

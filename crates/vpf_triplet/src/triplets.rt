@@ -1,0 +1,87 @@
+//! Triplet ids.
+
+ghost use Rattle.std.specs.Prelude.{◌≡◌, ◌≤◌, ◌&&◌, length, drop};
+ghost use Rattle.vpf_triplet.specs.Places.{Reads};
+ghost use Rattle.vpf_triplet.specs.Reading.{triplet_at, is_small};
+
+use crate::orders::Order;
+use crate::places::{Code, Place};
+use crate::sizes::{first_part, named_size};
+
+/// A triplet id: a reference across tiles (MIL-STD-2407, 5.4, triplet id field type). `id` is a number in this tile, `tile`
+/// another tile, and `ext` the number there; each may be absent.
+#[derive(Clone, Copy, Debug, PartialEq, Eq)]
+pub struct Triplet {
+    pub id: Option<u32>,
+    pub tile: Option<u32>,
+    pub ext: Option<u32>,
+}
+
+const PART_LIMIT: u32 = 0x8000_0000;
+
+fn is_small(part: Option<u32>) -> bool
+    ensures { result ≡ is_small part }
+{
+    match part {
+        None => true,
+        Some(n) => n < PART_LIMIT,
+    }
+}
+
+fn are_small(id: Option<u32>, tile: Option<u32>, ext: Option<u32>) -> bool
+    ensures { result ≡ is_small id && is_small tile && is_small ext }
+{
+    is_small(id) && is_small(tile) && is_small(ext)
+}
+
+#[tactic(auto, unfolding(crate::specs::Reading::triplet_at, crate::specs::Reading::parts_at))]
+fn read_at(order: Order, bytes: &[u8], at: usize) -> Result<(Triplet, usize), Place>
+    requires { at ≤ length bytes.now }
+    ensures { Reads at result (triplet_at order (drop at bytes.now)) }
+{
+    let Some((&first, rest)) = bytes[at..].split_first() else {
+        return Err(Place::in_table(at, Code::CellCut));
+    };
+    if first % 4 != 0 {
+        return Err(Place::in_table(at, Code::Triplet));
+    }
+    let (a, b, c) = (
+        named_size(first / 64),
+        named_size(first / 16 % 4),
+        named_size(first / 4 % 4),
+    );
+    if rest.len() < a.bytes() + b.bytes() + c.bytes() {
+        return Err(Place::in_table(at, Code::CellCut));
+    }
+    let id = first_part(order, a, rest);
+    let tile = first_part(order, b, &rest[a.bytes()..]);
+    let ext = first_part(order, c, &rest[a.bytes() + b.bytes()..]);
+    if !are_small(id, tile, ext) {
+        return Err(Place::in_table(at, Code::Triplet));
+    }
+    let past = at + 1 + a.bytes() + b.bytes() + c.bytes();
+    Ok((Triplet { id, tile, ext }, past))
+}
+
+impl Triplet {
+    ghost use Rattle.std.specs.Prelude.{◌≡◌, ◌≤◌, ◌+◌, ℕ, List, length, drop, slice_range, IfOk, Ok};
+    ghost use Rattle.vpf_triplet.specs.Spelling.{IsTriplet};
+    ghost use Rattle.vpf_triplet.specs.Deciding.{Begins};
+    ghost use Rattle.vpf_triplet.specs.Places.{Reads};
+    ghost use Rattle.vpf_triplet.specs.Reading.{triplet_at};
+
+    /// The triplet id that begins `at` bytes from the start, and the offset past it. Refused exactly where no spelling
+    /// of one begins there, at that offset: `cell-cut` where the bytes end inside it, `triplet` where the reserved
+    /// bits of the type byte are set or a part is 2^31 or more. The reserved bits come before cut parts.
+    pub fn read(order: Order, bytes: &[u8], at: usize) -> Result<(Triplet, usize), Place>
+        requires { at ≤ length bytes.now }
+        // What is read is spelled so, up to the offset.
+        ensures found { IfOk result (λ r. (at ≤ r.1) × (r.1 ≤ length bytes.now) × IsTriplet order r.0 (slice_range bytes.now at r.1)) }
+        // What is spelled so is read, whatever follows.
+        ensures only { (t : Triplet) (text rest : List ℕ) → Begins order (drop at bytes.now) t text rest → result ≡ Ok (t, at + length text) }
+        // The value and its end, or the code of the first fault.
+        ensures exact { Reads at result (triplet_at order (drop at bytes.now)) }
+    {
+        read_at(order, bytes, at)
+    }
+}
