@@ -1,0 +1,134 @@
+use crate::{Code, Count, Kind, Order, Part, Place, PlaceError, Triplet};
+use std::alloc::{AllocError, Global};
+use std::test::Fail;
+
+const NOTHING: Triplet = Triplet {
+    id: None,
+    tile: None,
+    ext: None,
+};
+
+fn triplet(id: u32, tile: u32, ext: u32) -> Triplet {
+    Triplet {
+        id: Some(id),
+        tile: Some(tile),
+        ext: Some(ext),
+    }
+}
+
+#[test]
+fn reads_triplets(rt: HostRuntime) -> Result<(), Fail> {
+    let most = triplet(2_147_483_647, 2_147_483_647, 2_147_483_647);
+    let seven = Triplet {
+        id: Some(7),
+        tile: None,
+        ext: None,
+    };
+    let long: &[u8] = &[0x95, 0, 0, 0, 0, 0, 0, 0, 0, 0, 0, 0, 0];
+    let full: &[u8] = &[
+        0xfc, 0xff, 0xff, 0xff, 0x7f, 0xff, 0xff, 0xff, 0x7f, 0xff, 0xff, 0xff, 0x7f,
+    ];
+    let over: &[u8] = &[
+        0xfc, 0xff, 0xff, 0xff, 0x7f, 0xff, 0xff, 0xff, 0x7f, 0, 0, 0, 0x80,
+    ];
+    for (order, bytes, at, want) in [
+        (Order::Little, [0].as_slice(), 0, Ok((NOTHING, 1))),
+        (Order::Little, [0x40, 7].as_slice(), 0, Ok((seven, 2))),
+        (
+            Order::Little,
+            [9, 9, 0x40, 7, 9].as_slice(),
+            2,
+            Ok((seven, 4)),
+        ),
+        (Order::Little, long, 0, Err(Code::Triplet)),
+        (
+            Order::Little,
+            [0xa8, 1, 0, 2, 0, 3, 0].as_slice(),
+            0,
+            Ok((triplet(1, 2, 3), 7)),
+        ),
+        (
+            Order::Big,
+            [0xa8, 0, 1, 0, 2, 0, 3].as_slice(),
+            0,
+            Ok((triplet(1, 2, 3), 7)),
+        ),
+        (
+            Order::Big,
+            [0x54, 1, 2, 3].as_slice(),
+            0,
+            Ok((triplet(1, 2, 3), 4)),
+        ),
+        (Order::Little, full, 0, Ok((most, 13))),
+        (Order::Little, over, 0, Err(Code::Triplet)),
+        (Order::Little, [0x41, 0].as_slice(), 0, Err(Code::Triplet)),
+        (Order::Little, [0x41].as_slice(), 0, Err(Code::Triplet)),
+        (
+            Order::Little,
+            [0x80, 0xff].as_slice(),
+            0,
+            Err(Code::CellCut),
+        ),
+        (Order::Little, [0x40, 7].as_slice(), 2, Err(Code::CellCut)),
+    ] {
+        assert!(rt; at <= bytes.len());
+        let want = want.map_err(|code| Place {
+            part: Part::Table,
+            at: at as u64,
+            code,
+        });
+        assert_eq!(rt; Triplet::read(order, bytes, at), want, "{bytes:?} at {at}");
+    }
+    Ok(())
+}
+
+fn printed<T: std::fmt::Display + Drop>(alloc: Global, value: T) -> Result<String, AllocError> {
+    format!(in alloc; "{value}")
+}
+
+#[test]
+fn prints_words(rt: HostRuntime) -> Result<(), Fail> {
+    let alloc = rt.alloc();
+    let place = Place::in_table(29, Code::CellCut);
+    for (text, want) in [
+        (printed(alloc, Order::Little)?, "L"),
+        (printed(alloc, Order::Big)?, "M"),
+        (printed(alloc, Kind::Y)?, "Y"),
+        (printed(alloc, Count::Fixed(67_108_864))?, "67108864"),
+        (printed(alloc, Count::Star)?, "*"),
+        (printed(alloc, Code::LimitHeader(65_537))?, "limit-header"),
+        (printed(alloc, Code::ThemeRowtype)?, "theme-rowtype"),
+        (printed(alloc, place)?, "cell-cut at 29"),
+        (
+            printed(alloc, PlaceError::from(place))?,
+            "refused: cell-cut at 29",
+        ),
+        (
+            printed(alloc, PlaceError::from(AllocError))?,
+            "out of memory",
+        ),
+    ] {
+        assert_eq!(rt; text.as_str(), want);
+    }
+    Ok(())
+}
+
+#[test]
+fn reads_numbers_and_counts(rt: HostRuntime) {
+    let bytes = [1, 2, 3, 4, 5, 6, 7, 8, 9];
+    assert_eq!(rt; Order::Little.u16_from(&bytes), 0x0201);
+    assert_eq!(rt; Order::Big.u16_from(&bytes), 0x0102);
+    assert_eq!(rt; Order::Little.u32_from(&bytes), 0x0403_0201);
+    assert_eq!(rt; Order::Big.u32_from(&bytes), 0x0102_0304);
+    assert_eq!(rt; Order::Little.u64_from(&bytes), 0x0807_0605_0403_0201);
+    assert_eq!(rt; Order::Big.u64_from(&bytes), 0x0102_0304_0506_0708);
+    for (kind, count, want) in [
+        (Kind::N, Count::Star, true),
+        (Kind::B, Count::Fixed(3), true),
+        (Kind::I, Count::Fixed(1), true),
+        (Kind::I, Count::Fixed(2), false),
+        (Kind::X, Count::Star, false),
+    ] {
+        assert_eq!(rt; kind.allows(count), want);
+    }
+}
