@@ -1,0 +1,14 @@
+use Rattle.std.proofs.Common.{◌∙◌, arith}
+use Rattle.std.proofs.lemmas.List.{take_rest}
+use Rattle.vpf_source.proofs.Pieces.{goes_on}
+use Rattle.vpf_source.proofs.sink.put_all.Goals as goal
+
+pub loop-done-preserved : goal.loop-done-preserved
+loop-done-preserved g c =
+    let kept = c.loop-done.invariant in
+    record {
+      within = omega (arith, c.in_ok-done.ensures.within);
+      appended = goes_on _ _ _ _ _ _ kept.appended (rw take_rest at c.in_ok-done.ensures.bytes);
+      tells = c.in_ok-done.ensures.tells ∙ kept.tells;
+      later = omega (arith, kept.later, c.in_ok-done.ensures.later);
+    }

@@ -1,0 +1,25 @@
+//! Trees of files and sinks of bytes, whole files over them, and a counter of steps.
+#![tactic(auto)]
+
+mod adapters;
+mod calls;
+mod error;
+mod file;
+mod loading;
+mod memory_sink;
+mod memory_tree;
+mod sink;
+mod steps;
+#[cfg(test)]
+mod tests;
+mod tree;
+
+pub use adapters::{FolderTree, StdSink};
+pub use error::{DeviceError, Failed, LoadError};
+pub use file::{Bytes, File, Name};
+pub use loading::load;
+pub use memory_sink::MemSink;
+pub use memory_tree::MemTree;
+pub use sink::{Sink, put_all};
+pub use steps::Steps;
+pub use tree::Tree;

@@ -1,0 +1,41 @@
+//! A tree of files.
+
+ghost use Rattle.std.specs.Prelude.{◌≡◌, ◌≤◌, ℕ, Option, OnErr};
+ghost use Rattle.std.specs.Io.{ReadsAtMost};
+ghost use Rattle.vpf_source.specs.Causes.{Rose};
+ghost use Rattle.vpf_source.specs.Files.{Files, TellsSize, ReadsFile};
+
+use crate::error::Failed;
+
+/// Files under names, read in pieces. A name is a text; it may have parts joined by `/`.
+///
+/// A tree may tell its files to contracts, as one in memory does. The folders of a computer tell nothing, and what
+/// contracts say of files then holds as far as the bytes that are read are those of files.
+pub trait Tree {
+    /// The bytes of each file, where the tree tells them.
+    ghost files: { Self → Option Files };
+
+    /// How many calls have failed so far. It never falls.
+    ghost faults: { Self → ℕ };
+
+    /// The length of a file in bytes, and `None` exactly where the file is absent.
+    ///
+    /// It fails only where the count of faults rises in this call. No file changes.
+    fn size(&mut self, name: &str) -> Result<Option<u64>, Failed>
+        ensures size { TellsSize (files self.old) name.now result }
+        ensures files { files self.new ≡ files self.old }
+        ensures later { faults self.old ≤ faults self.new }
+        ensures failed { OnErr result (Rose (faults self.old) (faults self.new)) };
+
+    /// Fills the front of the buffer with the file's bytes from the offset `at` on, and says how many those are.
+    ///
+    /// It gives at least one byte where the offset is below the file's size and the buffer is not empty, and 0 at or
+    /// past the size, or where the file is absent. What stands in the buffer behind those bytes, or after an error, is
+    /// left open. It fails only where the count of faults rises in this call. No file changes.
+    fn read_at(&mut self, name: &str, at: u64, buf: &mut [u8]) -> Result<usize, Failed>
+        ensures within { ReadsAtMost result buf.new }
+        ensures bytes { ReadsFile (files self.old) name.now at result buf.new }
+        ensures files { files self.new ≡ files self.old }
+        ensures later { faults self.old ≤ faults self.new }
+        ensures failed { OnErr result (Rose (faults self.old) (faults self.new)) };
+}
