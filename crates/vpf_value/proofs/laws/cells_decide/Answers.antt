@@ -1,0 +1,5 @@
+use Rattle.vpf_value.proofs.Deciding.{decided}
+use Rattle.vpf_value.proofs.laws.cells_decide.Goals as goal
+
+pub returns : goal.returns
+returns c = decided

@@ -1,0 +1,44 @@
+//! Laws about the definitions of cells alone.
+
+ghost use Rattle.std.specs.Prelude.{◌≡◌, ◌≢◌, ◌≤◌, ◌<◌, ◌↔◌, ℕ, List, ◌++◌, length, take, Some, Ok};
+ghost use Rattle.vpf_triplet.specs.declared.orders.Order.{Order};
+ghost use Rattle.vpf_triplet.specs.declared.kinds.Kind.{Kind};
+ghost use Rattle.vpf_triplet.specs.declared.kinds.Count.{Count};
+ghost use Rattle.vpf_triplet.specs.Numbers.{IsBytes};
+ghost use Rattle.vpf_value.specs.Values.{Value};
+ghost use Rattle.vpf_value.specs.Reading.{cell_from};
+ghost use Rattle.vpf_value.specs.Spelling.{IsCell};
+ghost use Rattle.vpf_value.specs.Widths.{cell_width, TakesWidth};
+ghost use Rattle.vpf_value.specs.Deciding.{Decides};
+ghost use Rattle.vpf_value.specs.Fitting.{FitsCell, HasSpelling};
+
+/// Each list of bytes begins with the spelling of exactly one value, or is refused with exactly one code, and never
+/// both. So no spelling is a proper beginning of another.
+pub fn cells_decide()
+    ensures { (order : Order) (kind : Kind) (count : Count) (bytes : List ℕ) → IsBytes bytes → Decides order kind count bytes }
+{}
+
+/// What is spelled so is read, whatever follows.
+pub fn spelled_is_read()
+    ensures { (order : Order) (kind : Kind) (count : Count) (v : Value) (text rest : List ℕ) → IsCell order kind count v text → cell_from order kind count (text ++ rest) ≡ Ok (v, length text) }
+{}
+
+/// What is read is spelled so.
+pub fn read_is_spelled()
+    ensures { (order : Order) (kind : Kind) (count : Count) (bytes : List ℕ) (v : Value) (n : ℕ) → IsBytes bytes → cell_from order kind count bytes ≡ Ok (v, n) → (n ≤ length bytes) × IsCell order kind count v (take n bytes) }
+{}
+
+/// Where cells have one width, each ends there, or is cut where fewer bytes are left.
+pub fn fixed_cells()
+    ensures { (order : Order) (kind : Kind) (count : Count) (bytes : List ℕ) (width : ℕ) → cell_width kind count ≡ Some width → TakesWidth width bytes (cell_from order kind count bytes) }
+{}
+
+/// A cell has at least one byte, unless its kind holds nothing or its count is 0.
+pub fn cells_have_room()
+    ensures { (order : Order) (kind : Kind) (count : Count) (v : Value) (text : List ℕ) → kind ≢ Kind.X → count ≢ Count.Fixed 0 → IsCell order kind count v text → 0 < length text }
+{}
+
+/// The values that fit a field are those that some bytes spell there, in either order.
+pub fn fitting_is_spelled()
+    ensures { (kind : Kind) (count : Count) (v : Value) → FitsCell kind count v ↔ HasSpelling kind count v }
+{}

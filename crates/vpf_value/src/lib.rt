@@ -1,0 +1,17 @@
+//! Cells of every kind, read exactly and borrowed from the file (MIL-STD-2407, 5.4, allowable field types).
+#![tactic(auto)]
+
+mod cells;
+mod comparing;
+mod coords;
+mod fitting;
+pub mod laws;
+#[cfg(test)]
+mod tests;
+mod widths;
+
+pub use cells::{Cell, cell_at};
+pub use comparing::same;
+pub use coords::{Coords, WordWidth};
+pub use fitting::fits;
+pub use widths::cell_width;
