@@ -1,0 +1,15 @@
+pub mod Binding
+pub mod Digits
+pub mod Entries
+pub mod Loop
+pub mod ItemLaws
+pub mod FieldLaws
+pub mod ColumnLaws
+pub mod HeadLaws
+pub mod TextLaws
+pub mod HeaderLaws
+pub mod SoundLaws
+pub mod Decided
+pub mod FaultLaws
+pub mod ColumnFaults
+pub mod HeaderFaults

@@ -1,0 +1,13 @@
+pub mod Bytes
+pub mod Folding
+pub mod Head
+pub mod Fields
+pub mod Forms
+pub mod Texts
+pub mod Items
+pub mod Reading
+pub mod Spelling
+pub mod Soundness
+pub mod Deciding
+pub mod Faults
+pub mod Views

@@ -1,0 +1,264 @@
+//! The header of a table.
+
+ghost use Rattle.std.specs.Prelude.{◌≡◌, ◌<◌, ◌≤◌, ◌||◌, not, IfOk, IfSome, Some, map, length, position, slice_get};
+ghost use Rattle.std.specs.List.{list_any};
+ghost use Rattle.indexmap.specs.IndexMap.{values, index_map_len};
+ghost use Rattle.vpf_triplet.specs.Places.{Gives, Answers};
+ghost use Rattle.vpf_head.specs.Head.{is_data, is_triplet, is_star};
+ghost use Rattle.vpf_head.specs.Reading.{end_at, after_mark, order_of, head_at, header_of};
+ghost use Rattle.vpf_head.specs.Texts.{is_blank};
+ghost use Rattle.vpf_head.specs.Views.{col};
+
+use crate::columns::Column;
+use crate::fields::present;
+use crate::items::{Form, name_at, text_at};
+use crate::names::ColumnName;
+use crate::reading::{Columns, columns_at};
+use std::alloc::Global;
+use std::marker::Model;
+use vpf_triplet::{Code, Count, Kind, Order, Place, PlaceError};
+
+/// How many bytes the length number has.
+const NUMBER_BYTES: usize = 4;
+
+/// The longest header text.
+const LONGEST_TEXT: u32 = 65_536;
+
+/// The header of a table: the order of its numbers, its description, the name of its narrative table and its columns.
+#[derive(Drop)]
+pub struct Header<'a> {
+    order: Order,
+    description: &'a [u8],
+    narrative: Option<&'a [u8]>,
+    columns: Columns<'a>,
+}
+
+impl<'a> Model for Header<'a> {
+    ghost use Rattle.vpf_head.specs.Head.{Head};
+
+    ghost Value = { Head };
+
+    ghost use Rattle.vpf_head.specs.Views.{head_of, IsHeaderInside};
+
+    ghost view = { head_of };
+
+    ghost invariant = { IsHeaderInside };
+}
+
+fn is_data(kind: Kind) -> bool
+    ensures { result ≡ is_data kind }
+{
+    kind != Kind::X
+}
+
+fn holds_data(columns: &Columns<'_>) -> bool
+    ensures { result ≡ list_any (λ column. is_data column.kind) (values columns.now) }
+{
+    columns.values().any(|column| is_data(column.kind))
+}
+
+fn is_blank(b: u8) -> bool
+    ensures { result ≡ is_blank b }
+{
+    matches!(b, b' ' | b'\r' | b'\n')
+}
+
+fn first_other(rest: &[u8]) -> Option<usize>
+    ensures value { result ≡ position (λ b. not (is_blank b)) rest.now }
+    ensures within { IfSome result (λ n. n < length rest.now) }
+{
+    rest.iter().position(|b| !is_blank(*b))
+}
+
+/// The end of the text, where only blanks stand before it.
+fn end_at(text: &[u8], at: usize) -> Result<usize, Place>
+    requires { at ≤ length text.now }
+    ensures exact { Gives (λ r. r) result (end_at text.now at) }
+    ensures inside { IfOk result (λ r. r ≤ length text.now) }
+{
+    match first_other(&text[at..]) {
+        None => Ok(text.len()),
+        Some(n) => Err(Place::in_table(at + n, Code::AfterHeader)),
+    }
+}
+
+/// The offset of the table's description, which begins after the length number, and after the mark of the order where there is one.
+fn after_mark(text: &[u8]) -> usize
+    requires { 4 ≤ length text.now }
+    ensures value { result ≡ after_mark text.now }
+    ensures inside { result ≤ length text.now }
+{
+    let rest = &text[NUMBER_BYTES..];
+    if rest.starts_with(b"L;") || rest.starts_with(b"M;") {
+        NUMBER_BYTES + 2
+    } else {
+        NUMBER_BYTES
+    }
+}
+
+/// The order of a file's numbers.
+fn order_of(bytes: &[u8]) -> Order
+    requires { 4 ≤ length bytes.now }
+    ensures { result ≡ order_of bytes.now }
+{
+    if bytes[NUMBER_BYTES..].starts_with(b"M;") {
+        Order::Big
+    } else {
+        Order::Little
+    }
+}
+
+/// The header whose text begins after the length number and ends with the bytes.
+#[tactic(auto, using(crate::proofs::Entries::any_data), unfolding(crate::specs::Reading::head_at))]
+fn head_at<'a>(
+    alloc: Global,
+    order: Order,
+    text: &'a [u8],
+) -> Result<(Header<'a>, usize), PlaceError>
+    requires { 4 ≤ length text.now }
+    ensures exact { Answers (λ r. r) result (head_at order text.now) }
+    ensures inside { IfOk result (λ r. r.1 ≤ length text.now) }
+{
+    let description = text_at(Form::Heading, text, after_mark(text))?;
+    let narrative = name_at(Form::Heading, text, description.past)?;
+    let (columns, at) = columns_at(alloc, text, narrative.past)?;
+    if !holds_data(&columns) {
+        return Err(Place::in_table(at, Code::NoData).into());
+    }
+    let end = end_at(text, at + 1)?;
+    let header = Header {
+        order,
+        description: description.text,
+        narrative: present(narrative.text),
+        columns,
+    };
+    Ok((header, end))
+}
+
+/// The header of a file.
+#[tactic(auto, unfolding(crate::specs::Reading::header_of))]
+fn header_at<'a>(alloc: Global, bytes: &'a [u8]) -> Result<(Header<'a>, usize), PlaceError>
+    ensures exact { Answers (λ r. r) result (header_of bytes.now) }
+    ensures inside { IfOk result (λ r. r.1 ≤ length bytes.now) }
+{
+    if bytes.len() < NUMBER_BYTES {
+        return Err(Place::in_table(0, Code::NumberCut).into());
+    }
+    let order = order_of(bytes);
+    let len = order.u32_from(bytes);
+    if len > LONGEST_TEXT {
+        return Err(Place::in_table(0, Code::LimitHeader(u64::from(len))).into());
+    }
+    let end = NUMBER_BYTES + len as usize;
+    if bytes.len() < end {
+        return Err(Place::in_table(NUMBER_BYTES, Code::HeaderCut).into());
+    }
+    head_at(alloc, order, &bytes[..end])
+}
+
+fn column_of<'m, 'a>(columns: &'m Columns<'a>, c: usize) -> &'m Column<'a>
+    requires { c < index_map_len columns.now }
+    ensures { slice_get (values columns.now) c ≡ Some result.now }
+{
+    columns.get_index(c).unwrap().1
+}
+
+fn is_triplet(kind: Kind) -> bool
+    ensures { result ≡ is_triplet kind }
+{
+    kind == Kind::K
+}
+
+fn is_star(count: Count) -> bool
+    ensures { result ≡ is_star count }
+{
+    count == Count::Star
+}
+
+fn varies(columns: &Columns<'_>) -> bool
+    ensures { result ≡ list_any (λ column. is_triplet column.kind || is_star column.count) (values columns.now) }
+{
+    columns
+        .values()
+        .any(|column| is_triplet(column.kind) || is_star(column.count))
+}
+
+impl<'a> Header<'a> {
+    ghost use Rattle.std.specs.Prelude.{◌≡◌, ◌<◌, ◌≤◌, ℕ, List, IfOk, slice_get, length, take, Some, Ok};
+    ghost use Rattle.std.specs.Option.{option_copied};
+    ghost use Rattle.vpf_triplet.specs.Places.{Answers};
+    ghost use Rattle.vpf_head.specs.Deciding.{Begins};
+    ghost use Rattle.vpf_head.specs.Head.{Head, place_of, varies_in};
+    ghost use Rattle.vpf_head.specs.Reading.{header_of};
+    ghost use Rattle.vpf_head.specs.Soundness.{IsSound};
+    ghost use Rattle.vpf_head.specs.Spelling.{IsHeader};
+    ghost use Rattle.vpf_head.specs.Views.{col};
+
+    /// The header of a file, and the offset of its first row in bytes. Refused exactly where the file begins with no
+    /// spelling of a header, at the first fault from left to right: the length number, then the text item by item
+    /// (MIL-STD-2407, 5.4, table header).
+    pub fn read(alloc: Global, bytes: &'a [u8]) -> Result<(Header<'a>, usize), PlaceError>
+        // What is read is spelled so, up to the first row.
+        ensures found { IfOk result (λ r. IsHeader r.0 (take r.1 bytes.now)) }
+        // What is spelled so is read, whatever rows follow.
+        ensures only { (h : Head) (text rest : List ℕ) → Begins bytes.now h text rest → Answers (λ r. r) result (Ok (h, length text)) }
+        // The header and where it ends, or the first fault.
+        ensures exact { Answers (λ r. r) result (header_of bytes.now) }
+        // The first row begins inside the file or at its end.
+        ensures inside { IfOk result (λ r. r.1 ≤ length bytes.now) }
+    {
+        header_at(alloc, bytes)
+    }
+
+    /// The order of the table's numbers.
+    pub fn order(&self) -> Order
+        ensures { result ≡ self.now.order }
+    {
+        self.order
+    }
+
+    /// What the table is, in words.
+    pub fn description(&self) -> &'a [u8]
+        ensures { result.now ≡ self.now.description }
+    {
+        self.description
+    }
+
+    /// The name of the table's narrative table.
+    pub fn narrative(&self) -> Option<&'a [u8]>
+        ensures { option_copied result ≡ self.now.narrative }
+    {
+        self.narrative
+    }
+
+    /// How many columns there are.
+    pub fn len(&self) -> usize
+        ensures value { result ≡ length self.now.columns }
+        // What is true of each header.
+        ensures sound { IsSound self.now }
+    {
+        self.columns.len()
+    }
+
+    /// The column at this position, from 0.
+    pub fn at(&self, c: usize) -> &Column<'a>
+        requires { c < length self.now.columns }
+        ensures { slice_get self.now.columns c ≡ Some (col result.now) }
+    {
+        column_of(&self.columns, c)
+    }
+
+    /// The position of the column of this name, in any case.
+    pub fn column(&self, name: &[u8]) -> Option<usize>
+        ensures { result ≡ place_of name.now self.now.columns }
+    {
+        self.columns.get_index_of(&ColumnName { name })
+    }
+
+    /// Whether rows may differ in length: a column holds triplet ids, or as many values as each row says.
+    pub fn varies(&self) -> bool
+        ensures { result ≡ varies_in self.now.columns }
+    {
+        varies(&self.columns)
+    }
+}

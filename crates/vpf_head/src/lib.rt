@@ -1,0 +1,15 @@
+//! The header of a Vector Product Format table: its columns and how they are read (MIL-STD-2407, 5.4, table header).
+#![tactic(auto)]
+
+mod columns;
+mod fields;
+mod headers;
+mod items;
+pub mod laws;
+mod names;
+mod reading;
+#[cfg(test)]
+mod tests;
+
+pub use columns::{Column, Key};
+pub use headers::Header;
