@@ -1,0 +1,11 @@
+pub mod WalkLemmas
+pub mod Parts
+pub mod CellOf
+pub mod RowsOpen
+pub mod RowSteps
+pub mod OpenLemmas
+pub mod RowWidths
+pub mod FixedWidth
+pub mod RowLaws
+pub mod TableLaws
+pub mod RowsFew

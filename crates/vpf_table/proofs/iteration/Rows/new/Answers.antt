@@ -1,0 +1,11 @@
+use Rattle.vpf_table.specs.Reading.{most_rows, rows_at}
+use Rattle.vpf_table.specs.Walking.{rows_of}
+use Rattle.vpf_table.proofs.FixedWidth.{rows_read}
+use Rattle.vpf_table.proofs.RowWidths.{rows_are_wide}
+use Rattle.vpf_table.proofs.iteration.Rows.new.Goals as goal
+
+pub returns-clause-width : goal.returns-clause-width
+returns-clause-width c =
+    let head = c.args.header.now in
+    let r = rows_at most_rows head.order head.columns c.args.bytes.now c.args.at in
+    rows_are_wide most_rows head.order head.columns c.args.bytes.now c.args.at (rows_of r) (rows_read r c.requires.read)

@@ -1,0 +1,13 @@
+pub mod Grid
+pub mod Reading
+pub mod Walking
+pub mod Widths
+pub mod Views
+pub mod RowViews
+pub mod CellsLeft
+pub mod RowsLeft
+pub mod Findings
+pub mod Limits
+pub mod Spelling
+pub mod Deciding
+pub mod Lower

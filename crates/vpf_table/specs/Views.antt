@@ -1,0 +1,23 @@
+-- What contracts see of a table.
+use Rattle.std.specs.Prelude.{◌≡◌, ◌≤◌, List, length, Result, Ok, Some, IfSome}
+use Rattle.vpf_triplet.specs.declared.places.Place.{Place}
+use Rattle.vpf_table.specs.declared.view.TableView.TheInside.{Inside}
+use Rattle.vpf_table.specs.Grid.{Row, Grid}
+use Rattle.vpf_table.specs.Reading.{most_rows, rows_at}
+use Rattle.vpf_table.specs.Walking.{rows_of}
+use Rattle.vpf_table.specs.Widths.{width_of}
+
+-- what reading the rows gives
+abbrev pub read_rows : Inside → Result (List Row) Place
+read_rows t = rows_at most_rows t.header.order t.header.columns t.bytes.now t.start
+
+-- the header and the rows
+abbrev pub grid_of : Inside → Grid
+grid_of t = record { head = t.header; rows = rows_of (read_rows t) }
+
+-- the bytes after the header are rows, so many, and of this width where one is kept
+pub record IsRead (t : Inside) : Type 0 where
+  pub read : read_rows t ≡ Ok (rows_of (read_rows t))
+  pub count : t.rows ≡ length (rows_of (read_rows t))
+  pub fixed : IfSome t.width (λ w. width_of t.header.columns ≡ Some w)
+  pub inside : t.start ≤ length t.bytes.now

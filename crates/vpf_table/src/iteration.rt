@@ -1,0 +1,102 @@
+//! The rows of a table, one after another.
+
+ghost use Rattle.std.specs.Prelude.{◌≡◌, ◌≤◌, IsOk, IfSome, Some, length};
+ghost use Rattle.vpf_table.specs.Reading.{row_at};
+ghost use Rattle.vpf_table.specs.Walking.{past_of};
+ghost use Rattle.vpf_table.specs.Widths.{width_of};
+
+use crate::row::RowView;
+use crate::walking::sure_end;
+use std::marker::Model;
+use vpf_head::Header;
+use vpf_value::laws::fixed_cells;
+
+/// The rows that are left. Contracts see it as the list of them.
+#[derive(Drop)]
+pub struct Rows<'t, 'a> {
+    header: &'t Header<'a>,
+    bytes: &'a [u8],
+    at: usize,
+    width: Option<usize>,
+    left: u32,
+}
+
+impl<'t, 'a> Model for Rows<'t, 'a> {
+    ghost use Rattle.std.specs.Prelude.{List};
+    ghost use Rattle.vpf_table.specs.Grid.{Row};
+
+    ghost Value = { List Row };
+
+    ghost use Rattle.vpf_table.specs.RowsLeft.{rows_left, AreRowsRead};
+
+    ghost view = { rows_left };
+
+    ghost invariant = { AreRowsRead };
+}
+
+impl<'t, 'a> Rows<'t, 'a> {
+    ghost use Rattle.std.specs.Prelude.{◌≡◌, ◌≤◌, All, IsOk, IfSome, Some, length};
+    ghost use Rattle.vpf_table.specs.Reading.{most_rows, rows_at};
+    ghost use Rattle.vpf_table.specs.Walking.{rows_of};
+    ghost use Rattle.vpf_table.specs.Widths.{width_of};
+
+    /// The rows from `at` on, which are known to be spelled.
+    pub(crate) fn new(
+        header: &'t Header<'a>,
+        bytes: &'a [u8],
+        at: usize,
+        width: Option<usize>,
+    ) -> Rows<'t, 'a>
+        requires read { IsOk (rows_at most_rows header.now.order header.now.columns bytes.now at) }
+        requires inside { at ≤ length bytes.now }
+        requires fixed { IfSome width (λ w. width_of header.now.columns ≡ Some w) }
+        ensures rows { result ≡ rows_of (rows_at most_rows header.now.order header.now.columns bytes.now at) }
+        ensures width { All (λ row. length row ≡ length header.now.columns) result }
+    {
+        Rows {
+            header,
+            bytes,
+            at,
+            width,
+            left: 16_777_215,
+        }
+    }
+}
+
+/// The end of the row that is known to begin at `at`, by the width of the rows where they have one.
+fn next_row(header: &Header<'_>, bytes: &[u8], at: usize, width: Option<usize>) -> usize
+    requires inside { at ≤ length bytes.now }
+    requires read { IsOk (row_at header.now.order header.now.columns bytes.now at) }
+    requires fixed { IfSome width (λ w. width_of header.now.columns ≡ Some w) }
+    ensures value { result ≡ past_of (row_at header.now.order header.now.columns bytes.now at) }
+    ensures inside { result ≤ length bytes.now }
+{
+    fixed_cells();
+    let _end = bytes.len();
+    match width {
+        Some(width) => at + width,
+        None => sure_end(header, bytes, at),
+    }
+}
+
+impl<'t, 'a> Iterator for Rows<'t, 'a> {
+    ghost use Rattle.std.specs.Iterator.{YieldsFirst, item_count};
+
+    type Item = RowView<'t, 'a>;
+
+    ghost next_gives = { YieldsFirst (λ s. s) };
+
+    ghost remaining = { item_count (λ s. s) };
+
+    fn next(&mut self) -> Option<RowView<'t, 'a>> {
+        if self.at >= self.bytes.len() {
+            return None;
+        }
+        let at = self.at;
+        let past = next_row(self.header, self.bytes, at, self.width);
+        let row = RowView::new(self.header, self.bytes, at);
+        self.at = past;
+        self.left -= 1;
+        Some(row)
+    }
+}

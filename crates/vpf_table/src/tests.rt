@@ -1,0 +1,151 @@
+ghost use Rattle.std.specs.Prelude.{◌≡◌, ◌<◌};
+
+use crate::{Bound, ColumnAt, Limit, TableView};
+use std::alloc::Global;
+use std::marker::Brand;
+use std::sync::ledger::{Blank, Ledger};
+use std::test::Fail;
+use vpf_source::Steps;
+use vpf_triplet::{Code, Place, PlaceError};
+use vpf_value::Cell;
+
+/// Two columns of one width and three rows.
+const FIXED: &[u8] =
+    b"\x2a\0\0\0L;T;-;id=I,1,P,i,-,-,-,:c=T,2,N,d,-,-,-,:;\x01\0\0\0ab\x02\0\0\0cd\xff\xff\xff\xffef";
+
+/// A text of any length, and three rows.
+const VARYING: &[u8] = b"\x18\0\0\0L;T;-;a=T,*,N,d,-,-,-,:;\x03\0\0\0abc\0\0\0\0\x01\0\0\0z";
+
+/// The rows of a table, or where it is refused first.
+fn rows_in(alloc: Global, bytes: &[u8]) -> Result<u32, Place> {
+    match TableView::open(alloc, bytes) {
+        Ok(table) => Ok(table.len()),
+        Err(PlaceError::Place(place)) => Err(place),
+        Err(PlaceError::NoMemory) => Ok(u32::MAX),
+    }
+}
+
+#[test]
+fn counts_rows(rt: HostRuntime) -> Result<(), Fail> {
+    let alloc = rt.alloc();
+    for (bytes, want) in [
+        (FIXED, Ok(3)),
+        (&FIXED[..46], Ok(0)),
+        (&FIXED[..52], Ok(1)),
+        (&FIXED[..51], Err(Place::in_table(50, Code::CellCut))),
+        (&FIXED[..55], Err(Place::in_table(52, Code::CellCut))),
+        (&FIXED[..56], Err(Place::in_table(56, Code::CellCut))),
+        (VARYING, Ok(3)),
+        (&VARYING[..28], Ok(0)),
+        (&VARYING[..35], Ok(1)),
+        (&VARYING[..34], Err(Place::in_table(28, Code::CellCut))),
+        (&VARYING[..43], Err(Place::in_table(39, Code::CellCut))),
+        (&FIXED[..45], Err(Place::in_table(4, Code::HeaderCut))),
+        (&FIXED[..3], Err(Place::in_table(0, Code::NumberCut))),
+    ] {
+        assert_eq!(rt; rows_in(alloc, bytes), want, "{}", bytes.len());
+    }
+    Ok(())
+}
+
+#[test]
+fn stops_at_the_row_past_the_most(rt: HostRuntime) -> Result<(), Fail> {
+    let alloc = rt.alloc();
+    for header in [
+        b"\x18\0\0\0L;T;-;a=T,1,N,d,-,-,-,:;",
+        b"\x18\0\0\0L;T;-;a=K,1,N,d,-,-,-,:;",
+    ] {
+        let mut bytes = header.to_vec(alloc)?;
+        bytes.resize(28 + 16_777_215, 0)?;
+        assert_eq!(rt; rows_in(alloc, &bytes), Ok(16_777_215));
+        bytes.push(0)?;
+        let past = Place::in_table(28 + 16_777_215, Code::LimitRows(16_777_216));
+        assert_eq!(rt; rows_in(alloc, &bytes), Err(past));
+    }
+    Ok(())
+}
+
+fn number_in(cell: Cell<'_>) -> i32 {
+    match cell {
+        Cell::Long(n) => n,
+        _ => 0,
+    }
+}
+
+fn text_in(cell: Cell<'_>) -> &[u8] {
+    match cell {
+        Cell::Text(text) => text,
+        _ => b"no text",
+    }
+}
+
+/// Whether row `k` has this number and this text.
+fn row_is<L: Ledger>(blank: Blank, table: &TableView<'_>, k: u32, want: &[u8]) -> bool
+    requires name { blank.name ≡ L.name }
+    requires parts { blank.parts ≡ L.parts }
+    requires some { 0 < L.parts }
+{
+    if k < 1 || k > table.len() || table.header().len() < 1 {
+        return false;
+    }
+    let mut steps = Steps::<L>::new(blank);
+    let row = table.row(k, &mut steps);
+    let last = table.header().len() - 1;
+    text_in(row.cell(last)) == want
+}
+
+fn has_row(table: &TableView<'_>, k: u32, want: &[u8]) -> bool {
+    row_is::<Brand>(Blank::new(1), table, k, want)
+}
+
+#[test]
+fn finds_rows_and_cells(rt: HostRuntime) -> Result<(), Fail> {
+    let alloc = rt.alloc();
+    for (bytes, texts) in [
+        (FIXED, [b"ab".as_slice(), b"cd", b"ef"]),
+        (VARYING, [b"abc".as_slice(), b"", b"z"]),
+    ] {
+        let table = TableView::open(alloc, bytes)?;
+        assert!(rt; !table.is_empty());
+        for (i, want) in texts.iter().enumerate() {
+            let k = i as u32 + 1;
+            assert!(rt; has_row(&table, k, want), "row {k}");
+        }
+        let mut walked = Vec::new(alloc);
+        for row in table.rows() {
+            for cell in row.cells() {
+                walked.push(text_in(cell))?;
+            }
+        }
+        assert_eq!(rt; walked.last().copied(), Some(texts[2]));
+    }
+    Ok(())
+}
+
+#[test]
+fn reads_the_cells_of_a_row(rt: HostRuntime) -> Result<(), Fail> {
+    let table = TableView::open(rt.alloc(), FIXED)?;
+    let mut numbers = Vec::new(rt.alloc());
+    for row in table.rows() {
+        for cell in row.cells().take(1) {
+            numbers.push(number_in(cell))?;
+        }
+    }
+    assert_eq!(rt; numbers.as_slice(), [1, 2, -1].as_slice());
+    Ok(())
+}
+
+#[test]
+fn tells_limits(rt: HostRuntime) {
+    for (code, want) in [
+        (Code::LimitHeader(65_537), Some((Bound::Header, 65_537))),
+        (Code::LimitColumns(257), Some((Bound::Columns, 257))),
+        (Code::LimitName(256), Some((Bound::Name, 256))),
+        (Code::LimitRows(16_777_216), Some((Bound::Rows, 16_777_216))),
+        (Code::CellCut, None),
+    ] {
+        let limit = Limit::of_code(code).map(|limit| (limit.what, limit.found));
+        assert_eq!(rt; limit, want);
+    }
+    assert_eq!(rt; ColumnAt::new(b"id").as_slice(), b"id".as_slice());
+}

@@ -1,0 +1,80 @@
+//! Walking over cells and rows.
+
+ghost use Rattle.std.specs.Prelude.{◌≡◌, ◌≤◌, ◌<◌, IsOk, Ok, Some, IfOk, IfSome, length};
+ghost use Rattle.vpf_value.specs.Values.{view};
+ghost use Rattle.vpf_head.specs.Views.{col};
+ghost use Rattle.vpf_table.specs.Reading.{cell_in, row_at};
+ghost use Rattle.vpf_table.specs.Walking.{end_of, past_of};
+ghost use Rattle.vpf_table.specs.Widths.{width_of};
+
+use vpf_head::{Column, Header};
+use vpf_triplet::{Order, Place};
+use vpf_value::{Cell, cell_at, cell_width};
+
+fn skip_cell(order: Order, column: &Column<'_>, bytes: &[u8], at: usize) -> Result<usize, Place>
+    requires { at ≤ length bytes.now }
+    ensures exact { result ≡ end_of (cell_in order (col column.now) bytes.now at) }
+    ensures inside { IfOk result (λ past. past ≤ length bytes.now) }
+{
+    let (_, past) = cell_at(order, column.kind, column.count, bytes, at)?;
+    Ok(past)
+}
+
+/// Where the row that begins at `at` ends, or its first cell that isn't spelled.
+pub fn skip_row(header: &Header<'_>, bytes: &[u8], at: usize) -> Result<usize, Place>
+    requires { at ≤ length bytes.now }
+    ensures exact { result ≡ end_of (row_at header.now.order header.now.columns bytes.now at) }
+    ensures inside { IfOk result (λ past. past ≤ length bytes.now) }
+{
+    let order = header.order();
+    let mut here = at;
+    for i in 0..header.len() {
+        let past = skip_cell(order, header.at(i), bytes, here)?;
+        here = past;
+    }
+    Ok(here)
+}
+
+/// The cell that is known to begin at `at`, and the offset past it.
+pub fn sure_cell<'a>(
+    order: Order,
+    column: &Column<'_>,
+    bytes: &'a [u8],
+    at: usize,
+) -> (Cell<'a>, usize)
+    requires inside { at ≤ length bytes.now }
+    requires read { IsOk (cell_in order (col column.now) bytes.now at) }
+    ensures exact { cell_in order (col column.now) bytes.now at ≡ Ok (view result.0, result.1) }
+    ensures inside { result.1 ≤ length bytes.now }
+{
+    match cell_at(order, column.kind, column.count, bytes, at) {
+        Ok(found) => found,
+        Err(_) => unreachable!(),
+    }
+}
+
+/// The end of the row that is known to begin at `at`.
+pub fn sure_end(header: &Header<'_>, bytes: &[u8], at: usize) -> usize
+    requires inside { at ≤ length bytes.now }
+    requires read { IsOk (row_at header.now.order header.now.columns bytes.now at) }
+    ensures value { result ≡ past_of (row_at header.now.order header.now.columns bytes.now at) }
+    ensures inside { result ≤ length bytes.now }
+{
+    match skip_row(header, bytes, at) {
+        Ok(past) => past,
+        Err(_) => unreachable!(),
+    }
+}
+
+/// How many bytes each row has, where that is the same for all and fits a number.
+pub fn row_width(header: &Header<'_>) -> Option<usize>
+    ensures { IfSome result (λ w. width_of header.now.columns ≡ Some w) }
+{
+    let mut sum: usize = 0;
+    for i in 0..header.len() {
+        let column = header.at(i);
+        let width = cell_width(column.kind, column.count)?;
+        sum = sum.checked_add(width)?;
+    }
+    Some(sum)
+}
