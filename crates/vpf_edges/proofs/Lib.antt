@@ -1,0 +1,9 @@
+pub mod FirstLemmas
+pub mod ColumnLemmas
+pub mod WingLemmas
+pub mod NextLemmas
+pub mod MapLemmas
+pub mod ListLemmas
+pub mod UniqueLemmas
+pub mod GridLemmas
+pub mod RowLemmas
