@@ -1,0 +1,10 @@
+//! How bytes, names and cells of a table are printed.
+#![tactic(auto)]
+
+mod bytes;
+mod cells;
+#[cfg(test)]
+mod tests;
+
+pub use bytes::{put_printed, put_quoted};
+pub use cells::put_cell;
