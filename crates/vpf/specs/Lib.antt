@@ -1,0 +1,13 @@
+pub mod Answer
+pub mod Names
+pub mod Statuses
+pub mod Texts
+pub mod Tables
+pub mod Show
+pub mod Check
+pub mod Disagreeing
+pub mod Cycling
+pub mod Commands
+pub mod Loading
+pub mod Deciding
+pub mod Run

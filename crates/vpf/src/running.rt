@@ -1,0 +1,103 @@
+//! The whole program, over any tree and any sink.
+
+ghost use Rattle.std.specs.Prelude.{◌≡◌, ◌≢◌, ◌≤◌, IfOk, IfSome, IsErrOf, None, map, string_bytes};
+ghost use Rattle.std.specs.Io.KnownBytes.{Keeps};
+ghost use Rattle.vpf_source.specs.Causes.{Rose};
+ghost use Rattle.vpf_source.specs.Writing.{TellsAsBefore};
+ghost use Rattle.vpf.specs.Answer.{Answer};
+ghost use Rattle.vpf.specs.Commands.{command_of, AnswersOver, IsAnswerTo, IsAnswer};
+ghost use Rattle.vpf.specs.Run.{Carries, IsCompleted};
+
+use crate::command::{Command, read_command};
+use crate::cycling::cycles;
+use crate::laws::one_answer;
+use crate::loading::{Loaded, load_file};
+use crate::reply::Reply;
+use crate::showing::{check, show};
+use crate::status::{Status, Stop};
+use crate::texts::usage;
+use std::alloc::{AllocError, Global};
+use vpf_source::{DeviceError, Sink, Tree, put_all};
+
+/// The reply of a command over the bytes of its file.
+fn reply_over(alloc: Global, command: &Command, bytes: &[u8]) -> Result<Reply, AllocError>
+    ensures { IfOk result (AnswersOver command.now bytes.now) }
+{
+    match command {
+        Command::Show(name) => show(alloc, name.as_str(), bytes),
+        Command::Table(name) => check(alloc, name.as_str(), bytes),
+        Command::Cycles(name) => cycles(alloc, name.as_str(), bytes),
+    }
+}
+
+/// The reply of a command over a tree.
+fn obey<T: Tree>(alloc: Global, command: &Command, tree: &mut T) -> Result<Reply, Stop>
+    ensures told { IfSome (T.files tree.old) (λ files. IfOk result (IsAnswerTo command.now files)) }
+    ensures fault { IsErrOf result Stop.TreeFault → Rose (T.faults tree.old) (T.faults tree.new) }
+    ensures later { T.faults tree.old ≤ T.faults tree.new }
+    ensures files { T.files tree.new ≡ T.files tree.old }
+{
+    match load_file(alloc, tree, command.file())? {
+        Loaded::Bytes(bytes) => Ok(reply_over(alloc, command, &bytes)?),
+        Loaded::Answered(reply) => Ok(reply),
+    }
+}
+
+/// The reply to words.
+fn reply_to<T: Tree>(alloc: Global, words: &[String], tree: &mut T) -> Result<Reply, Stop>
+    ensures told { (answer : Answer) → IsAnswer (command_of (map string_bytes words.now)) (T.files tree.old) answer
+        → IfOk result (IsAnswer (command_of (map string_bytes words.now)) (T.files tree.old)) }
+    ensures fault { IsErrOf result Stop.TreeFault → Rose (T.faults tree.old) (T.faults tree.new) }
+    ensures usage { command_of (map string_bytes words.now) ≡ None → ¬ IsErrOf result Stop.TreeFault }
+    ensures later { T.faults tree.old ≤ T.faults tree.new }
+    ensures files { T.files tree.new ≡ T.files tree.old }
+{
+    match read_command(alloc, words)? {
+        Some(command) => obey(alloc, &command, tree),
+        None => Ok(usage(alloc)?),
+    }
+}
+
+/// Prints a reply.
+fn print_reply<O: Sink>(out: &mut O, reply: &Reply) -> Status
+    ensures carries { Carries reply.now result (O.written out.old) (O.written out.new) }
+    ensures sink_fault { result ≡ Status.SinkFault → Rose (O.faults out.old) (O.faults out.new) }
+    ensures no_tree_fault { result ≢ Status.TreeFault }
+    ensures tells { TellsAsBefore (O.written out.old) (O.written out.new) }
+    ensures later { O.faults out.old ≤ O.faults out.new }
+{
+    match put_all(out, reply.text().as_bytes()) {
+        Ok(()) => Status::from(reply.verdict()),
+        Err(DeviceError::Failed) => Status::SinkFault,
+        Err(DeviceError::NoMemory) => Status::NoMemory,
+    }
+}
+
+/// Does what the words ask, over the files of a tree, and prints the answer to a sink. The words are those after the
+/// program's name. All text is composed before its first byte is written.
+pub fn run<T: Tree, O: Sink>(alloc: Global, words: &[String], tree: &mut T, out: &mut O) -> Status
+    // Where the tree tells its files, status and text are those of the answer, as far as no fault ended the run.
+    ensures answer { (answer : Answer) → IsAnswer (command_of (map string_bytes words.now)) (T.files tree.old) answer
+        → Carries answer result (O.written out.old) (O.written out.new) }
+
+    // A fault is answered only where its count rose in this call; where neither rose, the run is completed.
+    ensures tree_fault { result ≡ Status.TreeFault → Rose (T.faults tree.old) (T.faults tree.new) }
+    ensures sink_fault { result ≡ Status.SinkFault → Rose (O.faults out.old) (O.faults out.new) }
+    ensures completed { (answer : Answer) → IsAnswer (command_of (map string_bytes words.now)) (T.files tree.old) answer
+        → ¬ Rose (T.faults tree.old) (T.faults tree.new) → ¬ Rose (O.faults out.old) (O.faults out.new) → IsCompleted answer result }
+
+    // These hold over every tree.
+    ensures usage { command_of (map string_bytes words.now) ≡ None → result ≢ Status.TreeFault }
+    ensures silent { result ≡ Status.TreeFault → Keeps (O.written out.old) (O.written out.new) }
+    ensures files { T.files tree.new ≡ T.files tree.old }
+    ensures tells { TellsAsBefore (O.written out.old) (O.written out.new) }
+    ensures tree_later { T.faults tree.old ≤ T.faults tree.new }
+    ensures sink_later { O.faults out.old ≤ O.faults out.new }
+{
+    one_answer();
+    match reply_to(alloc, words, tree) {
+        Ok(reply) => print_reply(out, &reply),
+        Err(Stop::TreeFault) => Status::TreeFault,
+        Err(Stop::NoMemory) => Status::NoMemory,
+    }
+}

@@ -1,0 +1,79 @@
+//! How a run ends.
+
+ghost use Rattle.std.specs.Prelude.{◌≡◌};
+ghost use Rattle.vpf.specs.declared.status.Stop.TheVariants as stops;
+
+use std::alloc::AllocError;
+
+/// How a run ends where nothing stops it.
+#[derive(Clone, Copy, Debug, PartialEq, Eq)]
+pub enum Verdict {
+    /// What was asked is done.
+    Done,
+    /// The files don't allow it.
+    Refused,
+    /// The words are no command.
+    Usage,
+    /// A bound is passed.
+    Limit,
+}
+
+/// What stops a run before its answer is known.
+#[derive(Clone, Copy, Debug, PartialEq, Eq)]
+pub enum Stop {
+    /// A call on the tree failed.
+    TreeFault,
+    /// Memory ran out.
+    NoMemory,
+}
+
+impl From<AllocError> for Stop {
+    ghost from_gives = { λ _ stop. stop ≡ stops.NoMemory };
+
+    fn from(_: AllocError) -> Self {
+        Stop::NoMemory
+    }
+}
+
+/// How a run ends.
+#[derive(Clone, Copy, Debug, PartialEq, Eq)]
+pub enum Status {
+    Done,
+    Refused,
+    Usage,
+    /// A call on the tree failed.
+    TreeFault,
+    /// A call on the sink failed.
+    SinkFault,
+    /// Memory ran out.
+    NoMemory,
+    Limit,
+}
+
+impl Status {
+    ghost use Rattle.std.specs.Prelude.{◌≡◌};
+    ghost use Rattle.vpf.specs.Statuses.{code_of};
+
+    /// The exit status of the process: 0 to 6, in the order of the variants.
+    pub fn code(self) -> u8
+        ensures { result ≡ code_of self }
+    {
+        self as u8
+    }
+}
+
+impl From<Verdict> for Status {
+    ghost use Rattle.std.specs.Prelude.{◌≡◌};
+    ghost use Rattle.vpf.specs.Statuses.{status_of};
+
+    ghost from_gives = { λ verdict status. status ≡ status_of verdict };
+
+    fn from(verdict: Verdict) -> Self {
+        match verdict {
+            Verdict::Done => Status::Done,
+            Verdict::Refused => Status::Refused,
+            Verdict::Usage => Status::Usage,
+            Verdict::Limit => Status::Limit,
+        }
+    }
+}

@@ -1,0 +1,242 @@
+//! The program over a tree and a sink in memory.
+
+use crate::running::run;
+use crate::status::Status;
+use std::alloc::{AllocError, Global};
+use std::test::Fail;
+use vpf_source::{MemSink, MemTree};
+
+/// One column `id` of kind I, and one row, 1.
+const PLAIN: &[u8] = b"\x19\0\0\0L;T;-;id=I,1,P,i,-,-,-,:;\x01\0\0\0";
+
+/// The same in the other order.
+const OTHER_ORDER: &[u8] = b"\0\0\0\x19M;T;-;id=I,1,P,i,-,-,-,:;\0\0\0\x01";
+
+/// No mark, spaces before a count, and a definition that ends after an empty narrative.
+const LENIENT: &[u8] = b"\x22\0\0\0Table;-;id=I,    1,P,Row Id,-,-,:;\x07\0\0\0";
+
+/// A text whose count promises more bytes than there are.
+const LONG_COUNT: &[u8] = b"\x18\0\0\0L;T;-;a=T,*,N,d,-,-,-,:;\xff\xff\xff\xffabc";
+
+/// A pair of coordinates with its count.
+const COORDINATES: &[u8] = b"\x18\0\0\0L;T;-;c=C,*,N,d,-,-,-,:;\x01\0\0\0\x01\0\0\0\x02\0\0\0";
+
+/// What is shown of the first of them, and of the same without its row and in the other order.
+const PLAIN_SHOWN: &str =
+    "order L\ndescription T\nnarrative -\ncolumn 1 id I,1 P - - - i\nrows 1\n1 | 1\n";
+
+const NO_ROW_SHOWN: &str =
+    "order L\ndescription T\nnarrative -\ncolumn 1 id I,1 P - - - i\nrows 0\n";
+
+const OTHER_ORDER_SHOWN: &str =
+    "order M\ndescription T\nnarrative -\ncolumn 1 id I,1 P - - - i\nrows 1\n1 | 1\n";
+
+/// What is shown of a key that is none of the three with a meaning, and of two of the others.
+const KEY_SHOWN: &str =
+    "order L\ndescription T\nnarrative -\ncolumn 1 id I,1 F - - - i\nrows 1\n1 | 1\n";
+
+const LENIENT_SHOWN: &str =
+    "order L\ndescription Table\nnarrative -\ncolumn 1 id I,1 P - - - Row Id\nrows 1\n1 | 7\n";
+
+const COORDINATES_SHOWN: &str =
+    "order L\ndescription T\nnarrative -\ncolumn 1 c C,* N - - - d\nrows 1\n1 | [00000001 00000002]\n";
+
+/// Files, and what `show` answers.
+const SHOWN: [(&str, Status, &str); 15] = [
+    ("t.tab", Status::Done, PLAIN_SHOWN),
+    ("./t.tab", Status::Done, PLAIN_SHOWN),
+    ("//root.tab", Status::Done, PLAIN_SHOWN),
+    ("lib//./t.tab/", Status::Done, PLAIN_SHOWN),
+    ("m.tab", Status::Done, OTHER_ORDER_SHOWN),
+    ("none.row", Status::Done, NO_ROW_SHOWN),
+    ("lenient.tab", Status::Done, LENIENT_SHOWN),
+    ("c.tab", Status::Done, COORDINATES_SHOWN),
+    ("f.tab", Status::Done, KEY_SHOWN),
+    ("none.tab", Status::Refused, "refused missing none.tab\n"),
+    ("/t.tab", Status::Refused, "refused missing /t.tab\n"),
+    ("a\\", Status::Refused, "refused missing a\\5c\n"),
+    ("a\"b", Status::Refused, "refused number-cut a\\22b at 0\n"),
+    (
+        "cut.row",
+        Status::Refused,
+        "refused cell-cut cut.row at 29\n",
+    ),
+    (
+        "cut.head",
+        Status::Refused,
+        "refused header-cut cut.head at 4\n",
+    ),
+];
+
+/// Files, and what `table` answers.
+const CHECKED: [(&str, Status, &str); 6] = [
+    ("t.tab", Status::Done, "accepted rows 1 columns 1\n"),
+    ("none.row", Status::Done, "accepted rows 0 columns 1\n"),
+    ("empty", Status::Refused, "refused number-cut empty at 0\n"),
+    (
+        "long.tab",
+        Status::Refused,
+        "refused cell-cut long.tab at 28\n",
+    ),
+    ("bad.key", Status::Refused, "refused key bad.key at 17\n"),
+    ("wide.head", Status::Limit, "limit header wide.head 65537\n"),
+];
+
+/// The tree call and the sink call that fail, from 1, or 0 for none, and what `table t.tab` answers.
+const FAULTS: [(u64, u64, Status, &str); 7] = [
+    (1, 0, Status::TreeFault, ""),
+    (2, 0, Status::TreeFault, ""),
+    (34, 0, Status::TreeFault, ""),
+    (35, 0, Status::Done, "accepted rows 1 columns 1\n"),
+    (0, 1, Status::SinkFault, ""),
+    (0, 26, Status::SinkFault, "accepted rows 1 columns 1"),
+    (0, 27, Status::Done, "accepted rows 1 columns 1\n"),
+];
+
+/// Words that are no command.
+const NO_COMMANDS: [&[&str]; 11] = [
+    &[],
+    &["show"],
+    &["show", "t.tab", "t.tab"],
+    &["show", ""],
+    &["show", "."],
+    &["show", "././"],
+    &["Show", "t.tab"],
+    &["t.tab", "show"],
+    &["table"],
+    &["--help"],
+    &["swap", "t.tab", "u.tab"],
+];
+
+fn words_of(alloc: Global, words: &[&str]) -> Result<Vec<String>, AllocError> {
+    let mut owned = Vec::new(alloc);
+    for word in words {
+        owned.push(String::from_str(alloc, word)?)?;
+    }
+    Ok(owned)
+}
+
+fn put_samples(tree: &mut MemTree) -> Result<(), AllocError> {
+    for (name, bytes) in [
+        ("t.tab", PLAIN),
+        ("/root.tab", PLAIN),
+        ("lib/t.tab", PLAIN),
+        ("none.row", &PLAIN[..29]),
+        ("cut.row", &PLAIN[..32]),
+        ("cut.head", &PLAIN[..28]),
+        ("empty", [].as_slice()),
+        ("m.tab", OTHER_ORDER),
+        ("lenient.tab", LENIENT),
+        ("long.tab", LONG_COUNT),
+        ("c.tab", COORDINATES),
+        ("f.tab", b"\x19\0\0\0L;T;-;id=I,1,F,i,-,-,-,:;\x01\0\0\0"),
+        ("bad.key", b"\x19\0\0\0L;T;-;id=I,1,f,i,-,-,-,:;\x01\0\0\0"),
+        ("wide.head", b"\x01\0\x01\0"),
+        ("a\"b", b""),
+    ] {
+        tree.put(name, bytes)?;
+    }
+    Ok(())
+}
+
+/// What a command prints over one of the samples, and its status.
+fn answer_of(alloc: Global, verb: &str, file: &str) -> Result<(Status, MemSink), AllocError> {
+    let mut tree = MemTree::new(alloc, 4096, Vec::new(alloc));
+    put_samples(&mut tree)?;
+    let mut out = MemSink::new(alloc, 4096, Vec::new(alloc));
+    let words = words_of(alloc, &[verb, file])?;
+    let status = run(alloc, &words, &mut tree, &mut out);
+    Ok((status, out))
+}
+
+#[test]
+fn shows_and_checks_tables(rt: HostRuntime) -> Result<(), Fail> {
+    let alloc = rt.alloc();
+    for (file, want, text) in SHOWN {
+        let (status, out) = answer_of(alloc, "show", file)?;
+        assert_eq!(rt; out.bytes(), text.as_bytes(), "{file}");
+        assert_eq!(rt; status, want, "{file}");
+    }
+    for (file, want, text) in CHECKED {
+        let (status, out) = answer_of(alloc, "table", file)?;
+        assert_eq!(rt; out.bytes(), text.as_bytes(), "{file}");
+        assert_eq!(rt; status, want, "{file}");
+    }
+    Ok(())
+}
+
+#[test]
+fn tells_what_is_no_command(rt: HostRuntime) -> Result<(), Fail> {
+    let alloc = rt.alloc();
+    for words in NO_COMMANDS {
+        let mut tree = MemTree::new(alloc, 1, vec![in alloc; 1]?);
+        put_samples(&mut tree)?;
+        let mut out = MemSink::new(alloc, 1, Vec::new(alloc));
+        let owned = words_of(alloc, words)?;
+        let status = run(alloc, &owned, &mut tree, &mut out);
+        assert_eq!(rt; out.bytes(), b"usage\n".as_slice(), "{words:?}");
+        assert_eq!(rt; status, Status::Usage, "{words:?}");
+    }
+    Ok(())
+}
+
+/// What a command prints over a tree and a sink of one byte a call, where these calls fail, and its status.
+fn faulty(
+    alloc: Global,
+    verb: &str,
+    tree_fails: u64,
+    sink_fails: u64,
+) -> Result<(Status, MemSink), AllocError> {
+    let mut tree = MemTree::new(alloc, 1, vec![in alloc; tree_fails]?);
+    put_samples(&mut tree)?;
+    let mut out = MemSink::new(alloc, 1, vec![in alloc; sink_fails]?);
+    let words = words_of(alloc, &[verb, "t.tab"])?;
+    let status = run(alloc, &words, &mut tree, &mut out);
+    Ok((status, out))
+}
+
+#[test]
+fn stops_at_faults(rt: HostRuntime) -> Result<(), Fail> {
+    let alloc = rt.alloc();
+    for (tree_fails, sink_fails, want, text) in FAULTS {
+        let (status, out) = faulty(alloc, "table", tree_fails, sink_fails)?;
+        assert_eq!(rt; out.bytes(), text.as_bytes(), "{tree_fails} {sink_fails}");
+        assert_eq!(rt; status, want, "{tree_fails} {sink_fails}");
+    }
+    let (status, out) = faulty(alloc, "show", 0, 2)?;
+    assert_eq!(rt; out.bytes(), b"o".as_slice());
+    assert_eq!(rt; status, Status::SinkFault);
+    let (status, out) = faulty(alloc, "show", 1, 0)?;
+    assert_eq!(rt; out.bytes(), b"".as_slice());
+    assert_eq!(rt; status, Status::TreeFault);
+    Ok(())
+}
+
+#[test]
+fn refuses_a_large_file(rt: HostRuntime) -> Result<(), Fail> {
+    let alloc = rt.alloc();
+    let bytes = vec![in alloc; 0u8; 67_108_865]?;
+    let mut tree = MemTree::new(alloc, 4096, Vec::new(alloc));
+    tree.put("big.tab", &bytes)?;
+    let mut out = MemSink::new(alloc, 4096, Vec::new(alloc));
+    let words = words_of(alloc, &["show", "big.tab"])?;
+    let status = run(alloc, &words, &mut tree, &mut out);
+    assert_eq!(rt; out.bytes(), b"limit file big.tab 67108865\n".as_slice());
+    assert_eq!(rt; status, Status::Limit);
+    Ok(())
+}
+
+#[test]
+fn numbers_each_status(rt: HostRuntime) {
+    for (status, code) in [
+        (Status::Done, 0),
+        (Status::Refused, 1),
+        (Status::Usage, 2),
+        (Status::TreeFault, 3),
+        (Status::SinkFault, 4),
+        (Status::NoMemory, 5),
+        (Status::Limit, 6),
+    ] {
+        assert_eq!(rt; status.code(), code);
+    }
+}

@@ -1,0 +1,63 @@
+//! The printed lines of what isn't done.
+
+ghost use Rattle.std.specs.Prelude.{◌≡◌, IfOk, codes, string_bytes};
+ghost use Rattle.vpf.specs.Answer.{refused, limited, misused};
+ghost use Rattle.vpf.specs.Texts.{usage_text, missing_text, refused_text, limit_text};
+ghost use Rattle.vpf.specs.Tables.{fault_answer};
+ghost use Rattle.vpf.specs.Commands.{usage_answer};
+
+use crate::reply::Reply;
+use crate::status::Verdict;
+use std::alloc::{AllocError, Global};
+use vpf_text::put_printed;
+use vpf_triplet::{Code, Place};
+
+/// The reply to words that are no command.
+pub fn usage(alloc: Global) -> Result<Reply, AllocError>
+    ensures { IfOk result (λ reply. reply ≡ usage_answer) }
+{
+    Ok(Reply::new(Verdict::Usage, format!(in alloc; "usage\n")?))
+}
+
+/// The reply where a file is absent.
+pub fn missing(alloc: Global, name: &str) -> Result<Reply, AllocError>
+    ensures { IfOk result (λ reply. reply ≡ refused (missing_text name.now)) }
+{
+    let mut text = format!(in alloc; "refused missing ")?;
+    put_printed(&mut text, name.as_bytes())?;
+    text.push('\n')?;
+    Ok(Reply::new(Verdict::Refused, text))
+}
+
+/// The reply where a bound is passed.
+pub fn limit(alloc: Global, bound: &str, name: &str, found: u64) -> Result<Reply, AllocError>
+    ensures { IfOk result (λ reply. reply ≡ limited (limit_text bound.now name.now found)) }
+{
+    let mut text = format!(in alloc; "limit {bound} ")?;
+    put_printed(&mut text, name.as_bytes())?;
+    write!(text, " {found}\n")?;
+    Ok(Reply::new(Verdict::Limit, text))
+}
+
+fn refusal(alloc: Global, name: &str, place: Place) -> Result<Reply, AllocError>
+    ensures { IfOk result (λ reply. reply ≡ refused (refused_text name.now place)) }
+{
+    let Place { at, code, .. } = place;
+    let mut text = format!(in alloc; "refused {code} ")?;
+    put_printed(&mut text, name.as_bytes())?;
+    write!(text, " at {at}\n")?;
+    Ok(Reply::new(Verdict::Refused, text))
+}
+
+/// The reply to the first fault of a file.
+pub fn fault(alloc: Global, name: &str, place: Place) -> Result<Reply, AllocError>
+    ensures { IfOk result (λ reply. reply ≡ fault_answer name.now place) }
+{
+    match place.code {
+        Code::LimitHeader(found) => limit(alloc, "header", name, found),
+        Code::LimitColumns(found) => limit(alloc, "columns", name, found),
+        Code::LimitName(found) => limit(alloc, "name", name, found),
+        Code::LimitRows(found) => limit(alloc, "rows", name, found),
+        _ => refusal(alloc, name, place),
+    }
+}
