@@ -1,0 +1,33 @@
+# Shared by the scripts of this folder: where the program is, and how a command is measured.
+set -eu
+here=$(cd "$(dirname "${BASH_SOURCE[0]}")" && pwd)
+vpf=${VPF:-$(ls -t "$here"/../crates/vpf/out/vpf "$here"/../crates/vpf/out/*/vpf 2>/dev/null | head -n 1)}
+[ -x "$vpf" ] || { echo "no built program: run 'rt run' in crates/vpf, or set VPF to its path" >&2; exit 1; }
+work=$(mktemp -d)
+trap 'rm -rf "$work"' EXIT
+
+# measure NAME COMMAND..: runs the command three times, prints the best time and the peak memory, and leaves the time in $seconds.
+# The peak is never told below that of the process that measures, about 14 MiB.
+measure() {
+  name=$1
+  shift
+  python3 - "$work/seconds" "$name" "$@" <<'PY'
+import resource, subprocess, sys, time
+out, name, command = sys.argv[1], sys.argv[2], sys.argv[3:]
+best = min_memory = None
+for _ in range(3):
+    start = time.perf_counter()
+    subprocess.run(command, stdout=subprocess.DEVNULL, check=True)
+    spent = time.perf_counter() - start
+    best = spent if best is None else min(best, spent)
+peak = resource.getrusage(resource.RUSAGE_CHILDREN).ru_maxrss
+print(f"{name:<28} {best:8.3f} s   peak {peak / 1024:8.1f} MiB")
+open(out, "w").write(str(best))
+PY
+  seconds=$(cat "$work/seconds")
+}
+
+# ratio NAME A B: prints A / B
+ratio() {
+  python3 -c 'import sys; print(f"{sys.argv[1]:<44} {float(sys.argv[2]) / float(sys.argv[3]):6.2f}")' "$1" "$2" "$3"
+}
