@@ -120,6 +120,15 @@ add_by sum x (Some w) = ap (λ (k : ℕ). Some k) (omega arith)
 pub add_step : (sum x : ℕ) (total : Option ℕ) (c : Col) (cs : List Col) → cell_width c.kind c.count ≡ Some x → add_width (Some sum) (width_of (c ∷ cs)) ≡ total → add_width (Some (sum + x)) (width_of cs) ≡ total
 add_step sum x total c cs e h = add_by sum x (width_of cs) ∙ (rw (← e) h)
 
+-- columns with one that varies have no one width
+pub no_width : (sum w : ℕ) (total : Option ℕ) (c : Col) (cs : List Col) → cell_width c.kind c.count ≡ None → add_width (Some sum) (width_of (c ∷ cs)) ≡ total → total ≡ Some w → ⊥
+no_width sum w total c cs e h k = let f : None ≡ Some w = sym (ap (λ (x : Option ℕ). add_width (Some sum) (add_width x (width_of cs))) e) ∙ h ∙ k in cc
+
+-- the width of all columns is at least that of some
+pub wider : (sum w most : ℕ) (rest : Option ℕ) → add_width (Some sum) rest ≡ Some w → (sum < most → ⊥) → w < most → ⊥
+wider sum w most None e l h = cc
+wider sum w most (Some x) e l h = let f = some_is (sum + x) w e in l (omega (arith, f, h))
+
 -- where there are bytes enough, a row of this width is whole
 pub row_whole : FixedCells → (o : Order) (cs : List Col) (bytes : List ℕ) (at w : ℕ) → width_of cs ≡ Some w → at + w ≤ length bytes → end_of (row_at o cs bytes at) ≡ Ok (at + w)
 unfolding row_at

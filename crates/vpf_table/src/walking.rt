@@ -1,6 +1,6 @@
 //! Walking over cells and rows.
 
-ghost use Rattle.std.specs.Prelude.{◌≡◌, ◌≤◌, ◌<◌, IsOk, Ok, Some, IfOk, IfSome, length};
+ghost use Rattle.std.specs.Prelude.{◌≡◌, ◌≤◌, ◌<◌, ◌^◌, ℕ, IsOk, Ok, Some, IfOk, IfSome, length};
 ghost use Rattle.vpf_value.specs.Values.{view};
 ghost use Rattle.vpf_head.specs.Views.{col};
 ghost use Rattle.vpf_table.specs.Reading.{cell_in, row_at};
@@ -68,7 +68,8 @@ pub fn sure_end(header: &Header<'_>, bytes: &[u8], at: usize) -> usize
 
 /// How many bytes each row has, where that is the same for all and fits a number.
 pub fn row_width(header: &Header<'_>) -> Option<usize>
-    ensures { IfSome result (λ w. width_of header.now.columns ≡ Some w) }
+    ensures found { IfSome result (λ w. width_of header.now.columns ≡ Some w) }
+    ensures known { (w : ℕ) → width_of header.now.columns ≡ Some w → w < 2 ^ 64 → result ≡ Some w }
 {
     let mut sum: usize = 0;
     for i in 0..header.len() {
