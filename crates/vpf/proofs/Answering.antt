@@ -1,5 +1,5 @@
 -- Words over files have one answer.
-use Rattle.std.proofs.Common.{◌≡◌, ℕ, Bool, true, false, List, Option, None, Some, Result, Ok, Err, refl, sym, ◌∙◌, ap, subst}
+use Rattle.std.proofs.Common.{◌≡◌, ℕ, Bool, true, false, List, [], Option, None, Some, Result, Ok, Err, refl, sym, ◌∙◌, ap, subst}
 use Rattle.std.specs.Prelude.{codes, IfSome}
 use Rattle.vpf_source.specs.Files.{Files}
 use Rattle.vpf_source.specs.Loading.{load_answer}
@@ -12,15 +12,16 @@ use Rattle.vpf_table.specs.Findings.{Disagreement}
 use Rattle.vpf_edges.specs.Findings.{first_finding}
 use Rattle.vpf_edges.specs.Laws.{HasBoundaryListing, OneBoundaryListing}
 use Rattle.vpf.specs.declared.command.Command.{Command}
-use Rattle.vpf.specs.declared.command.Command.TheVariants.{Show, Table, Cycles}
+use Rattle.vpf.specs.declared.command.Command.TheVariants.{Show, Table, Cycles, Swap}
 use Rattle.vpf.specs.Answer.{Answer, done, refused, limited}
 use Rattle.vpf.specs.Texts.{missing_text, limit_text}
 use Rattle.vpf.specs.Tables.{fault_answer, IsTableAnswer}
 use Rattle.vpf.specs.Show.{show_answer}
 use Rattle.vpf.specs.Check.{table_answer}
 use Rattle.vpf.specs.Disagreeing.{disagree_text}
+use Rattle.vpf.specs.Swapping.{swap_answer}
 use Rattle.vpf.specs.Cycling.{listing_text, variable_text, IsEdgesAnswer, IsCyclesAnswer}
-use Rattle.vpf.specs.Commands.{file_of, file_limit, AnswersOver, IsFileAnswer, IsAnswerTo}
+use Rattle.vpf.specs.Commands.{file_of, file_limit, AnswersOver, IsFileAnswer, IsAnswerTo, IsAnswer, usage_answer}
 use Rattle.vpf.specs.Deciding.{HasAnswer, OneAnswer}
 use Rattle.vpf.specs.declared.loading.Loaded.{Loaded}
 use Rattle.vpf.specs.Loading.{IsUnloaded, Loads}
@@ -43,6 +44,7 @@ commands_have : HasBoundaryListing → (command : Command) (bytes : List ℕ) �
 commands_have listings (Show name) bytes = (show_answer name bytes, refl)
 commands_have listings (Table name) bytes = (table_answer name bytes, refl)
 commands_have listings (Cycles name) bytes = tables_have listings name (table_of bytes)
+commands_have listings (Swap name out) bytes = (swap_answer name out bytes, refl)
 
 files_have : (over : List ℕ → Answer → Type 0) (name : List ℕ) (loaded : Result (Option (List ℕ)) ℕ) → ((bytes : List ℕ) → (answer : Answer) × over bytes answer) → (answer : Answer) × IsFileAnswer over name loaded answer
 files_have over name (Ok (Some bytes)) has = has bytes
@@ -67,6 +69,7 @@ commands_one : OneBoundaryListing → (command : Command) (bytes : List ℕ) (a 
 commands_one one (Show name) bytes a b e f = both a b _ e f
 commands_one one (Table name) bytes a b e f = both a b _ e f
 commands_one one (Cycles name) bytes a b e f = tables_one one name (table_of bytes) a b e f
+commands_one one (Swap name out) bytes a b e f = both a b _ e f
 
 files_one : (over : List ℕ → Answer → Type 0) (name : List ℕ) (loaded : Result (Option (List ℕ)) ℕ) (a b : Answer) → ((bytes : List ℕ) → over bytes a → over bytes b → a ≡ b) → IsFileAnswer over name loaded a → IsFileAnswer over name loaded b → a ≡ b
 files_one over name (Ok (Some bytes)) a b one e f = one bytes e f
@@ -77,6 +80,13 @@ pub one_answer : OneBoundaryListing → OneAnswer
 one_answer one None told a b e f = both a b _ e f
 one_answer one (Some command) None a b e f = absurd e
 one_answer one (Some command) (Some files) a b e f = files_one (AnswersOver command) (file_of command) (load_answer (files (file_of command)) file_limit) a b (λ bytes. commands_one one command bytes a b) e f
+
+-- usage makes no file, over every tree
+pub usage_makes_none : (command : Option Command) (told : Option Files) (reply : Answer) → command ≡ None → ((answer : Answer) → IsAnswer command told answer → IsAnswer command told reply) → reply.made ≡ []
+usage_makes_none command told reply none answers =
+    let given : IsAnswer command told usage_answer = subst (λ (k : Option Command). IsAnswer k told usage_answer) (sym none) refl in
+    let got : IsAnswer None told reply = subst (λ (k : Option Command). IsAnswer k told reply) none (answers usage_answer given) in
+    ap (λ (a : Answer). a.made) got
 
 -- ---- what is loaded
 

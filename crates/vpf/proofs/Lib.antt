@@ -1,3 +1,5 @@
 pub mod Filtering
+pub mod LastLetters
 pub mod Lines
+pub mod Telling
 pub mod Answering

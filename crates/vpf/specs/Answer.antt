@@ -1,21 +1,27 @@
 -- What is answered where nothing stops a run.
-use Rattle.std.specs.Prelude.{ℕ, List}
+use Rattle.std.specs.Prelude.{ℕ, List, []}
+use Rattle.vpf_source.specs.declared.file.File.{File}
 use Rattle.vpf.specs.declared.status.Verdict.{Verdict}
 use Rattle.vpf.specs.declared.status.Verdict.TheVariants.{Done, Refused, Usage, Limit}
 
--- how the run ends, and all that it prints
+-- how the run ends, all that it prints, and the files that it makes, in their order
 pub record Answer : Type 0 where
   pub verdict : Verdict
   pub text : List ℕ
+  pub made : List File
 
 abbrev pub done : List ℕ → Answer
-done text = record { verdict = Done; text = text }
+done text = record { verdict = Done; text = text; made = [] }
 
 abbrev pub refused : List ℕ → Answer
-refused text = record { verdict = Refused; text = text }
+refused text = record { verdict = Refused; text = text; made = [] }
 
 abbrev pub limited : List ℕ → Answer
-limited text = record { verdict = Limit; text = text }
+limited text = record { verdict = Limit; text = text; made = [] }
 
 abbrev pub misused : List ℕ → Answer
-misused text = record { verdict = Usage; text = text }
+misused text = record { verdict = Usage; text = text; made = [] }
+
+-- what is done by making files
+abbrev pub making : List ℕ → List File → Answer
+making text files = record { verdict = Done; text = text; made = files }

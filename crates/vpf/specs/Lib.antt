@@ -7,6 +7,7 @@ pub mod Show
 pub mod Check
 pub mod Disagreeing
 pub mod Cycling
+pub mod Swapping
 pub mod Commands
 pub mod Loading
 pub mod Deciding

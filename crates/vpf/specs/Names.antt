@@ -1,6 +1,6 @@
 -- The files that words name.
-use Rattle.std.specs.Prelude.{ℕ, ◌==◌, ◌&&◌, Bool, not, List, [], ◌∷◌, ◌++◌, filter, length, Option, Some, None, codes, nat_eq, if◌then◌else◌}
-use Rattle.std.specs.List.{flat_map, slice_split, starts_with}
+use Rattle.std.specs.Prelude.{ℕ, ◌-◌, ◌==◌, ◌&&◌, Bool, not, List, [], ◌∷◌, ◌++◌, filter, length, take, Option, Some, None, chars, codes, encode_utf8_all, nat_eq, if◌then◌else◌}
+use Rattle.std.specs.List.{flat_map, slice_split, starts_with, ends_with}
 use Rattle.std.specs.Str.{bytes_eq}
 
 abbrev pub slash : ℕ
@@ -35,3 +35,15 @@ named (b ∷ bs) = Some (b ∷ bs)
 -- the file that a word names: its parts, with a slash before them where it begins at the root; none where there are no parts
 abbrev pub file_name : List ℕ → Option (List ℕ)
 file_name word = named (root_of word ++ joined (parts_of word))
+
+-- a name whose last character is `x`
+abbrev pub ends_in_x : List ℕ → Bool
+ends_in_x name = ends_with nat_eq name (codes "x")
+
+-- the text without its last character
+abbrev pub without_last : List ℕ → List ℕ
+without_last text = encode_utf8_all (take (length (chars text) - 1) (chars text))
+
+-- the name of a table's variable-length index: the table's, with `x` for the last character (MIL-STD-2407, 5.2, names of files)
+abbrev pub index_name : List ℕ → List ℕ
+index_name name = without_last name ++ codes "x"

@@ -67,14 +67,14 @@ fn variable(alloc: Global, name: &str) -> Result<Reply, AllocError>
     let mut text = format!(in alloc; "refused variable ")?;
     put_printed(&mut text, name.as_bytes())?;
     text.push('\n')?;
-    Ok(Reply::new(Verdict::Refused, text))
+    Ok(Reply::new(alloc, Verdict::Refused, text))
 }
 
 fn table_cycles(alloc: Global, name: &str, table: &TableView<'_>) -> Result<Reply, AllocError>
     ensures { IfOk result (IsCyclesAnswer name.now table.now) }
 {
     match boundary_cycles(alloc, table) {
-        Ok(listing) => Ok(Reply::new(Verdict::Done, listing_text(alloc, &listing)?)),
+        Ok(listing) => Ok(Reply::new(alloc, Verdict::Done, listing_text(alloc, &listing)?)),
         Err(EdgeError::Varies) => variable(alloc, name),
         Err(EdgeError::Finding(finding)) => disagreement(alloc, name, &finding),
         Err(EdgeError::NoMemory) => Err(AllocError),
@@ -86,7 +86,7 @@ fn table_cycles(alloc: Global, name: &str, table: &TableView<'_>) -> Result<Repl
 pub fn cycles(alloc: Global, name: &str, bytes: &[u8]) -> Result<Reply, AllocError>
     ensures { IfOk result (IsTableAnswer (IsCyclesAnswer name.now) name.now (table_of bytes.now)) }
 {
-    match TableView::open(alloc, bytes) {
+    match TableView::open(alloc, bytes, None) {
         Ok(table) => table_cycles(alloc, name, &table),
         Err(PlaceError::Place(place)) => fault(alloc, name, place),
         Err(PlaceError::NoMemory) => Err(AllocError),

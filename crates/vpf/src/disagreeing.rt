@@ -87,5 +87,5 @@ pub fn disagreement(alloc: Global, name: &str, finding: &Finding<'_>) -> Result<
     text.push_str(": ")?;
     put_what(&mut text, finding)?;
     text.push_str("\n")?;
-    Ok(Reply::new(Verdict::Refused, text))
+    Ok(Reply::new(alloc, Verdict::Refused, text))
 }

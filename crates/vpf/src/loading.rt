@@ -11,6 +11,7 @@ use crate::status::Stop;
 use crate::texts::{limit, missing};
 use std::alloc::Global;
 use vpf_source::{LoadError, Tree, load};
+use vpf_table::Bound;
 
 /// The most bytes of a file.
 const FILE_LIMIT: u64 = 67_108_864;
@@ -35,9 +36,9 @@ fn answered(
     match loaded {
         Ok(Some(bytes)) => Ok(Loaded::Bytes(bytes)),
         Ok(None) => Ok(Loaded::Answered(missing(alloc, name)?)),
-        Err(LoadError::TooLarge { size }) => Ok(Loaded::Answered(limit(
-            alloc, "file", name, size,
-        )?)),
+        Err(LoadError::TooLarge { size }) => {
+            Ok(Loaded::Answered(limit(alloc, Bound::File, name, size)?))
+        }
         Err(LoadError::Failed) => Err(Stop::TreeFault),
         Err(LoadError::NoMemory) => Err(Stop::NoMemory),
     }

@@ -11,10 +11,13 @@ mod reply;
 mod running;
 mod showing;
 mod status;
+mod swapping;
 #[cfg(test)]
 mod tests;
 #[cfg(test)]
 mod tests_of_cycles;
+#[cfg(test)]
+mod tests_of_swaps;
 mod texts;
 
 use running::run;

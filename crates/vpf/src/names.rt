@@ -2,7 +2,7 @@
 
 ghost use Rattle.std.specs.Prelude.{◌≡◌, ◌==◌, ◌++◌, IfOk, OnOk, map, string_bytes};
 ghost use Rattle.std.specs.List.{slice_split};
-ghost use Rattle.vpf.specs.Names.{slash, is_part, joined, parts_of, file_name};
+ghost use Rattle.vpf.specs.Names.{slash, is_part, joined, parts_of, file_name, index_name};
 
 use std::alloc::{AllocError, Global};
 use vpf_source::Name;
@@ -60,4 +60,14 @@ pub fn file_name(alloc: Global, word: &str) -> Result<Option<Name>, AllocError>
         return Ok(None);
     }
     Ok(Some(Name::new(text)))
+}
+
+/// The name of a table's variable-length index: the table's, with `x` for the last character.
+pub fn index_name(alloc: Global, name: &str) -> Result<Name, AllocError>
+    ensures { IfOk result (λ index. index ≡ index_name name.now) }
+{
+    let mut text = String::from_str(alloc, name)?;
+    text.pop();
+    text.push('x')?;
+    Ok(Name::new(text))
 }

@@ -1,15 +1,18 @@
-//! What is to be printed.
+//! What is to be made and printed.
 
 ghost use Rattle.std.specs.Prelude.{◌≡◌};
 
 use crate::status::Verdict;
+use std::alloc::Global;
 use std::marker::Model;
+use vpf_source::File;
 
-/// How a run ends where nothing stops it, and all that it prints.
+/// How a run ends where nothing stops it, all that it prints, and the files that it makes before that.
 #[derive(Debug, Drop)]
 pub struct Reply {
     verdict: Verdict,
     text: String,
+    made: Vec<File>,
 }
 
 impl Model for Reply {
@@ -18,16 +21,32 @@ impl Model for Reply {
 
     ghost Value = { Answer };
 
-    ghost view = { λ r. record { verdict = r.verdict; text = string_bytes r.text } };
+    ghost view = { λ r. record { verdict = r.verdict; text = string_bytes r.text; made = r.made.items } };
 }
 
 impl Reply {
-    ghost use Rattle.std.specs.Prelude.{◌≡◌, string_bytes};
+    ghost use Rattle.std.specs.Prelude.{◌≡◌, [], string_bytes};
 
-    pub fn new(verdict: Verdict, text: String) -> Self
-        ensures { result ≡ record { verdict = verdict; text = string_bytes text } }
+    /// A reply that makes no file.
+    pub fn new(alloc: Global, verdict: Verdict, text: String) -> Self
+        ensures { result ≡ record { verdict = verdict; text = string_bytes text; made = [] } }
     {
-        Reply { verdict, text }
+        Reply {
+            verdict,
+            text,
+            made: Vec::new(alloc),
+        }
+    }
+
+    /// The reply of what is done by making these files.
+    pub fn making(text: String, made: Vec<File>) -> Self
+        ensures { result ≡ record { verdict = Verdict.Done; text = string_bytes text; made = made.items } }
+    {
+        Reply {
+            verdict: Verdict::Done,
+            text,
+            made,
+        }
     }
 
     pub fn verdict(&self) -> Verdict
@@ -40,5 +59,12 @@ impl Reply {
         ensures { result.now ≡ self.now.text }
     {
         self.text.as_str()
+    }
+
+    /// The files to be made, in their order.
+    pub fn made(&self) -> &[File]
+        ensures { result.now ≡ self.now.made }
+    {
+        &self.made
     }
 }

@@ -1,12 +1,12 @@
 //! The whole program, over any tree and any sink.
 
-ghost use Rattle.std.specs.Prelude.{◌≡◌, ◌≢◌, ◌≤◌, IfOk, IfSome, IsErrOf, None, map, string_bytes};
+ghost use Rattle.std.specs.Prelude.{◌≡◌, ◌≢◌, ◌≤◌, [], IfOk, IfSome, IsErrOf, None, is_some, map, string_bytes};
 ghost use Rattle.std.specs.Io.KnownBytes.{Keeps};
 ghost use Rattle.vpf_source.specs.Causes.{Rose};
 ghost use Rattle.vpf_source.specs.Writing.{TellsAsBefore};
 ghost use Rattle.vpf.specs.Answer.{Answer};
 ghost use Rattle.vpf.specs.Commands.{command_of, AnswersOver, IsAnswerTo, IsAnswer};
-ghost use Rattle.vpf.specs.Run.{Carries, IsCompleted};
+ghost use Rattle.vpf.specs.Run.{Carries, IsCompleted, Prints};
 
 use crate::command::{Command, read_command};
 use crate::cycling::cycles;
@@ -15,9 +15,10 @@ use crate::loading::{Loaded, load_file};
 use crate::reply::Reply;
 use crate::showing::{check, show};
 use crate::status::{Status, Stop};
+use crate::swapping::swap;
 use crate::texts::usage;
 use std::alloc::{AllocError, Global};
-use vpf_source::{DeviceError, Sink, Tree, put_all};
+use vpf_source::{DeviceError, Sink, Tree, make_all, put_all};
 
 /// The reply of a command over the bytes of its file.
 fn reply_over(alloc: Global, command: &Command, bytes: &[u8]) -> Result<Reply, AllocError>
@@ -27,6 +28,7 @@ fn reply_over(alloc: Global, command: &Command, bytes: &[u8]) -> Result<Reply, A
         Command::Show(name) => show(alloc, name.as_str(), bytes),
         Command::Table(name) => check(alloc, name.as_str(), bytes),
         Command::Cycles(name) => cycles(alloc, name.as_str(), bytes),
+        Command::Swap(name, out) => swap(alloc, name.as_str(), out.as_str(), bytes),
     }
 }
 
@@ -58,9 +60,9 @@ fn reply_to<T: Tree>(alloc: Global, words: &[String], tree: &mut T) -> Result<Re
     }
 }
 
-/// Prints a reply.
+/// Prints a reply, whose files are made.
 fn print_reply<O: Sink>(out: &mut O, reply: &Reply) -> Status
-    ensures carries { Carries reply.now result (O.written out.old) (O.written out.new) }
+    ensures prints { Prints reply.now result (O.written out.old) (O.written out.new) }
     ensures sink_fault { result ≡ Status.SinkFault → Rose (O.faults out.old) (O.faults out.new) }
     ensures no_tree_fault { result ≢ Status.TreeFault }
     ensures tells { TellsAsBefore (O.written out.old) (O.written out.new) }
@@ -73,12 +75,32 @@ fn print_reply<O: Sink>(out: &mut O, reply: &Reply) -> Status
     }
 }
 
+/// Makes the files of a reply, and prints it.
+fn carry_out<T: Tree, O: Sink>(tree: &mut T, out: &mut O, reply: &Reply) -> Status
+    ensures carries { Carries reply.now result (record { files = T.files tree.old; written = O.written out.old }) (record { files = T.files tree.new; written = O.written out.new }) }
+    ensures tree_fault { result ≡ Status.TreeFault → Rose (T.faults tree.old) (T.faults tree.new) }
+    ensures sink_fault { result ≡ Status.SinkFault → Rose (O.faults out.old) (O.faults out.new) }
+    ensures makes_none { reply.now.made ≡ [] → result ≢ Status.TreeFault }
+    ensures silent { result ≡ Status.TreeFault → Keeps (O.written out.old) (O.written out.new) }
+    ensures tells { TellsAsBefore (O.written out.old) (O.written out.new) }
+    ensures tells_files { is_some (T.files tree.new) ≡ is_some (T.files tree.old) }
+    ensures tree_later { T.faults tree.old ≤ T.faults tree.new }
+    ensures sink_later { O.faults out.old ≤ O.faults out.new }
+{
+    match make_all(tree, reply.made()) {
+        Ok(()) => print_reply(out, reply),
+        Err(DeviceError::Failed) => Status::TreeFault,
+        Err(DeviceError::NoMemory) => Status::NoMemory,
+    }
+}
+
 /// Does what the words ask, over the files of a tree, and prints the answer to a sink. The words are those after the
-/// program's name. All text is composed before its first byte is written.
+/// program's name. All files and all text are composed before the first file is made, and all files are made before the
+/// first byte of the text is written.
 pub fn run<T: Tree, O: Sink>(alloc: Global, words: &[String], tree: &mut T, out: &mut O) -> Status
-    // Where the tree tells its files, status and text are those of the answer, as far as no fault ended the run.
+    // Where the tree tells its files, status, files and text are those of the answer, as far as no fault ended the run.
     ensures answer { (answer : Answer) → IsAnswer (command_of (map string_bytes words.now)) (T.files tree.old) answer
-        → Carries answer result (O.written out.old) (O.written out.new) }
+        → Carries answer result (record { files = T.files tree.old; written = O.written out.old }) (record { files = T.files tree.new; written = O.written out.new }) }
 
     // A fault is answered only where its count rose in this call; where neither rose, the run is completed.
     ensures tree_fault { result ≡ Status.TreeFault → Rose (T.faults tree.old) (T.faults tree.new) }
@@ -89,14 +111,14 @@ pub fn run<T: Tree, O: Sink>(alloc: Global, words: &[String], tree: &mut T, out:
     // These hold over every tree.
     ensures usage { command_of (map string_bytes words.now) ≡ None → result ≢ Status.TreeFault }
     ensures silent { result ≡ Status.TreeFault → Keeps (O.written out.old) (O.written out.new) }
-    ensures files { T.files tree.new ≡ T.files tree.old }
     ensures tells { TellsAsBefore (O.written out.old) (O.written out.new) }
+    ensures tells_files { is_some (T.files tree.new) ≡ is_some (T.files tree.old) }
     ensures tree_later { T.faults tree.old ≤ T.faults tree.new }
     ensures sink_later { O.faults out.old ≤ O.faults out.new }
 {
     one_answer();
     match reply_to(alloc, words, tree) {
-        Ok(reply) => print_reply(out, &reply),
+        Ok(reply) => carry_out(tree, out, &reply),
         Err(Stop::TreeFault) => Status::TreeFault,
         Err(Stop::NoMemory) => Status::NoMemory,
     }

@@ -162,8 +162,8 @@ fn show_text(alloc: Global, table: &TableView<'_>) -> Result<String, AllocError>
 pub fn show(alloc: Global, name: &str, bytes: &[u8]) -> Result<Reply, AllocError>
     ensures { IfOk result (λ reply. reply ≡ show_answer name.now bytes.now) }
 {
-    match TableView::open(alloc, bytes) {
-        Ok(table) => Ok(Reply::new(Verdict::Done, show_text(alloc, &table)?)),
+    match TableView::open(alloc, bytes, None) {
+        Ok(table) => Ok(Reply::new(alloc, Verdict::Done, show_text(alloc, &table)?)),
         Err(PlaceError::Place(place)) => fault(alloc, name, place),
         Err(PlaceError::NoMemory) => Err(AllocError),
     }
@@ -173,12 +173,12 @@ pub fn show(alloc: Global, name: &str, bytes: &[u8]) -> Result<Reply, AllocError
 pub fn check(alloc: Global, name: &str, bytes: &[u8]) -> Result<Reply, AllocError>
     ensures { IfOk result (λ reply. reply ≡ table_answer name.now bytes.now) }
 {
-    match TableView::open(alloc, bytes) {
+    match TableView::open(alloc, bytes, None) {
         Ok(table) => {
             let rows = table.len();
             let columns = table.header().len();
             let text = format!(in alloc; "accepted rows {rows} columns {columns}\n")?;
-            Ok(Reply::new(Verdict::Done, text))
+            Ok(Reply::new(alloc, Verdict::Done, text))
         }
         Err(PlaceError::Place(place)) => fault(alloc, name, place),
         Err(PlaceError::NoMemory) => Err(AllocError),

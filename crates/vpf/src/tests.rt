@@ -105,7 +105,7 @@ const NO_COMMANDS: [&[&str]; 11] = [
     &["t.tab", "show"],
     &["table"],
     &["--help"],
-    &["swap", "t.tab", "u.tab"],
+    &["tile", "lib", "cov", "out"],
 ];
 
 fn words_of(alloc: Global, words: &[&str]) -> Result<Vec<String>, AllocError> {

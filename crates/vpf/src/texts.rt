@@ -1,6 +1,7 @@
 //! The printed lines of what isn't done.
 
 ghost use Rattle.std.specs.Prelude.{◌≡◌, IfOk, codes, string_bytes};
+ghost use Rattle.vpf_table.specs.Limits.{bound_text};
 ghost use Rattle.vpf.specs.Answer.{refused, limited, misused};
 ghost use Rattle.vpf.specs.Texts.{usage_text, missing_text, refused_text, limit_text};
 ghost use Rattle.vpf.specs.Tables.{fault_answer};
@@ -9,6 +10,7 @@ ghost use Rattle.vpf.specs.Commands.{usage_answer};
 use crate::reply::Reply;
 use crate::status::Verdict;
 use std::alloc::{AllocError, Global};
+use vpf_table::Bound;
 use vpf_text::put_printed;
 use vpf_triplet::{Code, Place};
 
@@ -16,7 +18,7 @@ use vpf_triplet::{Code, Place};
 pub fn usage(alloc: Global) -> Result<Reply, AllocError>
     ensures { IfOk result (λ reply. reply ≡ usage_answer) }
 {
-    Ok(Reply::new(Verdict::Usage, format!(in alloc; "usage\n")?))
+    Ok(Reply::new(alloc, Verdict::Usage, format!(in alloc; "usage\n")?))
 }
 
 /// The reply where a file is absent.
@@ -26,17 +28,17 @@ pub fn missing(alloc: Global, name: &str) -> Result<Reply, AllocError>
     let mut text = format!(in alloc; "refused missing ")?;
     put_printed(&mut text, name.as_bytes())?;
     text.push('\n')?;
-    Ok(Reply::new(Verdict::Refused, text))
+    Ok(Reply::new(alloc, Verdict::Refused, text))
 }
 
 /// The reply where a bound is passed.
-pub fn limit(alloc: Global, bound: &str, name: &str, found: u64) -> Result<Reply, AllocError>
-    ensures { IfOk result (λ reply. reply ≡ limited (limit_text bound.now name.now found)) }
+pub fn limit(alloc: Global, bound: Bound, name: &str, found: u64) -> Result<Reply, AllocError>
+    ensures { IfOk result (λ reply. reply ≡ limited (limit_text (bound_text bound) name.now found)) }
 {
     let mut text = format!(in alloc; "limit {bound} ")?;
     put_printed(&mut text, name.as_bytes())?;
     write!(text, " {found}\n")?;
-    Ok(Reply::new(Verdict::Limit, text))
+    Ok(Reply::new(alloc, Verdict::Limit, text))
 }
 
 fn refusal(alloc: Global, name: &str, place: Place) -> Result<Reply, AllocError>
@@ -46,7 +48,7 @@ fn refusal(alloc: Global, name: &str, place: Place) -> Result<Reply, AllocError>
     let mut text = format!(in alloc; "refused {code} ")?;
     put_printed(&mut text, name.as_bytes())?;
     write!(text, " at {at}\n")?;
-    Ok(Reply::new(Verdict::Refused, text))
+    Ok(Reply::new(alloc, Verdict::Refused, text))
 }
 
 /// The reply to the first fault of a file.
@@ -54,10 +56,10 @@ pub fn fault(alloc: Global, name: &str, place: Place) -> Result<Reply, AllocErro
     ensures { IfOk result (λ reply. reply ≡ fault_answer name.now place) }
 {
     match place.code {
-        Code::LimitHeader(found) => limit(alloc, "header", name, found),
-        Code::LimitColumns(found) => limit(alloc, "columns", name, found),
-        Code::LimitName(found) => limit(alloc, "name", name, found),
-        Code::LimitRows(found) => limit(alloc, "rows", name, found),
+        Code::LimitHeader(found) => limit(alloc, Bound::Header, name, found),
+        Code::LimitColumns(found) => limit(alloc, Bound::Columns, name, found),
+        Code::LimitName(found) => limit(alloc, Bound::Name, name, found),
+        Code::LimitRows(found) => limit(alloc, Bound::Rows, name, found),
         _ => refusal(alloc, name, place),
     }
 }

@@ -62,7 +62,7 @@ fn told(alloc: Global, finding: &Finding<'_>) -> Result<String, Fail> {
 
 fn answer(alloc: Global, columns: &str, rows: &[[i32; 7]]) -> Result<String, Fail> {
     let bytes = table_of(alloc, columns, rows)?;
-    let table = TableView::open(alloc, &bytes)?;
+    let table = TableView::open(alloc, &bytes, None)?;
     match boundary_cycles(alloc, &table) {
         Ok(listing) => Ok(lines_of(alloc, &listing)?),
         Err(EdgeError::Finding(finding)) => told(alloc, &finding),

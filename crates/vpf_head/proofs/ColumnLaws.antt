@@ -263,7 +263,7 @@ grouped name kind count letter description values theme end rest = sym (simp app
 length-item : (w : List ℕ) (x : ℕ) (rest : List ℕ) (n : ℕ) → length rest ≡ n → length (w ++ x ∷ rest) ≡ length w + 1 + n
 length-item w x rest n e = omega (arith, length-append w (x ∷ rest))
 
-measured : (name kind count : List ℕ) (letter : ℕ) (description values theme end : List ℕ) → length (spelled name kind count letter description values theme end)
+pub measured : (name kind count : List ℕ) (letter : ℕ) (description values theme end : List ℕ) → length (spelled name kind count letter description values theme end)
     ≡ length name + 1 + (length kind + 1 + (length count + 1 + (1 + 1 + (length description + 1 + (length values + 1 + (length theme + length end))))))
 measured name kind count letter description values theme end =
     length-item name equals _ _ (length-item kind comma _ _ (length-item count comma _ _ (length-item (letter ∷ []) comma _ _ (length-item description comma _ _ (length-item values comma _ _ (length-append theme end))))))

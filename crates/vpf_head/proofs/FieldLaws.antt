@@ -1,11 +1,12 @@
 -- The values of items that are read are spelled by them, and the values of items that are spelled are read.
-use Rattle.std.proofs.Common.{◌≡◌, ℕ, zero, suc, ◌<◌, ◌≤◌, Bool, true, false, not, cond, nat_eq, List, [], ◌∷◌, ◌++◌, length, Some, None, refl, ap, subst, ◌∙◌, arith, inl, inr, rules}
+use Rattle.std.proofs.Common.{◌≡◌, ℕ, zero, suc, ◌<◌, ◌≤◌, Bool, true, false, not, cond, nat_eq, List, [], ◌∷◌, ◌++◌, length, Some, None, refl, sym, ap, subst, ◌∙◌, arith, inl, inr, rules}
 use Rattle.std.specs.Prelude.{◌&&◌, nat_le, replicate, bytes_eq, codes as text}
 use Rattle.std.specs.Char.{digit_value, is_ascii_digit, is_ascii_uppercase, is_ascii_control}
 use Rattle.std.specs.List.{list_all, find}
 use Rattle.std.specs.Str.Parse.{AllDigits, IsNumeral, digits_value}
 use Rattle.std.proofs.lemmas.Bool.{leb-true, lt-leb, eqb-true, ne_eqb, eqb-false, le-leb}
 use Rattle.std.proofs.lemmas.List.Folds.{list_any-append}
+use Rattle.std.proofs.lemmas.Str.{encode_ascii}
 use Rattle.std.proofs.lemmas.Str.Parse.{IsNumeralModel, numerals_by_value, digit_from_value}
 use Rattle.vpf_triplet.specs.declared.kinds.Kind.{Kind}
 use Rattle.vpf_triplet.specs.declared.kinds.Kind.TheVariants as kinds
@@ -16,7 +17,7 @@ use Rattle.vpf_head.specs.declared.columns.Key.{Key}
 use Rattle.vpf_head.specs.declared.columns.Key.TheVariants.{Primary, Unique, Many, Other}
 use Rattle.vpf_head.specs.declared.items.Form.TheVariants.{Field}
 use Rattle.vpf_head.specs.Bytes.{space, star}
-use Rattle.vpf_head.specs.Fields.{every_kind, kind_of, letter_key, key_of, after_spaces, most_values, digits_count, bare_count, count_in}
+use Rattle.vpf_head.specs.Fields.{every_kind, kind_of, letter_key, key_text, key_of, after_spaces, most_values, digits_count, bare_count, count_in}
 use Rattle.vpf_head.specs.Forms.{is_stop}
 use Rattle.vpf_head.specs.Spelling.{IsText, IsBareCount, IsCount}
 use Rattle.vpf_head.proofs.Binding.{both, tested}
@@ -51,7 +52,7 @@ find_passes test (x ∷ ks) k e = elim (tested (test x) (Some x) (find test ks) 
   | inr t ↦ find_passes test ks k t.1
 ]
 
-same_bytes : (xs ys : List ℕ) → bytes_eq xs ys ≡ true → xs ≡ ys
+pub same_bytes : (xs ys : List ℕ) → bytes_eq xs ys ≡ true → xs ≡ ys
 same_bytes [] [] e = refl
 same_bytes [] (y ∷ ys) e = absurd cc
 same_bytes (x ∷ xs) [] e = absurd cc
@@ -86,6 +87,25 @@ letter_upper b k e = elim (tested (bytes_eq (b ∷ []) (text "P")) (Some Primary
     ]
   ]
 ]
+
+pub letter_text : (b : ℕ) (k : Key) → letter_key b ≡ Some k → key_text k ≡ b ∷ []
+letter_text b k e = elim (tested (bytes_eq (b ∷ []) (text "P")) (Some Primary) _ (Some k) e) [
+  | inl t ↦ let q = t.1 in let z : Primary ≡ k = cc in subst (λ (x : Key). key_text x ≡ b ∷ []) z (ap (λ (x : ℕ). x ∷ []) (sym (single b 80 t.0)))
+  | inr t ↦ elim (tested (bytes_eq (b ∷ []) (text "U")) (Some Unique) _ (Some k) t.1) [
+    | inl u ↦ let q = u.1 in let z : Unique ≡ k = cc in subst (λ (x : Key). key_text x ≡ b ∷ []) z (ap (λ (x : ℕ). x ∷ []) (sym (single b 85 u.0)))
+    | inr u ↦ elim (tested (bytes_eq (b ∷ []) (text "N")) (Some Many) _ (Some k) u.1) [
+      | inl v ↦ let q = v.1 in let z : Many ≡ k = cc in subst (λ (x : Key). key_text x ≡ b ∷ []) z (ap (λ (x : ℕ). x ∷ []) (sym (single b 78 v.0)))
+      | inr v ↦ elim (tested (is_ascii_uppercase b) (Some (Other b)) None (Some k) v.1) [
+        | inl y ↦ let q = y.1 in let z : Other b ≡ k = cc in subst (λ (x : Key). key_text x ≡ b ∷ []) z (encode_ascii b (let r = upper b y.0 in omega (arith, r.1)))
+        | inr y ↦ absurd (let q = y.1 in cc)
+      ]
+    ]
+  ]
+]
+
+-- the letter of a key that was read is read as the key
+pub key_back : (b : ℕ) (k : Key) → letter_key b ≡ Some k → key_of (key_text k) ≡ Some k
+key_back b k e = ap key_of (letter_text b k e) ∙ e
 
 pub key_takes : (item : List ℕ) (k : Key) → key_of item ≡ Some k → (letter : ℕ) × (item ≡ letter ∷ []) × (letter_key letter ≡ Some k)
 key_takes [] k e = absurd cc

@@ -119,7 +119,7 @@ nowhere_by p xs false e f = none_passes p xs e
 pub nowhere : {X : Type 0} (p : X → Bool) (xs : List X) → position p xs ≡ None → list_any p xs ≡ false
 nowhere p xs e = nowhere_by p xs (ltb (position_or_len p xs) (length xs)) refl e
 
-passes_nowhere : (p : ℕ → Bool) (xs : List ℕ) → list_any p xs ≡ false → position_or_len p xs ≡ length xs
+pub passes_nowhere : {X : Type 0} (p : X → Bool) (xs : List X) → list_any p xs ≡ false → position_or_len p xs ≡ length xs
 passes_nowhere p [] e = refl
 passes_nowhere p (x ∷ xs) e =
     let t = neither (p x) (list_any p xs) e in

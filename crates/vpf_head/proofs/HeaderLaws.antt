@@ -19,7 +19,7 @@ use Rattle.vpf_head.proofs.TextLaws.{mark_again, head_again, head_takes, head_lo
 
 -- ---- numbers
 
-four_long : (o : Order) (n : ℕ) → length (number o w32 n) ≡ 4
+pub four_long : (o : Order) (n : ℕ) → length (number o w32 n) ≡ 4
 four_long Little n = refl
 four_long Big n = refl
 
@@ -88,6 +88,7 @@ order_cut m bytes h =
 -- a header that was taken from bytes
 pub record TakesHeader (h : Head) (past : ℕ) (bytes : List ℕ) : Type 0 where
   pub inside : past ≤ length bytes
+  pub order_is : h.order ≡ order_of bytes
   pub size : past ≡ 4 + number_of h.order w32 bytes
   pub short : number_of h.order w32 bytes ≤ longest_text
   pub is : IsHeaderText h (take (number_of h.order w32 bytes) (drop 4 bytes))
@@ -103,6 +104,7 @@ text_takes bytes m h past inside short num e =
     let size : number_of h.order w32 bytes ≡ m = ap (λ (x : Order). number_of x w32 bytes) o ∙ num in
     record {
       inside = omega (arith, t.1, len);
+      order_is = o;
       size = t.1 ∙ len ∙ ap (λ (x : ℕ). 4 + x) (sym size);
       short = rw size short;
       is = rw size (subst (IsHeaderText h) (drop-take 4 m bytes) t.0.is);

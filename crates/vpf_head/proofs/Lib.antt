@@ -9,6 +9,8 @@ pub mod HeadLaws
 pub mod TextLaws
 pub mod HeaderLaws
 pub mod SoundLaws
+pub mod Canonicals
+pub mod Makings
 pub mod Decided
 pub mod FaultLaws
 pub mod ColumnFaults

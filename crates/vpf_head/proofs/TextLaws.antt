@@ -144,7 +144,7 @@ text_spans text order at description narrative columns past m dt d nt n c filled
       order_is = refl;
     }
 
-mark_past : (marked : Bool) → 4 ≤ cond marked 6 4
+pub mark_past : (marked : Bool) → 4 ≤ cond marked 6 4
 mark_past true = omega arith
 mark_past false = omega arith
 

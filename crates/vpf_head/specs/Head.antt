@@ -1,5 +1,5 @@
 -- What a header says (MIL-STD-2407, 5.4, table header).
-use Rattle.std.specs.Prelude.{ℕ, List, Option, Bool, true, false, position, map, ◌||◌}
+use Rattle.std.specs.Prelude.{ℕ, zero, suc, List, [], ◌∷◌, Option, Bool, true, false, position, map, ◌||◌}
 use Rattle.std.specs.List.{list_any}
 use Rattle.vpf_triplet.specs.declared.orders.Order.{Order}
 use Rattle.vpf_triplet.specs.declared.kinds.Kind.{Kind}
@@ -61,3 +61,16 @@ varies column = is_triplet column.kind || is_star column.count
 -- the rows of a table with these columns may have other lengths
 abbrev pub varies_in : List Col → Bool
 varies_in columns = list_any varies columns
+
+-- a kind whose cells can name a row: a number, or a triplet id
+abbrev pub names_rows : Kind → Bool
+names_rows kinds.S = true
+names_rows kinds.I = true
+names_rows kinds.K = true
+names_rows kind = false
+
+-- the columns, where the one at this position, from 0, holds cells of this kind
+abbrev pub with_kind : ℕ → Kind → List Col → List Col
+with_kind c kind [] = []
+with_kind zero kind (column ∷ columns) = record column { kind = kind } ∷ columns
+with_kind (suc c) kind (column ∷ columns) = column ∷ with_kind c kind columns

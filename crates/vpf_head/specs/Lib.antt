@@ -7,7 +7,9 @@ pub mod Texts
 pub mod Items
 pub mod Reading
 pub mod Spelling
+pub mod Canonical
 pub mod Soundness
+pub mod Making
 pub mod Deciding
 pub mod Faults
 pub mod Views

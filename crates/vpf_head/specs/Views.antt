@@ -1,11 +1,13 @@
 -- What contracts see of the types of the code.
-use Rattle.std.specs.Prelude.{◌≡◌, List, [], ◌∷◌, map, Bool}
+use Rattle.std.specs.Prelude.{◌≡◌, ℕ, List, [], ◌∷◌, Option, map, Bool}
 use Rattle.std.specs.Option.{option_copied}
 use Rattle.indexmap.specs.IndexMap.{values}
+use Rattle.vpf_triplet.specs.declared.orders.Order.{Order}
 use Rattle.vpf_head.specs.declared.names.ColumnName.{ColumnName}
 use Rattle.vpf_head.specs.declared.columns.Column.{Column}
 use Rattle.vpf_head.specs.declared.items.Item.{Item as LentItem}
 use Rattle.vpf_head.specs.declared.headers.Header.TheInside.{Inside}
+use Rattle.vpf_head.specs.declared.making.Parts.{Parts}
 use Rattle.vpf_head.specs.Folding.{same_name}
 use Rattle.vpf_head.specs.Head.{Head, Col}
 use Rattle.vpf_head.specs.Items.{Item}
@@ -22,6 +24,14 @@ col c = record { name = c.name.now; kind = c.kind; count = c.count; key = c.key;
 -- the parts of a header
 abbrev pub head_of : Inside → Head
 head_of h = record { order = h.order; description = h.description.now; narrative = option_copied h.narrative; columns = map col (values h.columns) }
+
+-- the header of these parts
+abbrev pub head_of_parts : Order → List ℕ → Option (List ℕ) → List Column → Head
+head_of_parts order description narrative columns = record { order = order; description = description; narrative = narrative; columns = map col columns }
+
+-- the header of the parts that are given
+abbrev pub head_given : Parts → Head
+head_given parts = head_of_parts parts.order parts.description.now (option_copied parts.narrative) parts.columns.now
 
 -- each column stands under its own name
 abbrev pub AreNamed : List (ColumnName × Column) → Type 0

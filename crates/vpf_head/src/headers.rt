@@ -1,28 +1,32 @@
 //! The header of a table.
 
-ghost use Rattle.std.specs.Prelude.{◌≡◌, ◌<◌, ◌≤◌, ◌||◌, not, IfOk, IfSome, Some, map, length, position, slice_get};
+ghost use Rattle.std.specs.Prelude.{◌≡◌, ◌+◌, ◌<◌, ◌≤◌, ◌++◌, ◌||◌, not, IfOk, IfSome, OnOk, Some, map, length, position, take, vec_len};
 ghost use Rattle.std.specs.List.{list_any};
 ghost use Rattle.indexmap.specs.IndexMap.{values, index_map_len};
 ghost use Rattle.vpf_triplet.specs.Places.{Gives, Answers};
-ghost use Rattle.vpf_head.specs.Head.{is_data, is_triplet, is_star};
+ghost use Rattle.vpf_head.specs.Canonical.{canonical_header, canonical_text};
+ghost use Rattle.vpf_head.specs.Head.{is_data, is_triplet, is_star, with_kind};
+ghost use Rattle.vpf_head.specs.Making.{new_of};
 ghost use Rattle.vpf_head.specs.Reading.{end_at, after_mark, order_of, head_at, header_of};
-ghost use Rattle.vpf_head.specs.Texts.{is_blank};
-ghost use Rattle.vpf_head.specs.Views.{col};
+ghost use Rattle.vpf_head.specs.Texts.{is_blank, longest_text};
+ghost use Rattle.vpf_head.specs.Views.{col, head_given, AreNamed};
 
 use crate::columns::Column;
 use crate::fields::present;
 use crate::items::{Form, name_at, text_at};
+use crate::making::{Parts, columns_of, file_of, next_after_name, next_after_text, past_columns};
 use crate::names::ColumnName;
-use crate::reading::{Columns, columns_at};
-use std::alloc::Global;
+use crate::reading::{Columns, LONGEST_TEXT, column_of, columns_at};
+use crate::writing::{columns_len, name_len, put_columns, put_item, put_start};
+use std::alloc::{AllocError, Global};
 use std::marker::Model;
 use vpf_triplet::{Code, Count, Kind, Order, Place, PlaceError};
 
 /// How many bytes the length number has.
 const NUMBER_BYTES: usize = 4;
 
-/// The longest header text.
-const LONGEST_TEXT: u32 = 65_536;
+/// How many bytes the mark of an order has.
+const MARK_BYTES: usize = 2;
 
 /// The header of a table: the order of its numbers, its description, the name of its narrative table and its columns.
 #[derive(Drop)]
@@ -90,7 +94,7 @@ fn after_mark(text: &[u8]) -> usize
 {
     let rest = &text[NUMBER_BYTES..];
     if rest.starts_with(b"L;") || rest.starts_with(b"M;") {
-        NUMBER_BYTES + 2
+        NUMBER_BYTES + MARK_BYTES
     } else {
         NUMBER_BYTES
     }
@@ -115,7 +119,8 @@ fn head_at<'a>(
     order: Order,
     text: &'a [u8],
 ) -> Result<(Header<'a>, usize), PlaceError>
-    requires { 4 ≤ length text.now }
+    requires framed { 4 ≤ length text.now }
+    requires short { length text.now ≤ 4 + longest_text }
     ensures exact { Answers (λ r. r) result (head_at order text.now) }
     ensures inside { IfOk result (λ r. r.1 ≤ length text.now) }
 {
@@ -156,13 +161,6 @@ fn header_at<'a>(alloc: Global, bytes: &'a [u8]) -> Result<(Header<'a>, usize), 
     head_at(alloc, order, &bytes[..end])
 }
 
-fn column_of<'m, 'a>(columns: &'m Columns<'a>, c: usize) -> &'m Column<'a>
-    requires { c < index_map_len columns.now }
-    ensures { slice_get (values columns.now) c ≡ Some result.now }
-{
-    columns.get_index(c).unwrap().1
-}
-
 fn is_triplet(kind: Kind) -> bool
     ensures { result ≡ is_triplet kind }
 {
@@ -183,16 +181,60 @@ fn varies(columns: &Columns<'_>) -> bool
         .any(|column| is_triplet(column.kind) || is_star(column.count))
 }
 
+/// Refuses parts whose canonical text is refused, or read as other parts.
+#[tactic(auto, unfolding(crate::specs::Making::new_of, crate::specs::Making::read_as_given))]
+fn check_parts(alloc: Global, parts: &Parts<'_, '_>) -> Result<(), PlaceError>
+    ensures { Answers (λ _. head_given parts.now) result (new_of (head_given parts.now)) }
+{
+    let file = file_of(alloc, parts)?;
+    let (read, _) = header_at(alloc, &file)?;
+    let narrative = next_after_text(
+        NUMBER_BYTES + MARK_BYTES,
+        parts.description,
+        read.description,
+    )?;
+    let columns = next_after_name(narrative, parts.narrative, read.narrative)?;
+    past_columns(columns, parts.columns, &read.columns)?;
+    Ok(())
+}
+
+/// Appends the length number and the canonical text; after an error some of it may stand behind what stood there.
+#[tactic(auto, unfolding(crate::specs::Canonical::canonical_text))]
+fn put_header(header: &Header<'_>, out: &mut Vec<u8>) -> Result<(), AllocError>
+    requires { length (canonical_text header.now) ≤ longest_text }
+    ensures ok { OnOk result (out.new.items ≡ out.old.items ++ canonical_header header.now) }
+    ensures kept { take (vec_len out.old) out.new.items ≡ out.old.items }
+{
+    header.order.put_u32(header.text_len() as u32, out)?;
+    put_start(header.order, header.description, header.narrative, out)?;
+    put_columns(&header.columns, out)?;
+    put_item(b"", b";", out)
+}
+
+fn set_kind(columns: &mut Columns<'_>, c: usize, kind: Kind)
+    requires within { c < index_map_len columns.old }
+    requires named { AreNamed columns.old.entries }
+    ensures columns { map col (values columns.new) ≡ with_kind c kind (map col (values columns.old)) }
+    ensures named { AreNamed columns.new.entries }
+{
+    let (_, column) = columns.pair_mut(c);
+    column.kind = kind;
+}
+
 impl<'a> Header<'a> {
-    ghost use Rattle.std.specs.Prelude.{◌≡◌, ◌<◌, ◌≤◌, ℕ, List, IfOk, slice_get, length, take, Some, Ok};
+    ghost use Rattle.std.specs.Prelude.{◌≡◌, ◌<◌, ◌≤◌, ◌++◌, ℕ, List, IfOk, IfSome, IsTrue, OnOk, OnErr, slice_get, length, take, Some, Ok};
     ghost use Rattle.std.specs.Option.{option_copied};
+    ghost use Rattle.vpf_triplet.specs.declared.kinds.Count.TheVariants.{Fixed};
     ghost use Rattle.vpf_triplet.specs.Places.{Answers};
+    ghost use Rattle.vpf_head.specs.Canonical.{canonical_header, canonical_text};
     ghost use Rattle.vpf_head.specs.Deciding.{Begins};
-    ghost use Rattle.vpf_head.specs.Head.{Head, place_of, varies_in};
+    ghost use Rattle.vpf_head.specs.Head.{Head, names_rows, place_of, varies_in, with_kind};
+    ghost use Rattle.vpf_head.specs.Making.{new_of};
     ghost use Rattle.vpf_head.specs.Reading.{header_of};
     ghost use Rattle.vpf_head.specs.Soundness.{IsSound};
     ghost use Rattle.vpf_head.specs.Spelling.{IsHeader};
-    ghost use Rattle.vpf_head.specs.Views.{col};
+    ghost use Rattle.vpf_head.specs.Texts.{longest_text};
+    ghost use Rattle.vpf_head.specs.Views.{col, head_of_parts};
 
     /// The header of a file, and the offset of its first row in bytes. Refused exactly where the file begins with no
     /// spelling of a header, at the first fault from left to right: the length number, then the text item by item
@@ -208,6 +250,41 @@ impl<'a> Header<'a> {
         ensures inside { IfOk result (λ r. r.1 ≤ length bytes.now) }
     {
         header_at(alloc, bytes)
+    }
+
+    /// The header of these parts. Refused exactly where the file of their canonical text would be, at its place there, and
+    /// where that text would be read as other parts: `item-separator` at the item of the first part that differs, as of a
+    /// narrative `-`, which says that there is none. A text of more than 65,536 bytes is `limit-header` at 0.
+    pub fn new(
+        alloc: Global,
+        order: Order,
+        description: &'a [u8],
+        narrative: Option<&'a [u8]>,
+        columns: Vec<Column<'a>>,
+    ) -> Result<Header<'a>, PlaceError>
+        // The header has these parts.
+        ensures made { IfOk result (λ h. h ≡ head_of_parts order description.now (option_copied narrative.entry) columns.entry.items) }
+        // Its file spells it.
+        ensures spelled { IfOk result (λ h. IsHeader h (canonical_header h)) }
+        // Parts that their file spells are not refused.
+        ensures only { let given = head_of_parts order description.now (option_copied narrative.entry) columns.entry.items in IsHeader given (canonical_header given) → Answers (λ h. h) result (Ok given) }
+        // The header, or the fault of its file, or the first part that differs.
+        ensures exact { Answers (λ h. h) result (new_of (head_of_parts order description.now (option_copied narrative.entry) columns.entry.items)) }
+    {
+        let parts = Parts {
+            order,
+            description,
+            narrative,
+            columns: &columns,
+        };
+        check_parts(alloc, &parts)?;
+        let columns = columns_of(alloc, &columns)?;
+        Ok(Header {
+            order,
+            description,
+            narrative,
+            columns,
+        })
     }
 
     /// The order of the table's numbers.
@@ -260,5 +337,55 @@ impl<'a> Header<'a> {
         ensures { result ≡ varies_in self.now.columns }
     {
         varies(&self.columns)
+    }
+
+    /// How many bytes the canonical text has: that of `write`, in either order.
+    pub fn text_len(&self) -> u64
+        ensures { result ≡ length (canonical_text self.now) }
+    {
+        // The mark of the order, the `;` of the description and the narrative, and that behind the columns.
+        let start = self.description.len() + name_len(self.narrative) + 4;
+        (start + columns_len(&self.columns) + 1) as u64
+    }
+
+    /// Appends the length number and the canonical text: each item as it is, `-` for an absent name, and a narrative for
+    /// each column. After an error nothing is appended.
+    pub fn write(&self, out: &mut Vec<u8>) -> Result<(), AllocError>
+        // The text has at most 65,536 bytes.
+        requires { length (canonical_text self.now) ≤ longest_text }
+        ensures ok { OnOk result (out.new.items ≡ out.old.items ++ canonical_header self.now) }
+        ensures err { OnErr result (out.new.items ≡ out.old.items) }
+    {
+        let before = out.len();
+        if put_header(self, out).is_err() {
+            out.truncate(before);
+            return Err(AllocError);
+        }
+        Ok(())
+    }
+
+    /// Gives the column at this position, from 0, another kind: one that names rows, in a column of one value. Nothing
+    /// else changes.
+    pub fn set_kind(&mut self, c: usize, kind: Kind)
+        requires within { c < length self.old.columns }
+        requires one { IfSome (slice_get self.old.columns c) (λ column. column.count ≡ Fixed 1) }
+        // S, I or K.
+        requires kind { IsTrue (names_rows kind) }
+        ensures { self.new ≡ record self.old { columns = with_kind c kind self.old.columns } }
+    {
+        set_kind(&mut self.columns, c, kind);
+    }
+
+    /// A header of its own that differs from this one in the order alone.
+    pub fn with_order(&self, order: Order) -> Result<Header<'a>, AllocError>
+        ensures { IfOk result (λ h. h ≡ record self.now { order = order }) }
+    {
+        let columns = self.columns.clone()?;
+        Ok(Header {
+            order,
+            description: self.description,
+            narrative: self.narrative,
+            columns,
+        })
     }
 }

@@ -6,10 +6,12 @@ mod fields;
 mod headers;
 mod items;
 pub mod laws;
+mod making;
 mod names;
 mod reading;
 #[cfg(test)]
 mod tests;
+mod writing;
 
 pub use columns::{Column, Key};
 pub use headers::Header;

@@ -1,8 +1,8 @@
 //! Reading column definitions from left to right.
 
-ghost use Rattle.std.specs.Prelude.{◌≡◌, ◌<◌, ◌≤◌, IsTrue, false, [], is_some, length, map, slice_get, IfOk};
+ghost use Rattle.std.specs.Prelude.{◌≡◌, ◌<◌, ◌≤◌, IsTrue, Some, false, [], is_some, length, map, slice_get, IfOk};
 ghost use Rattle.std.specs.Option.{option_copied};
-ghost use Rattle.indexmap.specs.IndexMap.{get, values};
+ghost use Rattle.indexmap.specs.IndexMap.{get, values, index_map_len};
 ghost use Rattle.vpf_triplet.specs.Places.{Gives, Answers};
 ghost use Rattle.vpf_head.specs.Head.{place_of};
 ghost use Rattle.vpf_head.specs.Reading.{closes, fresh_name_at, kind_at, count_at, key_at, colon_by, closed_at, narrative_at, rest_at, column_at, columns_at};
@@ -17,11 +17,22 @@ use indexmap::IndexMap;
 use std::alloc::Global;
 use vpf_triplet::{Code, Count, Kind, Place, PlaceError};
 
+/// The longest header text.
+pub const LONGEST_TEXT: u32 = 65_536;
+
 /// The most columns of a table.
 const MOST_COLUMNS: usize = 256;
 
 /// The columns of a table in their order, each under its name.
 pub type Columns<'a> = IndexMap<ColumnName<'a>, Column<'a>>;
+
+/// The column at this position, from 0.
+pub fn column_of<'m, 'a>(columns: &'m Columns<'a>, c: usize) -> &'m Column<'a>
+    requires { c < index_map_len columns.now }
+    ensures { slice_get (values columns.now) c ≡ Some result.now }
+{
+    columns.get_index(c).unwrap().1
+}
 
 fn is_taken(columns: &Columns<'_>, name: &[u8]) -> bool
     requires { AreNamed columns.now.entries }

@@ -1,2 +1,3 @@
+pub mod Made
 pub mod Named
 pub mod Pieces

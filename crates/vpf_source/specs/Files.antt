@@ -1,5 +1,5 @@
 -- What a tree holds, and what its calls answer where it tells that.
-use Rattle.std.specs.Prelude.{◌≡◌, ◌<◌, ◌≤◌, ◌-◌, ℕ, List, [], length, take, drop, Option, None, Some, unwrap_or, IfOk, IfSome, Result, if◌then◌else◌}
+use Rattle.std.specs.Prelude.{◌≡◌, ◌<◌, ◌≤◌, ◌-◌, ℕ, List, [], length, take, drop, Option, None, Some, unwrap_or, IfOk, IfSome, Result, false, if◌then◌else◌}
 use Rattle.std.specs.Option.{option_map}
 use Rattle.std.specs.Str.{bytes_eq}
 
@@ -33,3 +33,10 @@ pub record ReadsFrom (file : List ℕ) (at n : ℕ) (buf : List ℕ) : Type 0 wh
 -- `read_at` read the named file from an offset on
 abbrev pub ReadsFile : {E : Type 0} → Option Files → List ℕ → ℕ → Result ℕ E → List ℕ → Type 0
 ReadsFile told name at result buf = IfSome told (λ files. IfOk result (λ n. ReadsFrom (bytes_of (files name)) at n buf))
+
+-- all files but this one are as they were, and they are told as they were
+abbrev pub SameElsewhere : Option Files → Option Files → List ℕ → Type 0
+SameElsewhere None None name = Unit {0}
+SameElsewhere None (Some new) name = ⊥
+SameElsewhere (Some old) None name = ⊥
+SameElsewhere (Some old) (Some new) name = (other : List ℕ) → bytes_eq name other ≡ false → new other ≡ old other

@@ -54,6 +54,31 @@ impl<R: Files> FolderTree<R> {
         file.seek(SeekFrom::Start(at))?;
         file.read(buf)
     }
+
+    /// The file made anew with these bytes, and the folders of its name where they are absent.
+    fn make_here(&self, name: &str, bytes: &[u8]) -> io::Result<()> {
+        if let Some((folder, _)) = name.rsplit_once('/') {
+            if !folder.is_empty() {
+                fs::create_dir_all(&self.rt, folder)?;
+            }
+        }
+        let mut file = fs::create(&self.rt, name)?;
+        write_whole(&mut file, bytes)?;
+        file.flush()
+    }
+}
+
+/// Writes all bytes, in as many writes as it needs. A write that takes none of them is an error.
+fn write_whole<W: Write>(file: &mut W, bytes: &[u8]) -> io::Result<()> {
+    let mut done = 0;
+    while done < bytes.len() {
+        let count = file.write(&bytes[done..])?;
+        if count == 0 {
+            return Err(ErrorKind::WriteZero.into());
+        }
+        done += count;
+    }
+    Ok(())
 }
 
 impl<R: Files> Tree for FolderTree<R> {
@@ -74,6 +99,13 @@ impl<R: Files> Tree for FolderTree<R> {
             Ok(count) => Ok(count),
             Err(e) if e.kind() == ErrorKind::NotFound => Ok(0),
             Err(_) => Err(self.fault()),
+        }
+    }
+
+    fn make(&mut self, name: &str, bytes: &[u8]) -> Result<(), DeviceError> {
+        match self.make_here(name, bytes) {
+            Ok(()) => Ok(()),
+            Err(_) => Err(self.fault().into()),
         }
     }
 }

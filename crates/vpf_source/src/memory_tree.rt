@@ -1,13 +1,14 @@
 //! A tree in memory, which fails where it is told to.
 
-ghost use Rattle.std.specs.Prelude.{◌≡◌, ◌≤◌, ◌<◌, ◌-◌, ℕ, Some, length, drop, min, IsErr, IsTrue, IfOk, OnOk, OnErr, ◌↔◌};
+ghost use Rattle.std.specs.Prelude.{◌≡◌, ◌≤◌, ◌<◌, ◌-◌, ℕ, Some, length, drop, min, IsErr, IsErrOf, IsTrue, IfOk, OnOk, OnErr, ◌↔◌};
+ghost use Rattle.std.specs.Option.{option_copied};
 ghost use Rattle.std.specs.Io.{ReadsAtMost};
 ghost use Rattle.vpf_source.specs.Calls.{after_call, next_fails, no_calls};
 ghost use Rattle.vpf_source.specs.Causes.{Rose};
-ghost use Rattle.vpf_source.specs.Files.{ReadsFrom, ReadsFile, TellsSize, bytes_of, no_files, with_file};
+ghost use Rattle.vpf_source.specs.Files.{ReadsFrom, ReadsFile, SameElsewhere, TellsSize, bytes_of, no_files, with_file};
 
 use crate::calls::CallLog;
-use crate::error::Failed;
+use crate::error::{DeviceError, Failed};
 use crate::file::Bytes;
 use crate::tree::Tree;
 use std::alloc::{AllocError, Global};
@@ -26,7 +27,8 @@ pub struct MemTree {
 }
 
 impl MemTree {
-    ghost use Rattle.vpf_source.specs.Held.{tree_calls, tree_piece};
+    ghost use Rattle.vpf_source.specs.Held.{tree_calls, tree_files, tree_piece};
+    ghost use Rattle.vpf_source.specs.Halves.{MayHold, first_half};
 
     /// A tree with no file. A read gives at most `piece` bytes, and the calls whose numbers stand in `fail` fail.
     pub fn new(alloc: Global, piece: u32, fail: Vec<u64>) -> Self
@@ -59,10 +61,27 @@ impl MemTree {
         self.files.insert(key, held)?;
         Ok(())
     }
+
+    /// Makes a file hold the first half of the bytes, or leaves the tree unchanged where there is no memory for them.
+    fn leave_half(&mut self, name: &str, bytes: &[u8])
+        ensures half { MayHold (tree_files self.old) (tree_files self.new) name.now (first_half bytes.now) }
+        ensures piece { tree_piece self.new ≡ tree_piece self.old }
+        ensures calls { tree_calls self.new ≡ tree_calls self.old }
+    {
+        let _left = self.put(name, &bytes[..bytes.len() / 2]);
+    }
+
+    /// The bytes of a file, and `None` exactly where it is absent. It is no call that is counted.
+    pub fn file(&self, name: &str) -> Option<&[u8]>
+        ensures { option_copied result ≡ tree_files self.now name.now }
+    {
+        self.files.get(name).map(|bytes| bytes.as_slice())
+    }
 }
 
 impl Tree for MemTree {
     ghost use Rattle.vpf_source.specs.Held.{tree_calls, tree_files, tree_piece};
+    ghost use Rattle.vpf_source.specs.Halves.{MayHold, first_half};
 
     ghost files = { λ tree. Some (tree_files tree) };
 
@@ -104,6 +123,27 @@ impl Tree for MemTree {
             Some(bytes) => Ok(read_piece(bytes.as_slice(), at, self.piece as usize, buf)),
             None => Ok(0),
         }
+    }
+
+    /// Where it is to fail, the file is left with the first half of the bytes, or as it was if there is no memory for them.
+    fn make(&mut self, name: &str, bytes: &[u8]) -> Result<(), DeviceError>
+        ensures made { OnOk result (Some (tree_files self.new) ≡ with_file (Some (tree_files self.old)) name.now bytes.now) }
+        ensures others { IsErrOf result DeviceError.Failed → SameElsewhere (Some (tree_files self.old)) (Some (tree_files self.new)) name.now }
+        ensures none { IsErrOf result DeviceError.NoMemory → Some (tree_files self.new) ≡ Some (tree_files self.old) }
+        ensures later { (tree_calls self.old).faults ≤ (tree_calls self.new).faults }
+        ensures failed { IsErrOf result DeviceError.Failed → Rose (tree_calls self.old).faults (tree_calls self.new).faults }
+
+        ensures fails { IsErrOf result DeviceError.Failed ↔ IsTrue (next_fails (tree_calls self.old)) }
+        ensures calls { tree_calls self.new ≡ after_call (tree_calls self.old) }
+        ensures piece { tree_piece self.new ≡ tree_piece self.old }
+        ensures half { IsErrOf result DeviceError.Failed → MayHold (tree_files self.old) (tree_files self.new) name.now (first_half bytes.now) }
+    {
+        if self.calls.begin().is_err() {
+            self.leave_half(name, bytes);
+            return Err(DeviceError::Failed);
+        }
+        self.put(name, bytes)?;
+        Ok(())
     }
 }
 

@@ -120,6 +120,10 @@ impl Tree for ShortTree {
             _ => Ok(0),
         }
     }
+
+    fn make(&mut self, _name: &str, _bytes: &[u8]) -> Result<(), DeviceError> {
+        Ok(())
+    }
 }
 
 #[test]
@@ -210,6 +214,77 @@ fn names_and_bytes_are_lent(rt: HostRuntime) -> Result<(), Fail> {
     };
     assert_eq!(rt; file.name.as_str(), "lib/cov/edg");
     assert_eq!(rt; file.bytes.as_slice(), [1, 2].as_slice());
+    Ok(())
+}
+
+/// Each call of making three files fails in turn: those before it are whole, it has half, and those behind it are absent.
+#[test]
+fn makes_files_up_to_a_fault(rt: HostRuntime) -> Result<(), Fail> {
+    let alloc = rt.alloc();
+    let files = [
+        small_file(alloc, "a", b"abcde")?,
+        small_file(alloc, "lib/b", b"")?,
+        small_file(alloc, "a", b"fghij")?,
+    ];
+    let cases: [(u64, Option<&[u8]>, Option<&[u8]>); 4] = [
+        (1, Some(b"ab"), None),
+        (2, Some(b"abcde"), Some(b"")),
+        (3, Some(b"fg"), Some(b"")),
+        (4, Some(b"fghij"), Some(b"")),
+    ];
+    for (failing, first, second) in cases {
+        let mut tree = MemTree::new(alloc, 4096, vec![in alloc; failing]?);
+        let made = make_all(&mut tree, &files);
+        let want = if failing < 4 {
+            Err(DeviceError::Failed)
+        } else {
+            Ok(())
+        };
+        assert_eq!(rt; made, want, "call {failing}");
+        assert_eq!(rt; tree.file("a"), first, "call {failing}");
+        assert_eq!(rt; tree.file("lib/b"), second, "call {failing}");
+        assert_eq!(rt; tree.file("lib"), None, "call {failing}");
+    }
+    Ok(())
+}
+
+fn small_file(alloc: Global, name: &str, bytes: &[u8]) -> Result<File, AllocError> {
+    Ok(File {
+        name: Name::new(String::from_str(alloc, name)?),
+        bytes: Bytes::new(Vec::from_slice(alloc, bytes)?),
+    })
+}
+
+/// Real folders: a file is made with its folders, replaced by a shorter one, and its neighbour stays whole, also where a
+/// name can't be made because a file or a folder is in its way.
+#[test]
+fn makes_the_folders(rt: HostRuntime) -> Result<(), Fail> {
+    let alloc = rt.alloc();
+    let root = env::temp_dir(&rt)?.join(alloc, "vpf_source_makes_the_folders")?;
+    let root = root.as_str();
+    let name = format!(in alloc; "{root}/lib/cov/edg")?;
+    let neighbour = format!(in alloc; "{root}/lib/cov/edx")?;
+    let behind = format!(in alloc; "{root}/lib/cov/edg/t1/edg")?;
+    let folder = format!(in alloc; "{root}/lib")?;
+    let mut tree = FolderTree::new(&rt);
+    assert_eq!(rt; tree.size(&name), Ok(None));
+    for (name, bytes, want) in [
+        (name.as_str(), b"0123456789".as_slice(), Ok(())),
+        (neighbour.as_str(), b"abc".as_slice(), Ok(())),
+        (name.as_str(), b"0123".as_slice(), Ok(())),
+        (behind.as_str(), b"5".as_slice(), Err(DeviceError::Failed)),
+        (folder.as_str(), b"5".as_slice(), Err(DeviceError::Failed)),
+    ] {
+        assert_eq!(rt; tree.make(name, bytes), want, "{name}");
+    }
+    for (name, want) in [
+        (name.as_str(), b"0123".as_slice()),
+        (neighbour.as_str(), b"abc".as_slice()),
+    ] {
+        let loaded = load(alloc, &mut tree, name, 10)?.ok_or("absent")?;
+        assert_eq!(rt; loaded.as_slice(), want, "{name}");
+    }
+    fs::remove_dir_all(&rt, root)?;
     Ok(())
 }
 

@@ -1,13 +1,13 @@
 //! A tree of files.
 
-ghost use Rattle.std.specs.Prelude.{◌≡◌, ◌≤◌, ℕ, Option, OnErr};
+ghost use Rattle.std.specs.Prelude.{◌≡◌, ◌≤◌, ℕ, Option, OnOk, OnErr, IsErrOf};
 ghost use Rattle.std.specs.Io.{ReadsAtMost};
 ghost use Rattle.vpf_source.specs.Causes.{Rose};
-ghost use Rattle.vpf_source.specs.Files.{Files, TellsSize, ReadsFile};
+ghost use Rattle.vpf_source.specs.Files.{Files, TellsSize, ReadsFile, SameElsewhere, with_file};
 
-use crate::error::Failed;
+use crate::error::{DeviceError, Failed};
 
-/// Files under names, read in pieces. A name is a text; it may have parts joined by `/`.
+/// Files under names, read in pieces and made whole. A name is a text; it may have parts joined by `/`.
 ///
 /// A tree may tell its files to contracts, as one in memory does. The folders of a computer tell nothing, and what
 /// contracts say of files then holds as far as the bytes that are read are those of files.
@@ -38,4 +38,16 @@ pub trait Tree {
         ensures files { files self.new ≡ files self.old }
         ensures later { faults self.old ≤ faults self.new }
         ensures failed { OnErr result (Rose (faults self.old) (faults self.new)) };
+
+    /// Makes the file hold exactly these bytes, in place of what it held before, with the folders that its name needs. No
+    /// other file changes.
+    ///
+    /// After `Failed`, which comes only where the count of faults rises in this call, that one file may hold anything or be
+    /// absent. Where memory ran out no file has changed.
+    fn make(&mut self, name: &str, bytes: &[u8]) -> Result<(), DeviceError>
+        ensures made { OnOk result (files self.new ≡ with_file (files self.old) name.now bytes.now) }
+        ensures others { IsErrOf result DeviceError.Failed → SameElsewhere (files self.old) (files self.new) name.now }
+        ensures none { IsErrOf result DeviceError.NoMemory → files self.new ≡ files self.old }
+        ensures later { faults self.old ≤ faults self.new }
+        ensures failed { IsErrOf result DeviceError.Failed → Rose (faults self.old) (faults self.new) };
 }

@@ -9,3 +9,12 @@ pub mod FixedWidth
 pub mod RowLaws
 pub mod TableLaws
 pub mod RowsFew
+pub mod SpanLemmas
+pub mod Owning
+pub mod SpanLaws
+pub mod RowTexts
+pub mod WriteLimits
+pub mod Cutting
+pub mod WholeTables
+pub mod ReadRows
+pub mod WritingLaws

@@ -1,11 +1,12 @@
-use Rattle.std.proofs.Common.{◌≡◌, ℕ, ◌+◌, List, length, Result, Ok, Err, refl, ap, subst, arith}
+use Rattle.std.proofs.Common.{◌≡◌, ℕ, ◌+◌, List, length, Option, Result, Ok, Err, refl, ap, subst, arith}
 use Rattle.std.specs.Prelude.{IfOk}
 use Rattle.vpf_triplet.specs.declared.places.Place.{Place}
 use Rattle.vpf_triplet.specs.declared.places.PlaceError.{PlaceError}
 use Rattle.vpf_triplet.specs.declared.places.PlaceError.TheVariants as errors
 use Rattle.vpf_head.specs.Head.{Head}
 use Rattle.vpf_triplet.specs.Places.{Answers, Fails}
-use Rattle.vpf_table.specs.Spelling.{IsTable}
+use Rattle.vpf_table.specs.Opening.{opened_of}
+use Rattle.vpf_table.specs.Spans.{IsOpened}
 use Rattle.vpf_head.specs.Reading.{header_of}
 use Rattle.vpf_table.specs.Grid.{Row, Grid}
 use Rattle.vpf_table.specs.Reading.{most_rows, rows_at, table_of}
@@ -39,9 +40,9 @@ opened bytes h start n e f = let k = counted_ok (rows_at most_rows h.order h.col
 abbrev whole : Grid → Grid
 whole g = g
 
-pub opened_is_spelled : (r : Result Grid PlaceError) (bytes : List ℕ) → ((g : Grid) → table_of bytes ≡ Ok g → IsTable g bytes) → Answers whole r (table_of bytes) → IfOk r (λ g. IsTable g bytes)
-opened_is_spelled (Ok g) bytes spelled e = spelled g e
-opened_is_spelled (Err error) bytes spelled e = tt
+pub opened_is_spelled : (r : Result Grid PlaceError) (bytes : List ℕ) (index : Option (List ℕ)) → ((g : Grid) → opened_of bytes index ≡ Ok g → IsOpened g bytes index) → Answers whole r (opened_of bytes index) → IfOk r (λ g. IsOpened g bytes index)
+opened_is_spelled (Ok g) bytes index spelled e = spelled g e
+opened_is_spelled (Err error) bytes index spelled e = tt
 
-pub spelled_is_opened : (r : Result Grid PlaceError) (bytes : List ℕ) (g : Grid) → table_of bytes ≡ Ok g → Answers whole r (table_of bytes) → Answers whole r (Ok g)
-spelled_is_opened r bytes g is e = let P : Result Grid Place → Type 0 = λ (x : Result Grid Place). Answers whole r x in subst P is e
+pub spelled_is_opened : (r : Result Grid PlaceError) (bytes : List ℕ) (index : Option (List ℕ)) (g : Grid) → opened_of bytes index ≡ Ok g → Answers whole r (opened_of bytes index) → Answers whole r (Ok g)
+spelled_is_opened r bytes index g is e = let P : Result Grid Place → Type 0 = λ (x : Result Grid Place). Answers whole r x in subst P is e

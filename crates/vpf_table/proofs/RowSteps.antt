@@ -10,7 +10,7 @@ use Rattle.vpf_table.specs.Walking.{row_of, past_of, rows_of}
 use Rattle.vpf_table.proofs.RowsOpen.{rows_open, rows_closed}
 
 -- rows are left, so one begins here
-begins : (m : ℕ) (o : Order) (cs : List Col) (bytes : List ℕ) (at : ℕ) → 0 < length (rows_of (rows_at m o cs bytes at)) → at < length bytes
+pub begins : (m : ℕ) (o : Order) (cs : List Col) (bytes : List ℕ) (at : ℕ) → 0 < length (rows_of (rows_at m o cs bytes at)) → at < length bytes
 begins m o cs bytes at h = elim (cases_lt at (length bytes)) [ inl b ↦ b | inr b ↦ absurd (omega (arith, ap length (rows_closed m o cs bytes at b))) ]
 
 pub row_step : (o : Order) (cs : List Col) (bytes : List ℕ) (at m m2 past : ℕ) → IsOk (rows_at m o cs bytes at) → 0 < length (rows_of (rows_at m o cs bytes at)) → m2 ≡ m - 1 → past ≡ past_of (row_at o cs bytes at)

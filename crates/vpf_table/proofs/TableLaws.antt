@@ -1,11 +1,10 @@
 -- What is read is spelled so, and what is spelled so is read: tables.
-use Rattle.std.proofs.Common.{◌≡◌, ℕ, ◌<◌, Bool, true, false, List, [], ◌∷◌, length, take, drop, Result, Ok, Err, refl, sym, ap, subst, ◌∙◌, arith, inl, inr, ◌⊎◌}
+use Rattle.std.proofs.Common.{◌≡◌, ℕ, ◌<◌, Bool, true, false, List, [], ◌∷◌, length, take, drop, Ok, refl, sym, ap, subst, ◌∙◌, arith}
 use Rattle.std.specs.Prelude.{◌||◌, ◌≢◌, All}
 use Rattle.std.specs.List.{list_any}
 use Rattle.std.proofs.lemmas.List.{drop_at, take-append-drop, length-append}
 use Rattle.std.proofs.lemmas.List.Elements.{All-head, All-tail}
 use Rattle.vpf_triplet.specs.declared.orders.Order.{Order}
-use Rattle.vpf_triplet.specs.declared.places.Place.{Place}
 use Rattle.vpf_triplet.specs.declared.kinds.Kind.{Kind}
 use Rattle.vpf_triplet.specs.declared.kinds.Kind.TheVariants as kinds
 use Rattle.vpf_triplet.specs.declared.kinds.Count.{Count}
@@ -19,7 +18,6 @@ use Rattle.vpf_head.specs.Soundness.{IsInBounds, IsCounted, IsSound}
 use Rattle.vpf_table.specs.Grid.{Row, Grid}
 use Rattle.vpf_table.specs.Reading.{most_rows, rows_at, table_of}
 use Rattle.vpf_table.specs.Spelling.{IsRow, IsTable}
-use Rattle.vpf_table.specs.Deciding.{FirstFault, Decides}
 use Rattle.vpf_table.specs.Lower.{CellAndHeaderLaws}
 use Rattle.vpf_table.proofs.WalkLemmas.{ok_is}
 use Rattle.vpf_table.proofs.Parts.{bind_ok}
@@ -69,21 +67,3 @@ table_takes laws bytes g fits e =
     let rows = rows_take laws most_rows h.0.order h.0.columns bytes h.1 b.0 fits head.0 b.1 in
     let table : IsTable made bytes = record { front = take h.1 bytes; rest = drop h.1 bytes; parts = sym (take-append-drop h.1 bytes); header = head.1; rows = rows.1; most = rows.0 } in
     subst (λ (x : Grid). IsTable x bytes) (ok_is made g b.2) table
-
-either_of : CellAndHeaderLaws → (bytes : List ℕ) (r : Result Grid Place) → IsBytes bytes → table_of bytes ≡ r → ((g : Grid) × IsTable g bytes) ⊎ ((place : Place) × FirstFault bytes place)
-either_of laws bytes (Ok g) fits e = inl (g, table_takes laws bytes g fits e)
-either_of laws bytes (Err p) fits e = inr (p, e)
-
-ok_err : (r : Result Grid Place) (x : Grid) (p : Place) → r ≡ Ok x → r ≡ Err p → ⊥
-ok_err r x p e f = cc
-
-err_err : (r : Result Grid Place) (p q : Place) → r ≡ Err p → r ≡ Err q → p ≡ q
-err_err r p q e f = cc
-
-pub table_decided : CellAndHeaderLaws → (bytes : List ℕ) → IsBytes bytes → Decides bytes
-table_decided laws bytes fits = record {
-  either = either_of laws bytes (table_of bytes) fits refl;
-  never_both = λ g p t f. ok_err _ g p (table_again laws g bytes t) f;
-  one_table = λ g h t u. ok_is g h (sym (table_again laws g bytes t) ∙ table_again laws h bytes u);
-  one_fault = λ p q e f. err_err _ p q e f;
-}

@@ -17,7 +17,7 @@ use Rattle.vpf_table.specs.Walking.{end_of, counted}
 pub next_item : {X : Type 0} (xs : List X) (i : ℕ) (x : X) → slice_get xs i ≡ Some x → drop i xs ≡ x ∷ drop (i + 1) xs
 next_item xs i x e = drop_more xs i x (slice_get_within xs i x e) ∙ ap (λ y. y ∷ drop (i + 1) xs) (get_or_from_slice_get xs i x x e)
 
-abbrev done : {A : Type 0} → A → Result A Place
+abbrev pub done : {A : Type 0} → A → Result A Place
 done x = Ok x
 
 pub ok_is : {A : Type 0} (x y : A) → done x ≡ done y → x ≡ y

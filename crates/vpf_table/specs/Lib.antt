@@ -2,6 +2,8 @@ pub mod Grid
 pub mod Reading
 pub mod Walking
 pub mod Widths
+pub mod Spans
+pub mod Opening
 pub mod Views
 pub mod RowViews
 pub mod CellsLeft
@@ -11,3 +13,7 @@ pub mod Limits
 pub mod Spelling
 pub mod Deciding
 pub mod Lower
+pub mod Canonical
+pub mod CellLists
+pub mod Drafts
+pub mod Writing

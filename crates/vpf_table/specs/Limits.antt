@@ -1,5 +1,6 @@
 -- Bounds, and the codes that tell that one is passed.
-use Rattle.std.specs.Prelude.{ℕ, List, Option, Some, None, codes}
+use Rattle.std.specs.Prelude.{ℕ, List, ◌++◌, Option, Some, None, codes}
+use Rattle.std.specs.Fmt.{decimal}
 use Rattle.vpf_triplet.specs.declared.places.Code.{Code}
 use Rattle.vpf_triplet.specs.declared.places.Code.TheVariants.{LimitHeader, LimitColumns, LimitName, LimitRows}
 use Rattle.vpf_table.specs.declared.limit.Bound.{Bound}
@@ -15,6 +16,10 @@ bound_text bounds.Columns = codes "columns"
 bound_text bounds.Name = codes "name"
 bound_text bounds.Rows = codes "rows"
 bound_text bounds.Tiles = codes "tiles"
+
+-- the word of the bound, and the number that passed it
+abbrev pub limit_text : Limit → List ℕ
+limit_text limit = bound_text limit.what ++ (codes " " ++ decimal limit.found)
 
 -- the bound that a code tells to be passed, with the number that passed it
 abbrev pub limit_of : Code → Option Limit

@@ -1,5 +1,5 @@
--- What is known of cells and headers by their own laws.
-use Rattle.std.specs.Prelude.{◌≡◌, ◌≢◌, ℕ, ◌<◌, ◌≤◌, List, ◌++◌, length, take, Ok}
+-- What is known of cells, headers and indexes by their own laws.
+use Rattle.std.specs.Prelude.{◌≡◌, ◌≢◌, ℕ, ◌<◌, ◌≤◌, ◌^◌, All, List, ◌++◌, length, take, Ok}
 use Rattle.vpf_triplet.specs.declared.orders.Order.{Order}
 use Rattle.vpf_triplet.specs.declared.kinds.Kind.{Kind}
 use Rattle.vpf_triplet.specs.declared.kinds.Kind.TheVariants as kinds
@@ -14,6 +14,8 @@ use Rattle.vpf_head.specs.Head.{Head}
 use Rattle.vpf_head.specs.Reading.{header_of}
 use Rattle.vpf_head.specs.Soundness.{IsSound}
 use Rattle.vpf_head.specs.Spelling.{IsHeader}
+use Rattle.vpf_varindex.specs.Reading.{index_at}
+use Rattle.vpf_varindex.specs.RowIndex.{row_index, HasSpan, IsRowIndex}
 
 -- cells and headers that are spelled are read, and those that are read are spelled and sound
 pub record CellAndHeaderLaws : Type 0 where
@@ -23,3 +25,9 @@ pub record CellAndHeaderLaws : Type 0 where
   pub header_is_read : (bytes : List ℕ) (h : Head) (text rest : List ℕ) → Begins bytes h text rest → header_of bytes ≡ Ok (h, length text)
   pub header_is_spelled : (bytes : List ℕ) (h : Head) (start : ℕ) → IsBytes bytes → header_of bytes ≡ Ok (h, start) → (start ≤ length bytes) × IsHeader h (take start bytes)
   pub header_is_sound : (bytes : List ℕ) (h : Head) (start : ℕ) → header_of bytes ≡ Ok (h, start) → IsSound h
+
+-- indexes that are spelled are read, those that are read are spelled, and those that are written are read
+pub record IndexLaws : Type 0 where
+  pub index_is_read : (o : Order) (spans : List (ℕ × ℕ)) (bytes : List ℕ) → IsRowIndex o spans bytes → index_at o bytes ≡ Ok spans
+  pub index_is_spelled : (o : Order) (spans : List (ℕ × ℕ)) (bytes : List ℕ) → IsBytes bytes → index_at o bytes ≡ Ok spans → IsRowIndex o spans bytes
+  pub written_is_read : (o : Order) (second : ℕ) (spans : List (ℕ × ℕ)) → length spans < 2 ^ 32 → All HasSpan spans → index_at o (row_index o second spans) ≡ Ok spans

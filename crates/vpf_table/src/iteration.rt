@@ -1,15 +1,11 @@
 //! The rows of a table, one after another.
 
-ghost use Rattle.std.specs.Prelude.{◌≡◌, ◌≤◌, IsOk, IfSome, Some, length};
-ghost use Rattle.vpf_table.specs.Reading.{row_at};
-ghost use Rattle.vpf_table.specs.Walking.{past_of};
-ghost use Rattle.vpf_table.specs.Widths.{width_of};
-
+use crate::laws::cells_and_headers;
 use crate::row::RowView;
-use crate::walking::sure_end;
+use crate::walking::next_row;
 use std::marker::Model;
 use vpf_head::Header;
-use vpf_value::laws::fixed_cells;
+use vpf_value::laws::spelled_fits;
 
 /// The rows that are left. Contracts see it as the list of them.
 #[derive(Drop)]
@@ -36,6 +32,7 @@ impl<'t, 'a> Model for Rows<'t, 'a> {
 
 impl<'t, 'a> Rows<'t, 'a> {
     ghost use Rattle.std.specs.Prelude.{◌≡◌, ◌≤◌, All, IsOk, IfSome, Some, length};
+    ghost use Rattle.vpf_table.specs.Canonical.{FitsRow};
     ghost use Rattle.vpf_table.specs.Reading.{most_rows, rows_at};
     ghost use Rattle.vpf_table.specs.Walking.{rows_of};
     ghost use Rattle.vpf_table.specs.Widths.{width_of};
@@ -52,7 +49,11 @@ impl<'t, 'a> Rows<'t, 'a> {
         requires fixed { IfSome width (λ w. width_of header.now.columns ≡ Some w) }
         ensures rows { result ≡ rows_of (rows_at most_rows header.now.order header.now.columns bytes.now at) }
         ensures width { All (λ row. length row ≡ length header.now.columns) result }
+        ensures fits { All (FitsRow header.now.columns) result }
     {
+        cells_and_headers();
+        spelled_fits();
+        let _columns = header.len();
         Rows {
             header,
             bytes,
@@ -60,22 +61,6 @@ impl<'t, 'a> Rows<'t, 'a> {
             width,
             left: 16_777_215,
         }
-    }
-}
-
-/// The end of the row that is known to begin at `at`, by the width of the rows where they have one.
-fn next_row(header: &Header<'_>, bytes: &[u8], at: usize, width: Option<usize>) -> usize
-    requires inside { at ≤ length bytes.now }
-    requires read { IsOk (row_at header.now.order header.now.columns bytes.now at) }
-    requires fixed { IfSome width (λ w. width_of header.now.columns ≡ Some w) }
-    ensures value { result ≡ past_of (row_at header.now.order header.now.columns bytes.now at) }
-    ensures inside { result ≤ length bytes.now }
-{
-    fixed_cells();
-    let _end = bytes.len();
-    match width {
-        Some(width) => at + width,
-        None => sure_end(header, bytes, at),
     }
 }
 

@@ -1,21 +1,27 @@
 //! Laws about the definitions of tables alone.
 
-ghost use Rattle.std.specs.Prelude.{◌≡◌, ℕ, List, Ok, Err};
+ghost use Rattle.std.specs.Prelude.{◌≡◌, ◌<◌, ◌+◌, ◌%◌, ◌^◌, ℕ, All, List, Option, IfSome, Ok, Err, Some, None, length, slice_get, slice_range};
 ghost use Rattle.vpf_triplet.specs.declared.orders.Order.{Order};
 ghost use Rattle.vpf_triplet.specs.declared.places.Place.{Place};
 ghost use Rattle.vpf_triplet.specs.Numbers.{IsBytes};
 ghost use Rattle.vpf_head.specs.Head.{Col};
-ghost use Rattle.vpf_table.specs.Grid.{Grid};
+ghost use Rattle.vpf_varindex.specs.RowIndex.{row_index, HasSpan};
+ghost use Rattle.vpf_table.specs.Grid.{Grid, Row};
+ghost use Rattle.vpf_table.specs.Canonical.{IsWritable, canonical_table, canonical_spans, canonical_index, in_order, joined, grid_of_cells};
+ghost use Rattle.vpf_table.specs.Writing.{first_limit};
 ghost use Rattle.vpf_table.specs.Reading.{row_at, table_of};
-ghost use Rattle.vpf_table.specs.Spelling.{IsTable};
+ghost use Rattle.vpf_table.specs.Spelling.{IsRow, IsTable};
 ghost use Rattle.vpf_table.specs.Deciding.{Decides, Stops};
-ghost use Rattle.vpf_table.specs.Lower.{CellAndHeaderLaws};
+ghost use Rattle.vpf_table.specs.Opening.{opened_of, row_spans};
+ghost use Rattle.vpf_table.specs.Spans.{IsOpened};
+ghost use Rattle.vpf_table.specs.Lower.{CellAndHeaderLaws, IndexLaws};
 
 use vpf_head::laws as headers;
 use vpf_value::laws as cells;
+use vpf_varindex::laws as indexes;
 
 /// The laws of cells and headers, together.
-fn cells_and_headers()
+pub(crate) fn cells_and_headers()
     ensures { CellAndHeaderLaws }
 {
     cells::spelled_is_read();
@@ -26,11 +32,22 @@ fn cells_and_headers()
     headers::read_headers_are_sound();
 }
 
-/// Each list of bytes is the spelling of exactly one table, or has exactly one first fault, and never both.
+/// The laws of variable-length indexes, together.
+fn laws_of_indexes()
+    ensures { IndexLaws }
+{
+    indexes::spelled_is_read();
+    indexes::read_is_spelled();
+    indexes::written_is_read();
+}
+
+/// Each list of bytes is the spelling of exactly one table, with its own index where one is given, or has exactly one first
+/// fault, and never both.
 pub fn tables_decide()
-    ensures { (bytes : List ℕ) → IsBytes bytes → Decides bytes }
+    ensures { (bytes : List ℕ) (index : Option (List ℕ)) → IsBytes bytes → IfSome index IsBytes → Decides bytes index }
 {
     cells_and_headers();
+    laws_of_indexes();
 }
 
 /// What is spelled as a table is read as that table.
@@ -47,7 +64,84 @@ pub fn read_is_spelled()
     cells_and_headers();
 }
 
+/// What is read as a table can be written, in either order.
+pub fn read_is_writable()
+    ensures { (bytes : List ℕ) (g : Grid) (order : Order) → IsBytes bytes → table_of bytes ≡ Ok g → IsWritable (in_order order g) }
+{
+    cells_and_headers();
+    cells::spelled_fits();
+    headers::sound_headers_stay_sound();
+}
+
+/// The canonical table of a header and rows that pass no limit is spelled so, and is read as that table. Its rows lie where
+/// its canonical index tells, and it is opened with that index.
+pub fn written_is_read()
+    ensures spelled { (g : Grid) → IsWritable g → first_limit g ≡ None → IsTable g (canonical_table g) }
+    ensures read_again { (g : Grid) → IsWritable g → first_limit g ≡ None → table_of (canonical_table g) ≡ Ok g }
+    ensures spans { (g : Grid) → IsWritable g → first_limit g ≡ None → row_spans (canonical_table g) g ≡ canonical_spans g }
+    ensures opened_again { (g : Grid) → IsWritable g → first_limit g ≡ None → opened_of (canonical_table g) (canonical_index g) ≡ Ok g }
+{
+    own_index_is_taken();
+    cells_and_headers();
+    cells::fitting_is_written();
+    headers::canonical_is_read();
+}
+
+/// A table passes the same limits in either order. Where it passes none, writing it in one order, reading that, and writing
+/// what is read in the table's own order gives its canonical bytes and index.
+pub fn written_twice_is_canonical()
+    ensures limits { (g : Grid) (order : Order) → first_limit (in_order order g) ≡ first_limit g }
+    ensures table { (g h : Grid) (order : Order) → IsWritable g → first_limit g ≡ None → table_of (canonical_table (in_order order g)) ≡ Ok h → canonical_table (in_order g.head.order h) ≡ canonical_table g }
+    ensures index { (g h : Grid) (order : Order) → IsWritable g → first_limit g ≡ None → table_of (canonical_table (in_order order g)) ≡ Ok h → canonical_index (in_order g.head.order h) ≡ canonical_index g }
+{
+    cells_and_headers();
+    cells::fitting_is_written();
+    headers::canonical_is_read();
+    headers::sound_headers_stay_sound();
+}
+
+/// The cells of a table's rows, one row after another, are cut into these rows again.
+pub fn joined_rows_are_cut()
+    ensures whole { (g : Grid) → IsWritable g → length (joined g.rows) % length g.head.columns ≡ 0 }
+    ensures rows { (g : Grid) → IsWritable g → grid_of_cells g.head (joined g.rows) ≡ g }
+{}
+
 /// A row is refused at its first cell that isn't spelled: the cells before it are.
 pub fn rows_stop_at_their_first_fault()
     ensures { (o : Order) (columns : List Col) (bytes : List ℕ) (at : ℕ) (place : Place) → row_at o columns bytes at ≡ Err place → Stops o columns bytes at place }
 {}
+
+/// What is spelled as a table, with its own index where one is given, is opened as that table.
+pub fn spelled_is_opened()
+    ensures { (bytes : List ℕ) (index : Option (List ℕ)) (g : Grid) → IsOpened g bytes index → opened_of bytes index ≡ Ok g }
+{
+    cells_and_headers();
+    laws_of_indexes();
+}
+
+/// What is opened as a table, with its index where one is given, is spelled so.
+pub fn opened_is_spelled()
+    ensures { (bytes : List ℕ) (index : Option (List ℕ)) (g : Grid) → IsBytes bytes → IfSome index IsBytes → opened_of bytes index ≡ Ok g → IsOpened g bytes index }
+{
+    cells_and_headers();
+    laws_of_indexes();
+}
+
+/// Each row of a table has an offset and a length, and the bytes that lie there spell it.
+pub fn rows_lie_at_their_spans()
+    ensures each { (bytes : List ℕ) (g : Grid) → length (row_spans bytes g) ≡ length g.rows }
+    ensures spelled { (bytes : List ℕ) (g : Grid) (k : ℕ) (row : Row) (span : ℕ × ℕ) → IsBytes bytes → table_of bytes ≡ Ok g → slice_get g.rows k ≡ Some row → slice_get (row_spans bytes g) k ≡ Some span
+        → IsRow g.head.order g.head.columns row (slice_range bytes span.0 (span.0 + span.1)) }
+{
+    cells_and_headers();
+}
+
+/// The index that is written for the offsets and lengths of a table's rows is taken as its own, whatever its second number.
+/// In a table of fewer than 2^32 bytes each fits its entry.
+pub fn own_index_is_taken()
+    ensures taken { (bytes : List ℕ) (g : Grid) (second : ℕ) → table_of bytes ≡ Ok g → All HasSpan (row_spans bytes g) → opened_of bytes (Some (row_index g.head.order second (row_spans bytes g))) ≡ Ok g }
+    ensures small { (bytes : List ℕ) (g : Grid) → IsBytes bytes → table_of bytes ≡ Ok g → length bytes < 2 ^ 32 → All HasSpan (row_spans bytes g) }
+{
+    cells_and_headers();
+    laws_of_indexes();
+}

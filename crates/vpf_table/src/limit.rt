@@ -77,3 +77,15 @@ impl Limit {
         }
     }
 }
+
+impl fmt::Display for Limit {
+    ghost use Rattle.std.specs.Prelude.{Some};
+    ghost use Rattle.vpf_table.specs.Limits.{limit_text};
+
+    ghost output = { λ limit. Some (limit_text limit) };
+
+    fn fmt<W: fmt::Write>(&self, f: &mut fmt::Formatter<W>) -> fmt::Result {
+        let Limit { what, found } = *self;
+        write!(f, "{what} {found}")
+    }
+}

@@ -16,9 +16,48 @@ const FIXED: &[u8] =
 /// A text of any length, and three rows.
 const VARYING: &[u8] = b"\x18\0\0\0L;T;-;a=T,*,N,d,-,-,-,:;\x03\0\0\0abc\0\0\0\0\x01\0\0\0z";
 
-/// The rows of a table, or where it is refused first.
-fn rows_in(alloc: Global, bytes: &[u8]) -> Result<u32, Place> {
-    match TableView::open(alloc, bytes) {
+/// A text of any length, and a row, with the most significant byte first.
+const BIG: &[u8] = b"\0\0\0\x18M;T;-;a=T,*,N,d,-,-,-,:;\0\0\0\x03abc";
+
+/// Edges whose references are triplet ids, in rows of 22 and of 24 bytes.
+const EDGES: &[u8] =
+    b"\xe6\0\0\0L;Edges;-;id=I,1,P,Id,-,-,-,:start_node=K,1,N,Start,-,-,-,:end_node=K,1,N,End,-,-,-,:right_face=K,1,N,Right,-,-,-,:left_face=K,1,N,Left,-,-,-,:right_edge=K,1,N,Right,-,-,-,:left_edge=K,1,N,Left,-,-,-,:tile_line=S,1,N,Line,-,-,-,:;\x01\0\0\0\x54\x01\x02\x01\x40\x02\x40\x02\x40\x01\x40\x02\x54\x02\x02\x01\0\0\x02\0\0\0\x40\x01\x54\x02\x02\x02\x54\x01\x02\x02\x40\x02\x54\x01\x02\x01\x40\x01\x01\0";
+
+/// The index of `FIXED`.
+const FIXED_INDEX: &[u8] =
+    b"\x03\0\0\0\x2a\0\0\0\x2e\0\0\0\x06\0\0\0\x34\0\0\0\x06\0\0\0\x3a\0\0\0\x06\0\0\0";
+
+/// The index of `VARYING`.
+const VARYING_INDEX: &[u8] =
+    b"\x03\0\0\0\x18\0\0\0\x1c\0\0\0\x07\0\0\0\x23\0\0\0\x04\0\0\0\x27\0\0\0\x05\0\0\0";
+
+/// The index of `BIG`.
+const BIG_INDEX: &[u8] = b"\0\0\0\x01\0\0\0\x18\0\0\0\x1c\0\0\0\x07";
+
+/// The index of `EDGES`.
+const EDGES_INDEX: &[u8] = b"\x02\0\0\0\xe6\0\0\0\xea\0\0\0\x16\0\0\0\0\x01\0\0\x18\0\0\0";
+
+/// The first two entries of `VARYING_INDEX`, and their number.
+const TWO_ENTRIES: &[u8] = b"\x02\0\0\0\x18\0\0\0\x1c\0\0\0\x07\0\0\0\x23\0\0\0\x04\0\0\0";
+
+/// `VARYING_INDEX` with another length in its first entry.
+const OTHER_LENGTH: &[u8] =
+    b"\x03\0\0\0\x18\0\0\0\x1c\0\0\0\x06\0\0\0\x23\0\0\0\x04\0\0\0\x27\0\0\0\x05\0\0\0";
+
+/// `VARYING_INDEX` with another offset in its second entry.
+const OTHER_OFFSET: &[u8] =
+    b"\x03\0\0\0\x18\0\0\0\x1c\0\0\0\x07\0\0\0\x22\0\0\0\x04\0\0\0\x27\0\0\0\x05\0\0\0";
+
+/// `FIXED_INDEX` with another length in its last entry.
+const OTHER_WIDTH: &[u8] =
+    b"\x03\0\0\0\x2a\0\0\0\x2e\0\0\0\x06\0\0\0\x34\0\0\0\x06\0\0\0\x3a\0\0\0\x05\0\0\0";
+
+/// `BIG_INDEX` and a byte more.
+const LONG_INDEX: &[u8] = b"\0\0\0\x01\0\0\0\x18\0\0\0\x1c\0\0\0\x07\0";
+
+/// The rows of a table, or where it or its index is refused first.
+fn rows_in(alloc: Global, bytes: &[u8], index: Option<&[u8]>) -> Result<u32, Place> {
+    match TableView::open(alloc, bytes, index) {
         Ok(table) => Ok(table.len()),
         Err(PlaceError::Place(place)) => Err(place),
         Err(PlaceError::NoMemory) => Ok(u32::MAX),
@@ -43,8 +82,34 @@ fn counts_rows(rt: HostRuntime) -> Result<(), Fail> {
         (&FIXED[..45], Err(Place::in_table(4, Code::HeaderCut))),
         (&FIXED[..3], Err(Place::in_table(0, Code::NumberCut))),
     ] {
-        assert_eq!(rt; rows_in(alloc, bytes), want, "{}", bytes.len());
+        assert_eq!(rt; rows_in(alloc, bytes, None), want, "{}", bytes.len());
     }
+    Ok(())
+}
+
+#[test]
+fn opens_with_an_index(rt: HostRuntime) -> Result<(), Fail> {
+    let alloc = rt.alloc();
+    for (bytes, index, want) in [
+        (FIXED, FIXED_INDEX, Ok(3)),
+        (VARYING, VARYING_INDEX, Ok(3)),
+        (BIG, BIG_INDEX, Ok(1)),
+        (EDGES, EDGES_INDEX, Ok(2)),
+        (EDGES, &EDGES_INDEX[..0], Err((0, Code::IndexCut))),
+        (EDGES, &EDGES_INDEX[..23], Err((16, Code::IndexCut))),
+        (BIG, EDGES_INDEX, Err((24, Code::IndexCut))),
+        (BIG, LONG_INDEX, Err((16, Code::IndexExtra))),
+        (EDGES, VARYING_INDEX, Err((0, Code::IndexCount))),
+        (VARYING, TWO_ENTRIES, Err((0, Code::IndexCount))),
+        (VARYING, OTHER_LENGTH, Err((8, Code::IndexRow))),
+        (VARYING, OTHER_OFFSET, Err((16, Code::IndexRow))),
+        (FIXED, OTHER_WIDTH, Err((24, Code::IndexRow))),
+    ] {
+        let want = want.map_err(|fault| Place::in_index(fault.0, fault.1));
+        assert_eq!(rt; rows_in(alloc, bytes, Some(index)), want, "{index:?}");
+    }
+    let cut = Place::in_table(39, Code::CellCut);
+    assert_eq!(rt; rows_in(alloc, &VARYING[..43], Some(b"")), Err(cut));
     Ok(())
 }
 
@@ -57,10 +122,10 @@ fn stops_at_the_row_past_the_most(rt: HostRuntime) -> Result<(), Fail> {
     ] {
         let mut bytes = header.to_vec(alloc)?;
         bytes.resize(28 + 16_777_215, 0)?;
-        assert_eq!(rt; rows_in(alloc, &bytes), Ok(16_777_215));
+        assert_eq!(rt; rows_in(alloc, &bytes, None), Ok(16_777_215));
         bytes.push(0)?;
         let past = Place::in_table(28 + 16_777_215, Code::LimitRows(16_777_216));
-        assert_eq!(rt; rows_in(alloc, &bytes), Err(past));
+        assert_eq!(rt; rows_in(alloc, &bytes, None), Err(past));
     }
     Ok(())
 }
@@ -101,11 +166,13 @@ fn has_row(table: &TableView<'_>, k: u32, want: &[u8]) -> bool {
 #[test]
 fn finds_rows_and_cells(rt: HostRuntime) -> Result<(), Fail> {
     let alloc = rt.alloc();
-    for (bytes, texts) in [
-        (FIXED, [b"ab".as_slice(), b"cd", b"ef"]),
-        (VARYING, [b"abc".as_slice(), b"", b"z"]),
+    for (bytes, index, texts) in [
+        (FIXED, None, [b"ab".as_slice(), b"cd", b"ef"]),
+        (FIXED, Some(FIXED_INDEX), [b"ab".as_slice(), b"cd", b"ef"]),
+        (VARYING, None, [b"abc".as_slice(), b"", b"z"]),
+        (VARYING, Some(VARYING_INDEX), [b"abc".as_slice(), b"", b"z"]),
     ] {
-        let table = TableView::open(alloc, bytes)?;
+        let table = TableView::open(alloc, bytes, index)?;
         assert!(rt; !table.is_empty());
         for (i, want) in texts.iter().enumerate() {
             let k = i as u32 + 1;
@@ -124,7 +191,7 @@ fn finds_rows_and_cells(rt: HostRuntime) -> Result<(), Fail> {
 
 #[test]
 fn reads_the_cells_of_a_row(rt: HostRuntime) -> Result<(), Fail> {
-    let table = TableView::open(rt.alloc(), FIXED)?;
+    let table = TableView::open(rt.alloc(), FIXED, None)?;
     let mut numbers = Vec::new(rt.alloc());
     for row in table.rows() {
         for cell in row.cells().take(1) {

@@ -1,9 +1,11 @@
 //! A table, seen in its file.
 
 use crate::counting::count_rows;
+use crate::indexing::{index_has_bytes, own_index};
 use crate::iteration::Rows;
-use crate::laws::{read_is_spelled, spelled_is_read};
-use crate::places_of_rows::{fixed_place, walked_place};
+use crate::laws::{opened_is_spelled, spelled_is_opened};
+use crate::places_of_rows::place_of_row;
+use crate::rewriting::most_len;
 use crate::row::RowView;
 use crate::walking::row_width;
 use std::alloc::Global;
@@ -12,9 +14,10 @@ use std::sync::ledger::Ledger;
 use vpf_head::Header;
 use vpf_source::Steps;
 use vpf_triplet::PlaceError;
+use vpf_varindex::IndexView;
 
-/// A table whose header and rows stay in the file (MIL-STD-2407, 5.4, VPF table encoding). Contracts see it as its header
-/// and the list of its rows.
+/// A table whose header and rows stay in the file (MIL-STD-2407, 5.4, VPF table encoding), maybe with its variable-length
+/// index. Contracts see it as its header and the list of its rows.
 #[derive(Drop)]
 pub struct TableView<'a> {
     header: Header<'a>,
@@ -22,6 +25,7 @@ pub struct TableView<'a> {
     start: usize,
     rows: u32,
     width: Option<usize>,
+    index: Option<IndexView<'a>>,
 }
 
 impl<'a> Model for TableView<'a> {
@@ -38,29 +42,46 @@ impl<'a> Model for TableView<'a> {
 
 impl<'a> TableView<'a> {
     ghost use Rattle.std.specs.Prelude.{◌≡◌, ◌≤◌, ◌+◌, ◌-◌, ◌==◌, All, IfOk, Ok, Some, length, slice_get};
+    ghost use Rattle.std.specs.Option.{option_copied};
     ghost use Rattle.vpf_triplet.specs.Places.{Answers};
     ghost use Rattle.vpf_table.specs.Grid.{Grid};
-    ghost use Rattle.vpf_table.specs.Reading.{most_rows, table_of};
-    ghost use Rattle.vpf_table.specs.Spelling.{IsTable};
+    ghost use Rattle.vpf_triplet.specs.declared.orders.Order.{Order};
+    ghost use Rattle.vpf_table.specs.Canonical.{FitsRow, rows_text};
+    ghost use Rattle.vpf_table.specs.Reading.{most_rows};
+    ghost use Rattle.vpf_table.specs.Opening.{opened_of};
+    ghost use Rattle.vpf_table.specs.Spans.{IsOpened};
 
-    /// The table of a file: its header, and one row after another up to the end. Refused exactly where the bytes are no
-    /// table, at the first fault; a cell's fault stands at the cell's first byte, `limit-rows` at the first byte of row
-    /// 16,777,216. Rows of one width are counted without a look at them. Takes memory for the header alone.
-    pub fn open(alloc: Global, bytes: &'a [u8]) -> Result<TableView<'a>, PlaceError>
+    /// The table of a file: its header, and one row after another up to the end. A given index must be this table's own.
+    /// Refused exactly where the bytes are no table, at the first fault; a cell's fault stands at the cell's first byte,
+    /// `limit-rows` at the first byte of row 16,777,216. Then exactly where a given index is no index, at its first fault;
+    /// `index-count` at 0 where it has another number of entries than the table has rows; and `index-row` at the first
+    /// entry that isn't the offset and the length of its row. Rows of one width are counted without a look at them. Takes
+    /// memory for the header alone.
+    pub fn open(
+        alloc: Global,
+        bytes: &'a [u8],
+        index: Option<&'a [u8]>,
+    ) -> Result<TableView<'a>, PlaceError>
         // What is opened is spelled so.
-        ensures found { IfOk result (λ t. IsTable t bytes.now) }
-        // What is spelled as a table is opened as that table, unless memory runs out.
-        ensures only { (g : Grid) → IsTable g bytes.now → Answers (λ t. t) result (Ok g) }
+        ensures found { IfOk result (λ t. IsOpened t bytes.now (option_copied index.entry)) }
+        // What is spelled as a table, with its own index where one is given, is opened as that table, unless memory runs
+        // out.
+        ensures only { (g : Grid) → IsOpened g bytes.now (option_copied index.entry) → Answers (λ t. t) result (Ok g) }
         // The table, or the first fault, unless memory ran out.
-        ensures exact { Answers (λ t. t) result (table_of bytes.now) }
+        ensures exact { Answers (λ t. t) result (opened_of bytes.now (option_copied index.entry)) }
     {
-        spelled_is_read();
-        read_is_spelled();
-        TableView::read(alloc, bytes)
+        spelled_is_opened();
+        opened_is_spelled();
+        index_has_bytes(index);
+        TableView::read(alloc, bytes, index)
     }
 
-    fn read(alloc: Global, bytes: &'a [u8]) -> Result<TableView<'a>, PlaceError>
-        ensures { Answers (λ t. t) result (table_of bytes.now) }
+    fn read(
+        alloc: Global,
+        bytes: &'a [u8],
+        index: Option<&'a [u8]>,
+    ) -> Result<TableView<'a>, PlaceError>
+        ensures { Answers (λ t. t) result (opened_of bytes.now (option_copied index.entry)) }
     {
         let (header, start) = match Header::read(alloc, bytes) {
             Ok(found) => found,
@@ -71,12 +92,17 @@ impl<'a> TableView<'a> {
             Ok(rows) => rows,
             Err(place) => return Err(PlaceError::Place(place)),
         };
+        let index = match own_index(&header, bytes, start, rows, width, index) {
+            Ok(index) => index,
+            Err(place) => return Err(PlaceError::Place(place)),
+        };
         Ok(TableView {
             header,
             bytes,
             start,
             rows,
             width,
+            index,
         })
     }
 
@@ -102,8 +128,8 @@ impl<'a> TableView<'a> {
         self.rows == 0
     }
 
-    /// Row `k`, counted from 1, with a tick for it. Found in constant time where rows have one width, and by a walk from
-    /// the first row where they vary.
+    /// Row `k`, counted from 1, with a tick for it. Found in constant time where rows have one width or the table was opened
+    /// with an index, and else by a walk from the first row.
     pub fn row<L: Ledger>(&self, k: u32, steps: &mut Steps<L>) -> RowView<'_, 'a>
         requires first { 1 ≤ k }
         requires last { k ≤ length self.now.rows }
@@ -112,11 +138,14 @@ impl<'a> TableView<'a> {
         ensures tick { steps.new ≡ steps.old + 1 }
     {
         steps.tick();
-        if let Some(width) = self.width {
-            let at = fixed_place(&self.header, self.bytes, self.start, width, k - 1);
-            return RowView::new(&self.header, self.bytes, at);
-        }
-        let at = walked_place(&self.header, self.bytes, self.start, k - 1);
+        let at = place_of_row(
+            &self.header,
+            self.bytes,
+            self.start,
+            self.width,
+            &self.index,
+            k - 1,
+        );
         RowView::new(&self.header, self.bytes, at)
     }
 
@@ -124,7 +153,16 @@ impl<'a> TableView<'a> {
     pub fn rows(&self) -> Rows<'_, 'a>
         ensures rows { result ≡ self.now.rows }
         ensures width { All (λ row. length row ≡ length self.now.head.columns) result }
+        // Each cell fits its column.
+        ensures fits { All (FitsRow self.now.head.columns) result }
     {
         Rows::new(&self.header, self.bytes, self.start, self.width)
+    }
+
+    /// No fewer bytes than the rows have in canonical spelling, in either order.
+    pub(crate) fn most_len(&self) -> usize
+        ensures { (order : Order) → length (rows_text order self.now.head.columns self.now.rows) ≤ result }
+    {
+        most_len(&self.header, self.bytes, self.start)
     }
 }

@@ -9,6 +9,7 @@ ghost use Rattle.vpf_table.specs.Widths.{width_of};
 
 use vpf_head::{Column, Header};
 use vpf_triplet::{Order, Place};
+use vpf_value::laws::fixed_cells;
 use vpf_value::{Cell, cell_at, cell_width};
 
 fn skip_cell(order: Order, column: &Column<'_>, bytes: &[u8], at: usize) -> Result<usize, Place>
@@ -58,11 +59,29 @@ pub fn sure_end(header: &Header<'_>, bytes: &[u8], at: usize) -> usize
     requires inside { at ≤ length bytes.now }
     requires read { IsOk (row_at header.now.order header.now.columns bytes.now at) }
     ensures value { result ≡ past_of (row_at header.now.order header.now.columns bytes.now at) }
+    ensures after { at ≤ result }
     ensures inside { result ≤ length bytes.now }
 {
     match skip_row(header, bytes, at) {
         Ok(past) => past,
         Err(_) => unreachable!(),
+    }
+}
+
+/// The end of the row that is known to begin at `at`, by the width of the rows where they have one.
+pub fn next_row(header: &Header<'_>, bytes: &[u8], at: usize, width: Option<usize>) -> usize
+    requires inside { at ≤ length bytes.now }
+    requires read { IsOk (row_at header.now.order header.now.columns bytes.now at) }
+    requires fixed { IfSome width (λ w. width_of header.now.columns ≡ Some w) }
+    ensures value { result ≡ past_of (row_at header.now.order header.now.columns bytes.now at) }
+    ensures after { at ≤ result }
+    ensures inside { result ≤ length bytes.now }
+{
+    fixed_cells();
+    let _end = bytes.len();
+    match width {
+        Some(width) => at + width,
+        None => sure_end(header, bytes, at),
     }
 }
 

@@ -78,7 +78,7 @@ reserved a b c = omega arith
 
 -- ---- parts
 
-length-part : (o : Order) (s : Size) (v : Option ℕ) → Holds s v → length (part o s v) ≡ bytes_of s
+pub length-part : (o : Order) (s : Size) (v : Option ℕ) → Holds s v → length (part o s v) ≡ bytes_of s
 length-part o Absent None h = refl
 length-part o Absent (Some n) h = absurd h
 length-part o One None h = absurd h
@@ -102,7 +102,7 @@ part_again o Four None rest h = absurd h
 part_again Little Four (Some n) rest h = ap (λ (k : ℕ). Some k) (from_le_bytes-to_le_bytes_4 n (omega arith))
 part_again Big Four (Some n) rest h = ap (λ (k : ℕ). Some k) (from_be_bytes-to_be_bytes_4 n (omega arith))
 
-small_again : (s : Size) (v : Option ℕ) → Holds s v → is_small v ≡ true
+pub small_again : (s : Size) (v : Option ℕ) → Holds s v → is_small v ≡ true
 small_again s None h = refl
 small_again Absent (Some n) h = absurd h
 small_again One (Some n) h = lt-ltb _ _ (omega arith)

@@ -5,4 +5,5 @@ pub mod Places
 pub mod Sizes
 pub mod Reading
 pub mod Spelling
+pub mod Canonical
 pub mod Deciding

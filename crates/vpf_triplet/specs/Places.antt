@@ -4,13 +4,21 @@ use Rattle.std.specs.Fmt.{decimal}
 use Rattle.vpf_triplet.specs.declared.places.Place.{Place}
 use Rattle.vpf_triplet.specs.declared.places.PlaceError.{PlaceError}
 use Rattle.vpf_triplet.specs.declared.places.PlaceError.TheVariants as errors
-use Rattle.vpf_triplet.specs.declared.places.Part.TheVariants.{Table}
+use Rattle.vpf_triplet.specs.declared.places.Part.TheVariants.{Table, Index, Theme}
 use Rattle.vpf_triplet.specs.declared.places.Code.{Code}
 use Rattle.vpf_triplet.specs.Codes.{code_text}
 
 -- a fault of the table's own file
 abbrev pub fault : ℕ → Code → Place
 fault at code = record { part = Table; at = at; code = code }
+
+-- a fault of a variable-length index
+abbrev pub index_fault : ℕ → Code → Place
+index_fault at code = record { part = Index; at = at; code = code }
+
+-- a fault of a thematic index
+abbrev pub theme_fault : ℕ → Code → Place
+theme_fault at code = record { part = Theme; at = at; code = code }
 
 -- the words of a place
 abbrev pub place_text : Place → List ℕ

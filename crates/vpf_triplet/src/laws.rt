@@ -1,7 +1,11 @@
 //! Laws about the definitions of triplet ids alone.
 
-ghost use Rattle.std.specs.Prelude.{ℕ, List};
+ghost use Rattle.std.specs.Prelude.{◌≡◌, ◌≤◌, ◌++◌, ℕ, List, length, Ok};
 ghost use Rattle.vpf_triplet.specs.declared.orders.Order.{Order};
+ghost use Rattle.vpf_triplet.specs.declared.triplets.Triplet.{Triplet};
+ghost use Rattle.vpf_triplet.specs.Canonical.{canonical, IsSmall};
+ghost use Rattle.vpf_triplet.specs.Reading.{triplet_at};
+ghost use Rattle.vpf_triplet.specs.Spelling.{IsTriplet};
 ghost use Rattle.vpf_triplet.specs.Numbers.{IsBytes};
 ghost use Rattle.vpf_triplet.specs.Deciding.{Decides};
 
@@ -9,4 +13,13 @@ ghost use Rattle.vpf_triplet.specs.Deciding.{Decides};
 /// never both. So no spelling is a proper beginning of another.
 pub fn triplets_decide()
     ensures { (order : Order) (bytes : List ℕ) → IsBytes bytes → Decides order bytes }
+{}
+
+/// The canonical spelling of a triplet id whose parts are below 2^31 is one of its spellings, is read again whatever
+/// follows, and no spelling of the triplet id is shorter.
+pub fn canonical_is_spelled()
+    ensures spelled { (order : Order) (t : Triplet) → IsSmall t → IsTriplet order t (canonical order t) }
+    ensures read_again { (order : Order) (t : Triplet) (rest : List ℕ) → IsSmall t → triplet_at order (canonical order t ++ rest) ≡ Ok (t, length (canonical order t)) }
+    ensures shortest { (order : Order) (t : Triplet) (bytes : List ℕ) → IsTriplet order t bytes → length (canonical order t) ≤ length bytes }
+    ensures small { (order : Order) (t : Triplet) (bytes : List ℕ) → IsTriplet order t bytes → IsSmall t }
 {}

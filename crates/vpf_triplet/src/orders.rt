@@ -1,9 +1,10 @@
 //! The byte order of a table's numbers.
 
-ghost use Rattle.std.specs.Prelude.{◌≡◌, ◌≤◌, length};
+ghost use Rattle.std.specs.Prelude.{◌≡◌, ◌≤◌, ◌++◌, OnOk, OnErr, length};
 ghost use Rattle.std.specs.Int.{w16, w32, w64};
-ghost use Rattle.vpf_triplet.specs.Numbers.{number_of};
+ghost use Rattle.vpf_triplet.specs.Numbers.{number, number_of};
 
+use std::alloc::AllocError;
 use std::fmt;
 
 /// Which byte of a number comes first in a file: `L` and `M` in a header.
@@ -65,6 +66,39 @@ impl Order {
         match self {
             Order::Little => u64::from_le_bytes(spelling),
             Order::Big => u64::from_be_bytes(spelling),
+        }
+    }
+
+    /// Appends the two bytes that spell the unsigned number. After an error nothing is appended.
+    pub fn put_u16(self, n: u16, out: &mut Vec<u8>) -> Result<(), AllocError>
+        ensures ok { OnOk result (out.new.items ≡ out.old.items ++ number self w16 n) }
+        ensures err { OnErr result (out.new.items ≡ out.old.items) }
+    {
+        match self {
+            Order::Little => out.extend_from_slice(&n.to_le_bytes()),
+            Order::Big => out.extend_from_slice(&n.to_be_bytes()),
+        }
+    }
+
+    /// Appends the four bytes that spell the unsigned number. After an error nothing is appended.
+    pub fn put_u32(self, n: u32, out: &mut Vec<u8>) -> Result<(), AllocError>
+        ensures ok { OnOk result (out.new.items ≡ out.old.items ++ number self w32 n) }
+        ensures err { OnErr result (out.new.items ≡ out.old.items) }
+    {
+        match self {
+            Order::Little => out.extend_from_slice(&n.to_le_bytes()),
+            Order::Big => out.extend_from_slice(&n.to_be_bytes()),
+        }
+    }
+
+    /// Appends the eight bytes that spell the unsigned number. After an error nothing is appended.
+    pub fn put_u64(self, n: u64, out: &mut Vec<u8>) -> Result<(), AllocError>
+        ensures ok { OnOk result (out.new.items ≡ out.old.items ++ number self w64 n) }
+        ensures err { OnErr result (out.new.items ≡ out.old.items) }
+    {
+        match self {
+            Order::Little => out.extend_from_slice(&n.to_le_bytes()),
+            Order::Big => out.extend_from_slice(&n.to_be_bytes()),
         }
     }
 }

@@ -1,7 +1,7 @@
 //! Where a file is refused, and why.
 
 ghost use Rattle.std.specs.Prelude.{◌≡◌};
-ghost use Rattle.vpf_triplet.specs.Places.{fault};
+ghost use Rattle.vpf_triplet.specs.Places.{fault, index_fault, theme_fault};
 ghost use Rattle.vpf_triplet.specs.declared.places.PlaceError.TheVariants as errors;
 
 use std::alloc::{AllocError, AllocFailed};
@@ -147,6 +147,28 @@ impl Place {
     {
         Place {
             part: Part::Table,
+            at: at as u64,
+            code,
+        }
+    }
+
+    /// A fault of a variable-length index, `at` bytes from its start.
+    pub fn in_index(at: usize, code: Code) -> Place
+        ensures { result ≡ index_fault at code }
+    {
+        Place {
+            part: Part::Index,
+            at: at as u64,
+            code,
+        }
+    }
+
+    /// A fault of a thematic index, `at` bytes from its start.
+    pub fn in_theme(at: usize, code: Code) -> Place
+        ensures { result ≡ theme_fault at code }
+    {
+        Place {
+            part: Part::Theme,
             at: at as u64,
             code,
         }

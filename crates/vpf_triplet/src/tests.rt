@@ -82,6 +82,65 @@ fn reads_triplets(rt: HostRuntime) -> Result<(), Fail> {
     Ok(())
 }
 
+/// Triplet ids with their canonical spellings in either order.
+const SPELLINGS: [(Triplet, &[u8], &[u8]); 5] = [
+    (NOTHING, &[0], &[0]),
+    (
+        Triplet {
+            id: Some(1),
+            tile: Some(2),
+            ext: Some(3),
+        },
+        &[0x54, 1, 2, 3],
+        &[0x54, 1, 2, 3],
+    ),
+    (
+        Triplet {
+            id: Some(255),
+            tile: None,
+            ext: Some(256),
+        },
+        &[0x48, 0xff, 0x00, 0x01],
+        &[0x48, 0xff, 0x01, 0x00],
+    ),
+    (
+        Triplet {
+            id: None,
+            tile: Some(65_535),
+            ext: Some(65_536),
+        },
+        &[0x2c, 0xff, 0xff, 0x00, 0x00, 0x01, 0x00],
+        &[0x2c, 0xff, 0xff, 0x00, 0x01, 0x00, 0x00],
+    ),
+    (
+        Triplet {
+            id: Some(0),
+            tile: Some(2_147_483_647),
+            ext: None,
+        },
+        &[0x70, 0, 0xff, 0xff, 0xff, 0x7f],
+        &[0x70, 0, 0x7f, 0xff, 0xff, 0xff],
+    ),
+];
+
+#[test]
+fn writes_triplets(rt: HostRuntime) -> Result<(), Fail> {
+    for (id, little, big) in SPELLINGS {
+        for (order, want) in [(Order::Little, little), (Order::Big, big)] {
+            let small = id.id.unwrap_or(0) < 0x8000_0000
+                && id.tile.unwrap_or(0) < 0x8000_0000
+                && id.ext.unwrap_or(0) < 0x8000_0000;
+            assert!(rt; small);
+            let mut out = vec![in rt.alloc(); 9]?;
+            id.put(order, &mut out)?;
+            assert_eq!(rt; &out[1..], want, "{id:?}");
+            assert_eq!(rt; out.first().copied(), Some(9), "{id:?}");
+            assert_eq!(rt; id.width(), want.len(), "{id:?}");
+        }
+    }
+    Ok(())
+}
+
 fn printed<T: std::fmt::Display + Drop>(alloc: Global, value: T) -> Result<String, AllocError> {
     format!(in alloc; "{value}")
 }

@@ -1,12 +1,14 @@
 //! Triplet ids.
 
-ghost use Rattle.std.specs.Prelude.{◌≡◌, ◌≤◌, ◌&&◌, length, drop};
+ghost use Rattle.std.specs.Prelude.{◌≡◌, ◌≤◌, ◌&&◌, ◌++◌, OnOk, length, drop, take, vec_len};
+ghost use Rattle.vpf_triplet.specs.Canonical.{canonical};
 ghost use Rattle.vpf_triplet.specs.Places.{Reads};
 ghost use Rattle.vpf_triplet.specs.Reading.{triplet_at, is_small};
 
 use crate::orders::Order;
 use crate::places::{Code, Place};
-use crate::sizes::{first_part, named_size};
+use crate::sizes::{first_part, least_size, named_size, put_part};
+use std::alloc::AllocError;
 
 /// A triplet id: a reference across tiles (MIL-STD-2407, 5.4, triplet id field type). `id` is a number in this tile, `tile`
 /// another tile, and `ext` the number there; each may be absent.
@@ -63,8 +65,28 @@ fn read_at(order: Order, bytes: &[u8], at: usize) -> Result<(Triplet, usize), Pl
     Ok((Triplet { id, tile, ext }, past))
 }
 
+/// Appends the canonical spelling; after an error some of it may stand behind what stood there.
+#[tactic(auto, unfolding(crate::specs::Canonical::canonical))]
+fn put_parts(id: &Triplet, order: Order, out: &mut Vec<u8>) -> Result<(), AllocError>
+    ensures ok { OnOk result (out.new.items ≡ out.old.items ++ canonical order id.now) }
+    ensures kept { take (vec_len out.old) out.new.items ≡ out.old.items }
+{
+    let (a, b, c) = (
+        least_size(id.id).bits(),
+        least_size(id.tile).bits(),
+        least_size(id.ext).bits(),
+    );
+    out.push(64 * a + 16 * b + 4 * c)?;
+    put_part(order, id.id, out)?;
+    put_part(order, id.tile, out)?;
+    put_part(order, id.ext, out)?;
+    Ok(())
+}
+
 impl Triplet {
-    ghost use Rattle.std.specs.Prelude.{◌≡◌, ◌≤◌, ◌+◌, ℕ, List, length, drop, slice_range, IfOk, Ok};
+    ghost use Rattle.std.specs.Prelude.{◌≡◌, ◌≤◌, ◌+◌, ◌++◌, ℕ, List, length, drop, slice_range, IfOk, OnOk, OnErr, Ok};
+    ghost use Rattle.vpf_triplet.specs.declared.orders.Order.{Order};
+    ghost use Rattle.vpf_triplet.specs.Canonical.{canonical, IsSmall};
     ghost use Rattle.vpf_triplet.specs.Spelling.{IsTriplet};
     ghost use Rattle.vpf_triplet.specs.Deciding.{Begins};
     ghost use Rattle.vpf_triplet.specs.Places.{Reads};
@@ -83,5 +105,31 @@ impl Triplet {
         ensures exact { Reads at result (triplet_at order (drop at bytes.now)) }
     {
         read_at(order, bytes, at)
+    }
+
+    /// How many bytes the canonical spelling has, 1 to 13, in either order.
+    pub fn width(&self) -> usize
+        ensures value { (order : Order) → length (canonical order self.now) ≡ result }
+        ensures most { (1 ≤ result) × (result ≤ 13) }
+    {
+        1 + least_size(self.id).bytes()
+            + least_size(self.tile).bytes()
+            + least_size(self.ext).bytes()
+    }
+
+    /// Appends the canonical spelling: the type byte, and each part that is there in the least of 1, 2 and 4 bytes that
+    /// hold it. After an error nothing is appended.
+    pub fn put(&self, order: Order, out: &mut Vec<u8>) -> Result<(), AllocError>
+        // Each part is below 2^31.
+        requires { IsSmall self.now }
+        ensures ok { OnOk result (out.new.items ≡ out.old.items ++ canonical order self.now) }
+        ensures err { OnErr result (out.new.items ≡ out.old.items) }
+    {
+        let before = out.len();
+        if put_parts(self, order, out).is_err() {
+            out.truncate(before);
+            return Err(AllocError);
+        }
+        Ok(())
     }
 }

@@ -135,7 +135,7 @@ tuples_fit : (o : Order) (width : WordWidth) (tuple : Tuple) (count : Count) (v 
 tuples_fit o width tuple (Fixed n) v bytes h = rw (h.is) (refl, record { tuples = n; whole = h.many; held = refl }, h.small)
 tuples_fit o width tuple Star v bytes h = rw (h.spelled.is) (refl, record { tuples = h.count; whole = h.spelled.many; held = h.small }, h.spelled.small)
 
-kind_fits : (o : Order) (kind : Kind) (count : Count) (v : Value) (bytes : List ℕ) → IsCell o kind count v bytes → FitsKind kind count v
+pub kind_fits : (o : Order) (kind : Kind) (count : Count) (v : Value) (bytes : List ℕ) → IsCell o kind count v bytes → FitsKind kind count v
 kind_fits o kinds.T c v bytes h = text_fits o c v bytes h
 kind_fits o kinds.L c v bytes h = text_fits o c v bytes h
 kind_fits o kinds.M c v bytes h = text_fits o c v bytes h

@@ -6,3 +6,4 @@ pub mod CellLaws
 pub mod Deciding
 pub mod WidthLaws
 pub mod FittingLaws
+pub mod Canonicals

@@ -1,7 +1,7 @@
 -- Words one after another: what is read of them is spelled so, and what is spelled so is read.
 use Rattle.std.specs.Prelude.{All}
-use Rattle.std.proofs.Common.{◌≡◌, ℕ, zero, suc, ◌+◌, ◌*◌, ◌<◌, ◌≤◌, List, [], ◌∷◌, ◌++◌, length, drop, take, refl, ◌∙◌, append_assoc, take-add, arith}
-use Rattle.std.proofs.lemmas.List.{length-append, length-drop, drop_at}
+use Rattle.std.proofs.Common.{◌≡◌, ℕ, zero, suc, ◌+◌, ◌*◌, ◌<◌, ◌≤◌, List, [], ◌∷◌, ◌++◌, length, get_or, drop, take, refl, ap, ◌∙◌, append_assoc, take-add, add-one, drop-cons, arith}
+use Rattle.std.proofs.lemmas.List.{length-append, length-drop, drop_at, drop_all}
 use Rattle.vpf_triplet.specs.declared.orders.Order.{Order}
 use Rattle.vpf_triplet.specs.Numbers.{IsBytes, number}
 use Rattle.vpf_triplet.proofs.Spelled.{IsBytes-drop}
@@ -43,3 +43,12 @@ word_text-words_of o w (suc n) bytes fits h =
     let first = number-number_of o w bytes fits (omega arith) in
     let others = word_text-words_of o w n (drop (word_bytes w) bytes) (IsBytes-drop (word_bytes w) bytes fits) (omega (arith, length-drop (word_bytes w) bytes)) in
     rw (many, first, others, take-add (word_bytes w) (word_bytes w * n) bytes) refl
+
+-- the words from one on, and the spelling of that one
+pub word_text-drop : (o : Order) (w : WordWidth) (words : List ℕ) (i : ℕ) → i < length words → word_text o w (drop i words) ≡ number o (number_width w) (get_or words i 0) ++ word_text o w (drop (i + 1) words)
+unfolding word_text
+word_text-drop o w words i h = rw (add-one, drop-cons words i 0) refl
+
+pub word_text-end : (o : Order) (w : WordWidth) (words : List ℕ) (i : ℕ) → length words ≤ i → word_text o w (drop i words) ≡ []
+unfolding word_text
+word_text-end o w words i h = ap (word_text o w) (drop_all i words h)

@@ -4,5 +4,6 @@ pub mod Values
 pub mod Reading
 pub mod Widths
 pub mod Spelling
+pub mod Canonical
 pub mod Deciding
 pub mod Fitting

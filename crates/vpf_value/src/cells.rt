@@ -37,7 +37,7 @@ pub enum Cell<'a> {
     Coords(Coords<'a>),
 }
 
-const COUNT_BYTES: usize = 4;
+pub(crate) const COUNT_BYTES: usize = 4;
 
 /// The bytes from `at` on, of which a cell takes the first `len`; cut where fewer are left.
 #[inline]

@@ -87,8 +87,8 @@ pub struct Coords<'a> {
 }
 
 impl<'a> Coords<'a> {
-    ghost use Rattle.std.specs.Prelude.{◌≡◌, ◌<◌, ◌↔◌, [], length, slice_index, IsTrue};
-    ghost use Rattle.vpf_value.specs.Words.{tuple_len};
+    ghost use Rattle.std.specs.Prelude.{◌≡◌, ◌<◌, ◌*◌, ◌↔◌, [], length, slice_index, IsTrue};
+    ghost use Rattle.vpf_value.specs.Words.{word_bytes, tuple_len};
     ghost use Rattle.vpf_value.specs.Coordinates.{words, words_in, width_of, tuple_of};
 
     /// The words that the bytes spell.
@@ -130,6 +130,17 @@ impl<'a> Coords<'a> {
         match self.width {
             WordWidth::Four => self.bytes.len() / 4,
             WordWidth::Eight => self.bytes.len() / 8,
+        }
+    }
+
+    /// How many bytes all words take.
+    #[inline]
+    pub(crate) fn words_bytes(&self) -> usize
+        ensures { result ≡ word_bytes (width_of self.now) * length (words self.now) }
+    {
+        match self.width {
+            WordWidth::Four => self.bytes.len() / 4 * 4,
+            WordWidth::Eight => self.bytes.len() / 8 * 8,
         }
     }
 

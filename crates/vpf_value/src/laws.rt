@@ -1,9 +1,10 @@
 //! Laws about the definitions of cells alone.
 
-ghost use Rattle.std.specs.Prelude.{◌≡◌, ◌≢◌, ◌≤◌, ◌<◌, ◌↔◌, ℕ, List, ◌++◌, length, take, Some, Ok};
+ghost use Rattle.std.specs.Prelude.{◌≡◌, ◌≢◌, ◌≤◌, ◌<◌, ◌↔◌, ℕ, List, ◌++◌, length, take, Some, Ok, IsTrue};
 ghost use Rattle.vpf_triplet.specs.declared.orders.Order.{Order};
 ghost use Rattle.vpf_triplet.specs.declared.kinds.Kind.{Kind};
 ghost use Rattle.vpf_triplet.specs.declared.kinds.Count.{Count};
+ghost use Rattle.vpf_triplet.specs.Kinds.{allows};
 ghost use Rattle.vpf_triplet.specs.Numbers.{IsBytes};
 ghost use Rattle.vpf_value.specs.Values.{Value};
 ghost use Rattle.vpf_value.specs.Reading.{cell_from};
@@ -11,6 +12,7 @@ ghost use Rattle.vpf_value.specs.Spelling.{IsCell};
 ghost use Rattle.vpf_value.specs.Widths.{cell_width, TakesWidth};
 ghost use Rattle.vpf_value.specs.Deciding.{Decides};
 ghost use Rattle.vpf_value.specs.Fitting.{FitsCell, HasSpelling};
+ghost use Rattle.vpf_value.specs.Canonical.{spelled};
 
 /// Each list of bytes begins with the spelling of exactly one value, or is refused with exactly one code, and never
 /// both. So no spelling is a proper beginning of another.
@@ -41,4 +43,21 @@ pub fn cells_have_room()
 /// The values that fit a field are those that some bytes spell there, in either order.
 pub fn fitting_is_spelled()
     ensures { (kind : Kind) (count : Count) (v : Value) → FitsCell kind count v ↔ HasSpelling kind count v }
+{}
+
+/// The canonical spelling of a value that fits is one of its spellings, and is read again whatever follows. No spelling
+/// is shorter, and but for triplet ids there is no other. It has as many bytes in either order, and those of the field's
+/// width where cells have one.
+pub fn fitting_is_written()
+    ensures spelled { (order : Order) (kind : Kind) (count : Count) (v : Value) → FitsCell kind count v → IsCell order kind count v (spelled order kind count v) }
+    ensures read_again { (order : Order) (kind : Kind) (count : Count) (v : Value) (rest : List ℕ) → FitsCell kind count v → cell_from order kind count (spelled order kind count v ++ rest) ≡ Ok (v, length (spelled order kind count v)) }
+    ensures shortest { (order : Order) (kind : Kind) (count : Count) (v : Value) (bytes : List ℕ) → IsCell order kind count v bytes → length (spelled order kind count v) ≤ length bytes }
+    ensures alone { (order : Order) (kind : Kind) (count : Count) (v : Value) (bytes : List ℕ) → kind ≢ Kind.K → IsCell order kind count v bytes → bytes ≡ spelled order kind count v }
+    ensures either { (order other : Order) (kind : Kind) (count : Count) (v : Value) → length (spelled order kind count v) ≡ length (spelled other kind count v) }
+    ensures width { (order : Order) (kind : Kind) (count : Count) (v : Value) (width : ℕ) → cell_width kind count ≡ Some width → FitsCell kind count v → length (spelled order kind count v) ≡ width }
+{}
+
+/// What is spelled in a field, as everything that is read there, fits it where the kind allows the count.
+pub fn spelled_fits()
+    ensures { (order : Order) (kind : Kind) (count : Count) (v : Value) (bytes : List ℕ) → IsTrue (allows kind count) → IsCell order kind count v bytes → FitsCell kind count v }
 {}

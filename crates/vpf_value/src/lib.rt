@@ -9,9 +9,11 @@ pub mod laws;
 #[cfg(test)]
 mod tests;
 mod widths;
+mod writing;
 
 pub use cells::{Cell, cell_at};
 pub use comparing::same;
 pub use coords::{Coords, WordWidth};
 pub use fitting::fits;
 pub use widths::cell_width;
+pub use writing::{put_cell, spelled_len};

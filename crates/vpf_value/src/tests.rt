@@ -2,6 +2,7 @@
 
 mod reading;
 mod values;
+mod writing;
 
 use vpf_triplet::{Count, Order};
 

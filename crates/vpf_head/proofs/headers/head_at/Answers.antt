@@ -9,4 +9,4 @@ pub invariant_of-header : goal.invariant_of-header
 unfolding head_at
 invariant_of-header c =
     let read : head_at c.args.order c.args.text.now ≡ Ok (head_of (record { order = c.args.order; description = c.in_ok-description.description.text; narrative = c.present.result; columns = c.in_ok-columns.columns }), c.in_ok-end.end) = search (rules, any_data) in
-    record { named = c.in_ok-columns.ensures.named; sound = head_sound c.args.order c.args.text.now _ c.in_ok-end.end read }
+    record { named = c.in_ok-columns.ensures.named; sound = head_sound c.args.order c.args.text.now _ c.in_ok-end.end c.requires.short read }

@@ -1,5 +1,5 @@
-use Rattle.vpf_table.proofs.TableLaws.{table_decided}
+use Rattle.vpf_table.proofs.SpanLaws.{opening_decided}
 use Rattle.vpf_table.proofs.laws.tables_decide.Goals as goal
 
 pub returns : goal.returns
-returns c = λ bytes fits. table_decided c.cells_and_headers.ensures bytes fits
+returns c = λ bytes index fits fits2. opening_decided c.cells_and_headers.ensures c.laws_of_indexes.ensures bytes index fits fits2

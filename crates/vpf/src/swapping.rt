@@ -1,0 +1,114 @@
+//! `swap`: a table written in the other byte order.
+
+ghost use Rattle.std.specs.Prelude.{◌≡◌, ◌∷◌, ◌++◌, IfOk, OnOk, string_bytes};
+ghost use Rattle.vpf_table.specs.Limits.{bound_text};
+ghost use Rattle.vpf.specs.Answer.{limited, making};
+ghost use Rattle.vpf.specs.Texts.{limit_text};
+ghost use Rattle.vpf.specs.Swapping.{made_line, made_lines, made_text, index_files, part_name, written_answer, other_order, turned, swap_answer};
+
+use crate::names::index_name;
+use crate::reply::Reply;
+use crate::texts::{fault, limit};
+use std::alloc::{AllocError, Global};
+use vpf_source::{Bytes, File, Name};
+use vpf_table::{Limit, TableView, WriteError, Written};
+use vpf_text::put_printed;
+use vpf_triplet::{Order, Part, PlaceError};
+
+fn put_made(text: &mut String, file: &File) -> Result<(), AllocError>
+    ensures { OnOk result (string_bytes text.new ≡ string_bytes text.old ++ made_line file.now) }
+{
+    let size = file.bytes.as_slice().len();
+    text.push_str("made ")?;
+    put_printed(text, file.name.as_str().as_bytes())?;
+    write!(text, " {size}\n")
+}
+
+fn put_all_made(text: &mut String, files: &[File]) -> Result<(), AllocError>
+    ensures { OnOk result (string_bytes text.new ≡ string_bytes text.old ++ made_lines files.now) }
+{
+    for file in files {
+        put_made(text, file)?;
+    }
+    Ok(())
+}
+
+/// The reply of making files: a line for each, with its number of bytes, and how many there are.
+pub fn makes(alloc: Global, files: Vec<File>) -> Result<Reply, AllocError>
+    ensures { IfOk result (λ reply. reply ≡ making (made_text files.items) files.items) }
+{
+    let mut text = String::new(alloc);
+    put_all_made(&mut text, &files)?;
+    let count = files.len();
+    write!(text, "files {count}\n")?;
+    Ok(Reply::making(text, files))
+}
+
+fn file_of(alloc: Global, name: &str, bytes: Bytes) -> Result<File, AllocError>
+    ensures { IfOk result (λ file. (file.name ≡ name.now) × (file.bytes ≡ bytes)) }
+{
+    Ok(File {
+        name: Name::new(String::from_str(alloc, name)?),
+        bytes,
+    })
+}
+
+/// The files of a table that is written: its own, and that of its index where it has one.
+fn files_of(alloc: Global, name: &str, written: Written) -> Result<Vec<File>, AllocError>
+    ensures { IfOk result (λ files. files.items ≡ record { name = name.now; bytes = written.table } ∷ index_files name.now written.index) }
+{
+    let mut files = Vec::new(alloc);
+    files.push(file_of(alloc, name, written.table)?)?;
+    if let Some(bytes) = written.index {
+        let name = index_name(alloc, name)?;
+        files.push(File { name, bytes })?;
+    }
+    Ok(files)
+}
+
+/// The reply where a table can't be written under a name.
+fn stopped(alloc: Global, name: &str, part: Part, stop: Limit) -> Result<Reply, AllocError>
+    ensures { IfOk result (λ reply. reply ≡ limited (limit_text (bound_text stop.what) (part_name name.now part) stop.found)) }
+{
+    match part {
+        Part::Index => {
+            let index = index_name(alloc, name)?;
+            limit(alloc, stop.what, index.as_str(), stop.found)
+        }
+        Part::Table | Part::Theme => limit(alloc, stop.what, name, stop.found),
+    }
+}
+
+/// The other byte order.
+fn other_order(order: Order) -> Order
+    ensures { result ≡ other_order order }
+{
+    match order {
+        Order::Little => Order::Big,
+        Order::Big => Order::Little,
+    }
+}
+
+/// The reply of writing a table in the other order under a name.
+fn write_turned(alloc: Global, out: &str, table: &TableView<'_>) -> Result<Reply, AllocError>
+    ensures { IfOk result (λ reply. reply ≡ written_answer out.now (turned table.now)) }
+{
+    let order = other_order(table.header().order());
+    match table.write_in(alloc, order) {
+        Ok(written) => makes(alloc, files_of(alloc, out, written)?),
+        Err(WriteError::Limit(part, stop)) => stopped(alloc, out, part, stop),
+        Err(WriteError::NoMemory) => Err(AllocError),
+    }
+}
+
+/// The reply of `swap` over the bytes of a file: its table in the other byte order under another name, and the index that
+/// this has where rows vary.
+pub fn swap(alloc: Global, name: &str, out: &str, bytes: &[u8]) -> Result<Reply, AllocError>
+    ensures { IfOk result (λ reply. reply ≡ swap_answer name.now out.now bytes.now) }
+{
+    match TableView::open(alloc, bytes, None) {
+        Ok(table) => write_turned(alloc, out, &table),
+        Err(PlaceError::Place(place)) => fault(alloc, name, place),
+        Err(PlaceError::NoMemory) => Err(AllocError),
+    }
+}

@@ -1,0 +1,263 @@
+//! `swap` over tables in memory.
+
+use crate::running::run;
+use crate::status::Status;
+use std::alloc::{AllocError, Global};
+use std::test::Fail;
+use vpf_source::{MemSink, MemTree};
+
+/// One column of numbers and a row, 1, in either order.
+const LITTLE: &[u8] = b"\x19\0\0\0L;T;-;id=I,1,P,i,-,-,-,:;\x01\0\0\0";
+
+const BIG: &[u8] = b"\0\0\0\x19M;T;-;id=I,1,P,i,-,-,-,:;\0\0\0\x01";
+
+/// No mark, spaces before a count, and a definition that ends after an empty narrative; and its canonical form in either order.
+const LENIENT: &[u8] = b"\x22\0\0\0Table;-;id=I,    1,P,Row Id,-,-,:;\x07\0\0\0";
+
+const LENIENT_BIG: &[u8] = b"\0\0\0\x22M;Table;-;id=I,1,P,Row Id,-,-,-,:;\0\0\0\x07";
+
+const LENIENT_LITTLE: &[u8] = b"\x22\0\0\0L;Table;-;id=I,1,P,Row Id,-,-,-,:;\x07\0\0\0";
+
+/// A text of any count, in either order, and the index of the second.
+const TEXT: &[u8] = b"\x18\0\0\0L;T;-;a=T,*,N,d,-,-,-,:;\x03\0\0\0abc";
+
+const TEXT_BIG: &[u8] = b"\0\0\0\x18M;T;-;a=T,*,N,d,-,-,-,:;\0\0\0\x03abc";
+
+const TEXT_INDEX: &[u8] = b"\0\0\0\x01\0\0\0\x18\0\0\0\x1c\0\0\0\x07";
+
+/// A triplet id with wide parts, and the same with each in the least size.
+const WIDE: &[u8] = b"\x18\0\0\0L;T;-;k=K,1,N,d,-,-,-,:;\xa8\x01\0\x02\0\x03\0";
+
+const NARROW: &[u8] = b"\0\0\0\x18M;T;-;k=K,1,N,d,-,-,-,:;\x54\x01\x02\x03";
+
+const NARROW_INDEX: &[u8] = b"\0\0\0\x01\0\0\0\x18\0\0\0\x1c\0\0\0\x04";
+
+/// A table that varies and has no rows, and its index.
+const NO_ROWS: &[u8] = b"\x18\0\0\0L;T;-;a=T,*,N,d,-,-,-,:;";
+
+const NO_ROWS_BIG: &[u8] = b"\0\0\0\x18M;T;-;a=T,*,N,d,-,-,-,:;";
+
+const NO_ROWS_INDEX: &[u8] = b"\0\0\0\0\0\0\0\x18";
+
+/// A name, the bytes of its file or none.
+type Held<'a> = (&'a str, Option<&'a [u8]>);
+
+/// A file, a name for its table, what is printed, and two names with what their files hold afterwards.
+const SWAPS: [(&str, &str, &str, [Held<'static>; 2]); 9] = [
+    (
+        "little",
+        "u.tab",
+        "made u.tab 33\nfiles 1\n",
+        [("u.tab", Some(BIG)), ("u.tax", None)],
+    ),
+    (
+        "big",
+        "/out//cov/./u.tab",
+        "made /out/cov/u.tab 33\nfiles 1\n",
+        [("/out/cov/u.tab", Some(LITTLE)), ("u.tab", None)],
+    ),
+    (
+        "lenient",
+        "u.tab",
+        "made u.tab 42\nfiles 1\n",
+        [("u.tab", Some(LENIENT_BIG)), ("lenient", Some(LENIENT))],
+    ),
+    (
+        "text",
+        "u.tab",
+        "made u.tab 35\nmade u.tax 16\nfiles 2\n",
+        [("u.tab", Some(TEXT_BIG)), ("u.tax", Some(TEXT_INDEX))],
+    ),
+    (
+        "wide",
+        "edg",
+        "made edg 32\nmade edx 16\nfiles 2\n",
+        [("edg", Some(NARROW)), ("edx", Some(NARROW_INDEX))],
+    ),
+    (
+        "none",
+        "é",
+        "made \\c3\\a9 28\nmade x 8\nfiles 2\n",
+        [("é", Some(NO_ROWS_BIG)), ("x", Some(NO_ROWS_INDEX))],
+    ),
+    (
+        "text",
+        "little",
+        "made little 35\nmade littlx 16\nfiles 2\n",
+        [("little", Some(TEXT_BIG)), ("littlx", Some(TEXT_INDEX))],
+    ),
+    (
+        "absent",
+        "u.tab",
+        "refused missing absent\n",
+        [("u.tab", None), ("u.tax", None)],
+    ),
+    (
+        "cut",
+        "u.tab",
+        "refused cell-cut cut at 28\n",
+        [("u.tab", None), ("u.tax", None)],
+    ),
+];
+
+/// Words that are no command.
+const NO_SWAPS: [&[&str]; 8] = [
+    &["swap"],
+    &["swap", "little"],
+    &["swap", "little", "u.tab", "v.tab"],
+    &["swap", "little", "u.tax"],
+    &["swap", "text", "x"],
+    &["swap", "little", ".//little/"],
+    &["swap", "./", "u.tab"],
+    &["swap", "little", "."],
+];
+
+fn words_of(alloc: Global, words: &[&str]) -> Result<Vec<String>, AllocError> {
+    let mut owned = Vec::new(alloc);
+    for word in words {
+        owned.push(String::from_str(alloc, word)?)?;
+    }
+    Ok(owned)
+}
+
+/// A tree of samples, read in pieces, where one call fails.
+fn samples(alloc: Global, piece: u32, failing: u64) -> Result<MemTree, AllocError> {
+    let piece = piece.max(1);
+    let mut tree = MemTree::new(alloc, piece, vec![in alloc; failing]?);
+    for (name, bytes) in [
+        ("little", LITTLE),
+        ("big", BIG),
+        ("lenient", LENIENT),
+        ("text", TEXT),
+        ("wide", WIDE),
+        ("none", NO_ROWS),
+        ("cut", &TEXT[..34]),
+    ] {
+        tree.put(name, bytes)?;
+    }
+    Ok(tree)
+}
+
+/// A sink that takes pieces, where one write fails.
+fn sink(alloc: Global, piece: u32, failing: u64) -> Result<MemSink, AllocError> {
+    let piece = piece.max(1);
+    Ok(MemSink::new(alloc, piece, vec![in alloc; failing]?))
+}
+
+#[test]
+fn writes_tables_in_the_other_order(rt: HostRuntime) -> Result<(), Fail> {
+    let alloc = rt.alloc();
+    for (file, out, text, held) in SWAPS {
+        let mut tree = samples(alloc, 4096, 0)?;
+        let mut printed = sink(alloc, 4096, 0)?;
+        let words = words_of(alloc, &["swap", file, out])?;
+        let status = run(alloc, &words, &mut tree, &mut printed);
+        let want = if text.starts_with("made") {
+            Status::Done
+        } else {
+            Status::Refused
+        };
+        assert_eq!(rt; printed.bytes(), text.as_bytes(), "{file} {out}");
+        assert_eq!(rt; status, want, "{file} {out}");
+        for (name, bytes) in held {
+            assert_eq!(rt; tree.file(name), bytes, "{file} {out} {name}");
+        }
+    }
+    Ok(())
+}
+
+#[test]
+fn swaps_twice_to_the_canonical_bytes(rt: HostRuntime) -> Result<(), Fail> {
+    let alloc = rt.alloc();
+    let mut tree = samples(alloc, 4096, 0)?;
+    for words in [
+        ["swap", "lenient", "u.tab"],
+        ["swap", "u.tab", "v.tab"],
+        ["swap", "text", "u.txt"],
+        ["swap", "u.txt", "v.txt"],
+    ] {
+        let mut printed = sink(alloc, 4096, 0)?;
+        let owned = words_of(alloc, &words)?;
+        let status = run(alloc, &owned, &mut tree, &mut printed);
+        assert_eq!(rt; status, Status::Done, "{words:?}");
+    }
+    assert_eq!(rt; tree.file("v.tab"), Some(LENIENT_LITTLE));
+    assert_eq!(rt; tree.file("v.txt"), Some(TEXT));
+    Ok(())
+}
+
+#[test]
+fn tells_what_is_no_swap(rt: HostRuntime) -> Result<(), Fail> {
+    let alloc = rt.alloc();
+    for words in NO_SWAPS {
+        let mut tree = samples(alloc, 1, 1)?;
+        let mut printed = sink(alloc, 1, 0)?;
+        let owned = words_of(alloc, words)?;
+        let status = run(alloc, &owned, &mut tree, &mut printed);
+        assert_eq!(rt; printed.bytes(), b"usage\n".as_slice(), "{words:?}");
+        assert_eq!(rt; status, Status::Usage, "{words:?}");
+        assert_eq!(rt; tree.file("u.tab"), None, "{words:?}");
+    }
+    Ok(())
+}
+
+/// Each call of the tree fails in turn while a table and its index are made: a reading leaves nothing, the making of the
+/// table half of it, that of the index the whole table and half of the index. Nothing is printed.
+#[test]
+fn stops_at_each_call_of_the_tree(rt: HostRuntime) -> Result<(), Fail> {
+    let alloc = rt.alloc();
+    for (piece, reads) in [(1, 36), (4096, 2)] {
+        for failing in 1..=reads + 3 {
+            let mut tree = samples(alloc, piece, failing)?;
+            let mut printed = sink(alloc, 4096, 0)?;
+            let words = words_of(alloc, &["swap", "text", "u.tab"])?;
+            let status = run(alloc, &words, &mut tree, &mut printed);
+            let (want, table, index) = match failing {
+                k if k <= reads => (Status::TreeFault, None, None),
+                k if k == reads + 1 => (Status::TreeFault, Some(&TEXT_BIG[..17]), None),
+                k if k == reads + 2 => {
+                    (Status::TreeFault, Some(TEXT_BIG), Some(&TEXT_INDEX[..8]))
+                }
+                _ => (Status::Done, Some(TEXT_BIG), Some(TEXT_INDEX)),
+            };
+            assert_eq!(rt; status, want, "{piece} {failing}");
+            assert_eq!(rt; tree.file("u.tab"), table, "{piece} {failing}");
+            assert_eq!(rt; tree.file("u.tax"), index, "{piece} {failing}");
+            assert_eq!(rt; tree.file("text"), Some(TEXT), "{piece} {failing}");
+            assert_eq!(rt;
+                printed.bytes().is_empty(),
+                status != Status::Done,
+                "{piece} {failing}"
+            );
+        }
+    }
+    Ok(())
+}
+
+/// Each write to the sink fails in turn: both files are made, and what was written before stands.
+#[test]
+fn stops_at_each_write_to_the_sink(rt: HostRuntime) -> Result<(), Fail> {
+    let alloc = rt.alloc();
+    let text = b"made u.tab 35\nmade u.tax 16\nfiles 2\n";
+    for (piece, writes) in [(1, 36), (4096, 1)] {
+        for failing in 1..=writes + 1 {
+            let mut tree = samples(alloc, 4096, 0)?;
+            let mut printed = sink(alloc, piece, failing)?;
+            let words = words_of(alloc, &["swap", "text", "u.tab"])?;
+            let status = run(alloc, &words, &mut tree, &mut printed);
+            let (want, written) = match failing {
+                k if k <= writes => (Status::SinkFault, k as usize - 1),
+                _ => (Status::Done, text.len()),
+            };
+            assert_eq!(rt; status, want, "{piece} {failing}");
+            assert_eq!(rt; tree.file("u.tab"), Some(TEXT_BIG), "{piece} {failing}");
+            assert_eq!(rt; tree.file("u.tax"), Some(TEXT_INDEX), "{piece} {failing}");
+            assert_eq!(rt;
+                printed.bytes(),
+                &text[..written.min(36)],
+                "{piece} {failing}"
+            );
+        }
+    }
+    Ok(())
+}

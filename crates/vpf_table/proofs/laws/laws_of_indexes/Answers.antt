@@ -1,0 +1,8 @@
+use Rattle.vpf_table.proofs.laws.laws_of_indexes.Goals as goal
+
+pub returns : goal.returns
+returns c = record {
+  index_is_read = c.spelled_is_read.ensures;
+  index_is_spelled = c.read_is_spelled.ensures;
+  written_is_read = c.written_is_read.ensures.read_again;
+}

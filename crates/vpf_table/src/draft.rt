@@ -1,0 +1,139 @@
+//! A table that is being written.
+
+ghost use Rattle.std.specs.Prelude.{◌≡◌, ◌≤◌, ◌<◌, ◌+◌, ◌-◌, ◌^◌, ◌∷◌, [], ◌++◌, OnOk, IfOk, Some, None, length, map, vec_len, if◌then◌else◌};
+ghost use Rattle.vpf_value.specs.Values.{view};
+ghost use Rattle.vpf_head.specs.Canonical.{canonical_text};
+ghost use Rattle.vpf_head.specs.Texts.{longest_text};
+ghost use Rattle.vpf_varindex.specs.RowIndex.{row_index};
+ghost use Rattle.vpf_table.specs.Canonical.{FitsRow, row_text};
+ghost use Rattle.vpf_table.specs.Drafts.{progress, begun, with_row};
+ghost use Rattle.vpf_table.specs.Writing.{most_bytes};
+
+use crate::row::Cells;
+use crate::writing::Written;
+use std::alloc::{AllocError, Global};
+use vpf_head::Header;
+use vpf_source::Bytes;
+use vpf_value::{Cell, put_cell};
+use vpf_varindex::index_of;
+
+/// A table that is being written: its bytes so far, and where its rows lie in them, which is kept where they vary.
+#[derive(Drop)]
+pub struct Draft {
+    table: Vec<u8>,
+    spans: Vec<(u32, u32)>,
+    varies: bool,
+}
+
+/// Appends a row of these cells.
+fn put_cells(header: &Header<'_>, cells: &[Cell<'_>], out: &mut Vec<u8>) -> Result<(), AllocError>
+    requires { FitsRow header.now.columns (map view cells.now) }
+    ensures { OnOk result (out.new.items ≡ out.old.items ++ row_text header.now.order header.now.columns (map view cells.now)) }
+{
+    let order = header.order();
+    for c in 0..header.len() {
+        let column = header.at(c);
+        put_cell(order, column.kind, column.count, &cells[c], out)?;
+    }
+    Ok(())
+}
+
+/// Appends a row of the cells that are left.
+fn put_cells_left(
+    header: &Header<'_>,
+    cells: Cells<'_, '_>,
+    out: &mut Vec<u8>,
+) -> Result<(), AllocError>
+    requires { FitsRow header.now.columns cells }
+    ensures { OnOk result (out.new.items ≡ out.old.items ++ row_text header.now.order header.now.columns cells.entry) }
+{
+    let order = header.order();
+    // A position fits its type.
+    let _columns = header.len();
+    let mut c = 0;
+    for cell in cells {
+        let column = header.at(c);
+        put_cell(order, column.kind, column.count, &cell, out)?;
+        c += 1;
+    }
+    Ok(())
+}
+
+impl Draft {
+    /// A table without rows, with room for so many bytes.
+    pub fn new(alloc: Global, header: &Header<'_>, size: usize) -> Result<Draft, AllocError>
+        requires { length (canonical_text header.now) ≤ longest_text }
+        ensures { IfOk result (λ draft. progress draft ≡ begun header.now) }
+    {
+        let mut table = Vec::with_capacity(alloc, size)?;
+        header.write(&mut table)?;
+        Ok(Draft {
+            table,
+            spans: Vec::new(alloc),
+            varies: header.varies(),
+        })
+    }
+
+    /// The row that begins at `from` is whole.
+    fn end_row(&mut self, from: usize) -> Result<(), AllocError>
+        requires begun { from ≤ vec_len self.old.table }
+        requires small { vec_len self.old.table < 2 ^ 32 }
+        ensures table { self.new.table ≡ self.old.table }
+        ensures varies { self.new.varies ≡ self.old.varies }
+        ensures spans { OnOk result (self.new.spans.items
+            ≡ (if self.old.varies then self.old.spans.items ++ (from, vec_len self.old.table - from) ∷ [] else self.old.spans.items)) }
+    {
+        if self.varies {
+            let length = self.table.len() - from;
+            self.spans.push((from as u32, length as u32))?;
+        }
+        Ok(())
+    }
+
+    /// Appends a row of these cells.
+    pub fn put_row(&mut self, header: &Header<'_>, cells: &[Cell<'_>]) -> Result<(), AllocError>
+        requires fits { FitsRow header.now.columns (map view cells.now) }
+        requires small { length (progress self.old).table + length (row_text header.now.order header.now.columns (map view cells.now)) ≤ most_bytes }
+        ensures { OnOk result (progress self.new ≡ with_row header.now.order header.now.columns (progress self.old) (map view cells.now)) }
+    {
+        let from = self.table.len();
+        put_cells(header, cells, &mut self.table)?;
+        self.end_row(from)
+    }
+
+    /// Appends a row of the cells that are left.
+    pub fn put_row_left(
+        &mut self,
+        header: &Header<'_>,
+        cells: Cells<'_, '_>,
+    ) -> Result<(), AllocError>
+        requires fits { FitsRow header.now.columns cells }
+        requires small { length (progress self.old).table + length (row_text header.now.order header.now.columns cells) ≤ most_bytes }
+        ensures { OnOk result (progress self.new ≡ with_row header.now.order header.now.columns (progress self.old) cells.entry) }
+    {
+        let from = self.table.len();
+        put_cells_left(header, cells, &mut self.table)?;
+        self.end_row(from)
+    }
+
+    /// The table as it is, and its index where rows vary.
+    pub fn finish(self, alloc: Global, header: &Header<'_>) -> Result<Written, AllocError>
+        requires short { length (canonical_text header.now) ≤ longest_text }
+        requires few { length (progress self).spans < 2 ^ 32 }
+        ensures table { IfOk result (λ made. made.table ≡ self.table.items) }
+        ensures index { IfOk result (λ made. made.index ≡ (if self.varies then Some (row_index header.now.order (length (canonical_text header.now)) self.spans.items) else None)) }
+    {
+        if !self.varies {
+            return Ok(Written {
+                table: Bytes::new(self.table),
+                index: None,
+            });
+        }
+        let text = header.text_len() as u32;
+        let index = index_of(alloc, header.order(), text, &self.spans)?;
+        Ok(Written {
+            table: Bytes::new(self.table),
+            index: Some(Bytes::new(index)),
+        })
+    }
+}

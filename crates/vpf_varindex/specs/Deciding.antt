@@ -1,0 +1,17 @@
+-- Bytes are one variable-length index, or have one first fault.
+use Rattle.std.specs.Prelude.{◌≡◌, ℕ, ◌⊎◌, List, Err}
+use Rattle.vpf_triplet.specs.declared.orders.Order.{Order}
+use Rattle.vpf_triplet.specs.declared.places.Place.{Place}
+use Rattle.vpf_varindex.specs.Reading.{index_at}
+use Rattle.vpf_varindex.specs.RowIndex.{IsRowIndex}
+
+-- the bytes are no index, and this is their first fault
+abbrev pub FirstFault : Order → List ℕ → Place → Type 0
+FirstFault o bytes place = index_at o bytes ≡ Err place
+
+-- exactly one of the two, in one way
+pub record Decides (o : Order) (bytes : List ℕ) : Type 0 where
+  pub either : ((spans : List (ℕ × ℕ)) × IsRowIndex o spans bytes) ⊎ ((place : Place) × FirstFault o bytes place)
+  pub never_both : (spans : List (ℕ × ℕ)) (place : Place) → IsRowIndex o spans bytes → FirstFault o bytes place → ⊥
+  pub one_list : (ss ts : List (ℕ × ℕ)) → IsRowIndex o ss bytes → IsRowIndex o ts bytes → ss ≡ ts
+  pub one_fault : (p q : Place) → FirstFault o bytes p → FirstFault o bytes q → p ≡ q

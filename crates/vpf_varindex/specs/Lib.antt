@@ -1,0 +1,4 @@
+pub mod RowIndex
+pub mod Reading
+pub mod Views
+pub mod Deciding
