@@ -1,0 +1,4 @@
+mod DigitLemmas
+mod WordLemmas
+mod ScanLemmas
+mod IndexLemmas

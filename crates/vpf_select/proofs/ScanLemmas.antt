@@ -1,0 +1,64 @@
+-- The rows that are looked at, one after another.
+use Rattle.std.proofs.Common.{◌≡◌, ℕ, zero, suc, ◌+◌, ◌-◌, ◌≤◌, Bool, true, false, List, [], ◌∷◌, ◌++◌, map, get_or, Option, Some, None, append_assoc, sym, ap, subst, ◌∙◌, arith}
+use Rattle.std.specs.Prelude.{find, slice_get, slice_index_or}
+use Rattle.std.proofs.lemmas.List.{append-nil}
+use Rattle.std.proofs.lemmas.List.Elements.{All-rest}
+use Rattle.std.proofs.lemmas.Option.{get_or_from_slice_get}
+use Rattle.vpf_value.specs.Values.{Value, Nothing}
+use Rattle.vpf_table.specs.Grid.{Grid, Row}
+use Rattle.vpf_theme.specs.Ordering.{same_value}
+use Rattle.vpf_theme.specs.Findings.{cell_of, cells_of}
+use Rattle.vpf_theme.specs.Agreeing.{scan_from}
+use Rattle.vpf_theme.specs.KeyLaws.{same_yes, same_no}
+use Rattle.vpf_theme.specs.Views.{AreRows}
+
+-- the cell of a row at the position of a column
+abbrev pub cell_in : ℕ → Row → Value
+cell_in c row = slice_index_or row c Nothing
+
+-- ---- the scan
+
+pub scan_hit : (v : Value) (c k : ℕ) (found more whole : List ℕ) (row : Row) (cell : Value) (rows rest : List Row) → rows ≡ row ∷ rest → slice_get row c ≡ Some cell → cell ≡ v → more ≡ found ++ (k + 1) ∷ [] → found ++ scan_from (k + 1) v (map (cell_in c) rows) ≡ whole → more ++ scan_from (k + 1 + 1) v (map (cell_in c) rest) ≡ whole
+scan_hit v c k found more whole row cell rows rest steps at is pushed done =
+    let t : same_value (cell_in c row) v ≡ true = same_yes (cell_in c row) v (get_or_from_slice_get row c cell Nothing at ∙ is) in
+    let d = rw steps at done in
+    let e = rw t at d in
+    rw (pushed, append_assoc) e
+
+pub scan_miss : (v : Value) (c k : ℕ) (found whole : List ℕ) (row : Row) (cell : Value) (rows rest : List Row) → rows ≡ row ∷ rest → slice_get row c ≡ Some cell → (cell ≡ v → ⊥) → found ++ scan_from (k + 1) v (map (cell_in c) rows) ≡ whole → found ++ scan_from (k + 1 + 1) v (map (cell_in c) rest) ≡ whole
+scan_miss v c k found whole row cell rows rest steps at other done =
+    let t : same_value (cell_in c row) v ≡ false = same_no (cell_in c row) v (λ e. other (sym (get_or_from_slice_get row c cell Nothing at) ∙ e)) in
+    let d = rw steps at done in
+    rw t at d
+
+pub scan_done : (v : Value) (c k : ℕ) (found whole : List ℕ) (rows : List Row) → rows ≡ [] → found ++ scan_from (k + 1) v (map (cell_in c) rows) ≡ whole → found ≡ whole
+scan_done v c k found whole rows end done = let d = rw end at done in sym (append-nil found) ∙ d
+
+-- ---- the rows of an entry
+
+pub row_first : (n row : ℕ) (rows rest : List ℕ) → rows ≡ row ∷ rest → AreRows n rows → (1 ≤ row) × (row ≤ n)
+row_first n row rows rest e h = (subst (AreRows n) e h) zero 0 (omega arith)
+
+pub rows_rest : (n row : ℕ) (rows rest : List ℕ) → rows ≡ row ∷ rest → AreRows n rows → AreRows n rest
+rows_rest n row rows rest e h = All-rest (λ r. (1 ≤ r) × (r ≤ n)) row rest rows e h
+
+pub found_more : (row : ℕ) (found more rows rest whole : List ℕ) → rows ≡ row ∷ rest → more ≡ found ++ row ∷ [] → found ++ rows ≡ whole → more ++ rest ≡ whole
+found_more row found more rows rest whole steps pushed done = let d = rw steps at done in rw (pushed, append_assoc) d
+
+map_at : (rows : List Row) (k c : ℕ) (row : Row) → slice_get rows k ≡ Some row → get_or (map (cell_in c) rows) k Nothing ≡ cell_in c row
+map_at [] k c row h = absurd (cc h)
+map_at (r ∷ rows) zero c row h = let e : r ≡ row = cc h in ap (cell_in c) e
+map_at (r ∷ rows) (suc k) c row h = map_at rows k c row h
+
+-- the cell of the row that is looked at
+pub cell_seen : (grid : Grid) (c row : ℕ) (seen : Row) (cell : Value) → slice_get grid.rows (row - 1) ≡ Some seen → slice_get seen c ≡ Some cell → cell_of (cells_of grid c) row ≡ cell
+cell_seen grid c row seen cell h at = map_at grid.rows (row - 1) c seen h ∙ get_or_from_slice_get seen c cell Nothing at
+
+pub find_pass : (p : ℕ → Bool) (row : ℕ) (rows rest : List ℕ) (whole : Option ℕ) → rows ≡ row ∷ rest → find p rows ≡ whole → p row ≡ false → find p rest ≡ whole
+find_pass p row rows rest whole e h q = let k = rw e at h in rw q at k
+
+pub find_stop : (p : ℕ → Bool) (row : ℕ) (rows rest : List ℕ) (whole : Option ℕ) → rows ≡ row ∷ rest → find p rows ≡ whole → p row ≡ true → whole ≡ Some row
+find_stop p row rows rest whole e h q = let k = rw e at h in let m = rw q at k in sym m
+
+pub find_end : (p : ℕ → Bool) (rows : List ℕ) (whole : Option ℕ) → rows ≡ [] → find p rows ≡ whole → whole ≡ None
+find_end p rows whole e h = let k = rw e at h in sym k

@@ -1,0 +1,16 @@
+//! Selection of the rows of a table whose cell in one column has a value, by the plain scan or by a thematic index.
+#![tactic(auto)]
+
+mod digits;
+pub mod laws;
+mod scanning;
+mod selecting;
+#[cfg(test)]
+mod tests;
+mod value;
+mod words;
+
+pub use scanning::{Test, scan};
+pub use selecting::{SelectError, select};
+pub use value::{Value, ValueError};
+pub use words::value_of;

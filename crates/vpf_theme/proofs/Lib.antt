@@ -1,0 +1,12 @@
+mod FirstLemmas
+mod ValueLemmas
+mod HitLemmas
+mod OrderLemmas
+mod FaultLemmas
+mod SearchLemmas
+mod DataLemmas
+mod EntryLemmas
+mod WalkLemmas
+mod AgreeLemmas
+mod AgreementLemmas
+mod ScanLemmas

@@ -1,0 +1,10 @@
+pub mod Layouts
+pub mod Ordering
+pub mod Entries
+pub mod Reading
+pub mod Views
+pub mod Findings
+pub mod Agreeing
+pub mod Keys
+pub mod KeyLaws
+pub mod Keeping

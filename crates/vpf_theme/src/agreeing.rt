@@ -1,0 +1,187 @@
+//! Whether a thematic index agrees with a column.
+
+ghost use Rattle.std.specs.Prelude.{◌≡◌, ◌<◌, ◌+◌, ◌^◌, length, map, IfOk, OnOk};
+ghost use Rattle.vpf_value.specs.Values.{view};
+ghost use Rattle.vpf_head.specs.Views.{col};
+ghost use Rattle.vpf_theme.specs.Findings.{Finds, Tells, cells_of, entries_finding, fall_line, first_finding, lines_at, of_column, other_line, repeated_line};
+ghost use Rattle.vpf_theme.specs.Agreeing.{AgreesAt};
+ghost use Rattle.vpf_theme.specs.Keeping.{HoldFirsts};
+ghost use Rattle.vpf_theme.specs.Views.{AreRows};
+
+use crate::errors::ThemeError;
+use crate::fitting::fits_table;
+use crate::hits::Hits;
+use crate::keys::ValueKey;
+use crate::laws::agreement_is_no_finding;
+use crate::marking::check_missing;
+use crate::reporting::finding;
+use crate::view::ThemeView;
+use std::alloc::{AllocError, Global};
+use std::collections::HashMap;
+use vpf_head::Column;
+use vpf_table::{Finding, Seen, TableView};
+use vpf_value::{Cell, same};
+
+/// The places of the values of entries, counted from 0.
+type Firsts<'a> = HashMap<ValueKey<'a>, u32>;
+
+/// The cells of a column, row by row.
+fn column_cells<'a>(
+    alloc: Global,
+    table: &TableView<'a>,
+    column: usize,
+) -> Result<Vec<Cell<'a>>, AllocError>
+    requires { column < length table.now.head.columns }
+    ensures { IfOk result (λ cells. map view cells.items ≡ cells_of table.now column) }
+{
+    let mut cells = Vec::with_capacity(alloc, table.len() as usize)?;
+    for row in table.rows() {
+        cells.push(row.cell(column))?;
+    }
+    Ok(cells)
+}
+
+/// No entry before entry `i` has its value.
+fn check_repeated<'a>(
+    theme: &ThemeView<'a>,
+    column: &Column<'a>,
+    firsts: &mut Firsts<'a>,
+    i: u32,
+) -> Result<(), ThemeError<'a>>
+    requires within { i < length theme.now.entries }
+    requires firsts { HoldFirsts theme.now.entries i firsts.old }
+    ensures first { Tells result (repeated_line theme.now (col column.now) i) }
+    ensures firsts { OnOk result (HoldFirsts theme.now.entries (i + 1) firsts.new) }
+{
+    let _entries = theme.entries();
+    let cell = theme.value(i);
+    if let Some(first) = firsts.get(&ValueKey { cell }) {
+        let earlier = Seen::Number(i64::from(*first) + 1);
+        let repeated = finding(i + 1, column.name, Seen::Cell(cell), earlier);
+        return Err(ThemeError::Finding(repeated));
+    }
+    firsts.insert(ValueKey { cell }, i)?;
+    Ok(())
+}
+
+/// Each row of entry `i` has its value.
+fn check_cells<'a>(
+    column: &Column<'a>,
+    cells: &[Cell<'a>],
+    i: u32,
+    value: Cell<'a>,
+    hits: Hits<'_>,
+) -> Result<(), Finding<'a>>
+    requires few { i + 1 < 2 ^ 32 }
+    requires rows { AreRows (length cells.now) hits.left }
+    ensures { Finds result (other_line (col column.now) (map view cells.now) i (record { value = view value.entry; rows = hits.entry.left })) }
+{
+    for row in hits {
+        let cell = cells[row as usize - 1];
+        if !same(&cell, &value) {
+            return Err(finding(i + 1, column.name, Seen::Cell(value), Seen::Cell(cell)));
+        }
+    }
+    Ok(())
+}
+
+/// The rows of entry `i` rise.
+fn check_rise<'a>(
+    column: &Column<'a>,
+    i: u32,
+    value: Cell<'a>,
+    hits: Hits<'_>,
+) -> Result<(), Finding<'a>>
+    requires { i + 1 < 2 ^ 32 }
+    ensures { Finds result (fall_line (col column.now) i (record { value = view value.entry; rows = hits.entry.left })) }
+{
+    let mut before = 0;
+    for row in hits {
+        if row <= before {
+            let found = Seen::Number(i64::from(row));
+            return Err(finding(i + 1, column.name, found, Seen::Number(i64::from(before))));
+        }
+        before = row;
+    }
+    Ok(())
+}
+
+/// Nothing is found at entry `i`.
+fn check_entry<'a>(
+    theme: &ThemeView<'a>,
+    column: &Column<'a>,
+    cells: &[Cell<'a>],
+    firsts: &mut Firsts<'a>,
+    i: u32,
+) -> Result<(), ThemeError<'a>>
+    requires within { i < length theme.now.entries }
+    requires rows { theme.now.rows ≡ length cells.now }
+    requires firsts { HoldFirsts theme.now.entries i firsts.old }
+    ensures first { Tells result (lines_at theme.now (col column.now) (map view cells.now) i) }
+    ensures firsts { OnOk result (HoldFirsts theme.now.entries (i + 1) firsts.new) }
+{
+    let _entries = theme.entries();
+    check_repeated(theme, column, firsts, i)?;
+    let value = theme.value(i);
+    check_cells(column, cells, i, value, theme.hits(i))?;
+    check_rise(column, i, value, theme.hits(i))?;
+    Ok(())
+}
+
+/// Nothing is found at any entry.
+fn check_entries<'a>(
+    alloc: Global,
+    theme: &ThemeView<'a>,
+    column: &Column<'a>,
+    cells: &[Cell<'a>],
+) -> Result<(), ThemeError<'a>>
+    requires { theme.now.rows ≡ length cells.now }
+    ensures { Tells result (entries_finding theme.now (col column.now) (map view cells.now)) }
+{
+    let mut firsts = HashMap::new(alloc);
+    for i in 0..theme.entries() {
+        check_entry(theme, column, cells, &mut firsts, i)?;
+    }
+    Ok(())
+}
+
+/// The first place where an index and a column disagree.
+#[tactic(auto, unfolding(crate::specs::Findings::first_finding))]
+fn check_column<'a>(
+    alloc: Global,
+    theme: &ThemeView<'a>,
+    table: &TableView<'a>,
+    column: usize,
+) -> Result<(), ThemeError<'a>>
+    requires { column < length table.now.head.columns }
+    ensures { Tells result (of_column table.now column (λ c. first_finding theme.now c (cells_of table.now column))) }
+{
+    if let Some(finding) = fits_table(theme, table, column) {
+        return Err(ThemeError::Finding(finding));
+    }
+    let header = table.header();
+    let found = header.at(column);
+    let cells = column_cells(alloc, table, column)?;
+    check_missing(alloc, theme, found)?;
+    check_entries(alloc, theme, found, &cells)
+}
+
+/// The index agrees with a column: its kind, count and number of rows are the table's, each row stands in the entry of its
+/// cell's value and in no other, and the rows of each entry rise. The first place where that fails is the finding: the
+/// index as a whole, and then entry by entry. The table and the index are passed once.
+pub fn agrees<'a>(
+    alloc: Global,
+    theme: &ThemeView<'a>,
+    table: &TableView<'a>,
+    column: usize,
+) -> Result<(), ThemeError<'a>>
+    requires { column < length table.now.head.columns }
+    // Nothing is found, or this is the first place.
+    ensures first { Tells result (of_column table.now column (λ c. first_finding theme.now c (cells_of table.now column))) }
+    // Where nothing is found the two agree.
+    ensures agrees { OnOk result (AgreesAt theme.now table.now column) }
+{
+    agreement_is_no_finding();
+    let _rows = theme.rows();
+    check_column(alloc, theme, table, column)
+}

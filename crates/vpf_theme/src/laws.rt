@@ -1,0 +1,34 @@
+//! Laws about the definitions of thematic indexes alone.
+
+ghost use Rattle.std.specs.Prelude.{◌≡◌, ◌↔◌, List, IsTrue, None};
+ghost use Rattle.std.specs.Cmp.{IsTotalOrder};
+ghost use Rattle.std.specs.declared.cmp.Ordering.TheVariants.{Equal};
+ghost use Rattle.vpf_triplet.specs.declared.kinds.Kind.{Kind};
+ghost use Rattle.vpf_triplet.specs.declared.kinds.Count.{Count};
+ghost use Rattle.vpf_value.specs.Values.{Value};
+ghost use Rattle.vpf_value.specs.Fitting.{FitsCell};
+ghost use Rattle.vpf_head.specs.Head.{Col};
+ghost use Rattle.vpf_theme.specs.Layouts.{is_indexed};
+ghost use Rattle.vpf_theme.specs.Ordering.{same_value, value_cmp};
+ghost use Rattle.vpf_theme.specs.Entries.{Theme, found_in};
+ghost use Rattle.vpf_theme.specs.Findings.{first_finding};
+ghost use Rattle.vpf_theme.specs.Agreeing.{AgreesWithColumn, HaveRows, listed, scan_of};
+
+/// Where an index agrees with a column, what it lists for a value is the plain scan.
+pub fn listed_is_scan()
+    ensures { (t : Theme) (column : Col) (cells : List Value) (v : Value) → AgreesWithColumn t column cells → listed (found_in v t.entries) ≡ scan_of v cells }
+{}
+
+/// An index agrees with a column exactly where there is no finding.
+pub fn agreement_is_no_finding()
+    ensures agrees { (t : Theme) (column : Col) (cells : List Value) → HaveRows t → first_finding t column cells ≡ None → AgreesWithColumn t column cells }
+    ensures none { (t : Theme) (column : Col) (cells : List Value) → AgreesWithColumn t column cells → first_finding t column cells ≡ None }
+{}
+
+/// The order of values is total, and those that fit one field that can be indexed are equal where the order does not tell
+/// them apart.
+pub fn values_are_ordered()
+    ensures total { IsTotalOrder value_cmp }
+    ensures equal { (kind : Kind) (count : Count) (v u : Value) → IsTrue (is_indexed kind) → FitsCell kind count v → FitsCell kind count u → value_cmp v u ≡ Equal → v ≡ u }
+    ensures same { (v u : Value) → IsTrue (same_value v u) ↔ (v ≡ u) }
+{}

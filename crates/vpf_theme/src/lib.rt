@@ -1,0 +1,28 @@
+//! Thematic indexes: for each value of a column the rows that have it, as a list or as a bitmap (after MIL-STD-2407,
+//! 5.4, indexes: thematic index encoding).
+#![tactic(auto)]
+
+mod agreeing;
+mod checking;
+mod comparing;
+mod entries;
+mod errors;
+mod fitting;
+mod hits;
+mod keys;
+pub mod laws;
+mod layout;
+mod marking;
+mod reporting;
+mod searching;
+#[cfg(test)]
+mod tests;
+mod view;
+
+pub use agreeing::agrees;
+pub use comparing::compare;
+pub use errors::ThemeError;
+pub use fitting::fits_table;
+pub use hits::Hits;
+pub use layout::{Form, Layout, RowSize};
+pub use view::ThemeView;

@@ -1,0 +1,11 @@
+mod EntryLists
+mod GroupLemmas
+mod ValueLists
+mod SortLemmas
+mod RunLemmas
+mod SpotLemmas
+mod BitLemmas
+mod TextLemmas
+mod FieldLemmas
+mod BuildLemmas
+mod ScanLemmas

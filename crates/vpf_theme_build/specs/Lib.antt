@@ -1,0 +1,4 @@
+pub mod Grouping
+pub mod Text
+pub mod Building
+pub mod Writing

@@ -1,0 +1,14 @@
+//! Building thematic indexes of columns (after MIL-STD-2407, 5.4, indexes: thematic index encoding).
+#![tactic(auto)]
+
+mod building;
+mod errors;
+mod grouping;
+mod heading;
+pub mod laws;
+#[cfg(test)]
+mod tests;
+mod writing;
+
+pub use building::build;
+pub use errors::BuildError;
