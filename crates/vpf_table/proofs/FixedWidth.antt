@@ -55,7 +55,7 @@ cell_whole cells o c bytes at w f le =
     let z = (cells o c.kind c.count (drop at bytes) w f).whole (omega (arith, length-drop at bytes)) in
     whole_by at w z.0 (cell_from o c.kind c.count (drop at bytes)) z.1
 
-added : (a b : Option ℕ) (w : ℕ) → add_width a b ≡ Some w → (x : ℕ) × (y : ℕ) × (a ≡ Some x) × (b ≡ Some y) × (x + y ≡ w)
+pub added : (a b : Option ℕ) (w : ℕ) → add_width a b ≡ Some w → (x : ℕ) × (y : ℕ) × (a ≡ Some x) × (b ≡ Some y) × (x + y ≡ w)
 added None b w e = absurd cc
 added (Some a) None w e = absurd cc
 added (Some a) (Some b) w e = (a, b, refl, refl, some_is (a + b) w e)

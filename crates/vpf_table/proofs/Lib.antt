@@ -18,3 +18,6 @@ pub mod Cutting
 pub mod WholeTables
 pub mod ReadRows
 pub mod WritingLaws
+pub mod Pieces
+pub mod Blocks
+pub mod FixedRows

@@ -33,3 +33,7 @@ with_row o cs p row = record {
 unfoldable pub with_rows : Order → List Col → Progress → List Row → Progress
 with_rows o cs p [] = p
 with_rows o cs p (row ∷ rows) = with_rows o cs (with_row o cs p row) rows
+
+-- with the bytes of rows more, whose places are not kept
+abbrev pub with_bytes : Progress → List ℕ → Progress
+with_bytes p bytes = record { table = p.table ++ bytes; spans = p.spans; varies = p.varies }

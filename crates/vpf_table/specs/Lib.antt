@@ -17,3 +17,4 @@ pub mod Canonical
 pub mod CellLists
 pub mod Drafts
 pub mod Writing
+pub mod Turning

@@ -6,10 +6,12 @@ ghost use Rattle.vpf_head.specs.Canonical.{canonical_text};
 ghost use Rattle.vpf_head.specs.Texts.{longest_text};
 ghost use Rattle.vpf_varindex.specs.RowIndex.{row_index};
 ghost use Rattle.vpf_table.specs.Canonical.{FitsRow, row_text};
-ghost use Rattle.vpf_table.specs.Drafts.{progress, begun, with_row};
+ghost use Rattle.vpf_table.specs.Drafts.{progress, begun, with_row, with_bytes};
+ghost use Rattle.vpf_table.specs.Turning.{fields_width, turned_rows};
 ghost use Rattle.vpf_table.specs.Writing.{most_bytes};
 
 use crate::row::Cells;
+use crate::turning::{Field, put_turned};
 use crate::writing::Written;
 use std::alloc::{AllocError, Global};
 use vpf_head::Header;
@@ -60,12 +62,13 @@ fn put_cells_left(
 }
 
 impl Draft {
-    /// A table without rows, with room for so many bytes.
-    pub fn new(alloc: Global, header: &Header<'_>, size: usize) -> Result<Draft, AllocError>
+    /// A table without rows, with room for rows of so many bytes.
+    pub fn new(alloc: Global, header: &Header<'_>, rows_len: usize) -> Result<Draft, AllocError>
         requires { length (canonical_text header.now) ≤ longest_text }
         ensures { IfOk result (λ draft. progress draft ≡ begun header.now) }
     {
-        let mut table = Vec::with_capacity(alloc, size)?;
+        let header_len = 4 + header.text_len() as usize;
+        let mut table = Vec::with_capacity(alloc, rows_len.saturating_add(header_len))?;
         header.write(&mut table)?;
         Ok(Draft {
             table,
@@ -114,6 +117,27 @@ impl Draft {
         let from = self.table.len();
         put_cells_left(header, cells, &mut self.table)?;
         self.end_row(from)
+    }
+
+    /// Appends rows of one width that are spelled so.
+    pub fn put_rows(&mut self, rows: &[u8]) -> Result<(), AllocError>
+        ensures { OnOk result (progress self.new ≡ with_bytes (progress self.old) rows.now) }
+    {
+        self.table.extend_from_slice(rows)
+    }
+
+    /// Appends rows of these fields, with their words turned round.
+    pub fn put_turned_rows(
+        &mut self,
+        fields: &[Field],
+        width: usize,
+        rows: &[u8],
+    ) -> Result<(), AllocError>
+        requires some { 0 < width }
+        requires whole { fields_width fields.now ≡ width }
+        ensures { OnOk result (progress self.new ≡ with_bytes (progress self.old) (turned_rows fields.now width rows.now)) }
+    {
+        put_turned(fields, width, rows, &mut self.table)
     }
 
     /// The table as it is, and its index where rows vary.

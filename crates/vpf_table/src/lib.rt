@@ -16,6 +16,7 @@ mod row;
 mod tests;
 #[cfg(test)]
 mod tests_of_writing;
+mod turning;
 mod view;
 mod walking;
 mod writing;

@@ -7,6 +7,7 @@ use crate::laws::{opened_is_spelled, spelled_is_opened};
 use crate::places_of_rows::place_of_row;
 use crate::rewriting::most_len;
 use crate::row::RowView;
+use crate::turning::{FixedRows, fixed_rows};
 use crate::walking::row_width;
 use std::alloc::Global;
 use std::marker::Model;
@@ -41,13 +42,15 @@ impl<'a> Model for TableView<'a> {
 }
 
 impl<'a> TableView<'a> {
-    ghost use Rattle.std.specs.Prelude.{◌≡◌, ◌≤◌, ◌+◌, ◌-◌, ◌==◌, All, IfOk, Ok, Some, length, slice_get};
+    ghost use Rattle.std.specs.Prelude.{◌≡◌, ◌≤◌, ◌+◌, ◌-◌, ◌==◌, ◌<◌, All, false, IfOk, IfSome, Ok, Some, length, slice_get};
     ghost use Rattle.std.specs.Option.{option_copied};
     ghost use Rattle.vpf_triplet.specs.Places.{Answers};
     ghost use Rattle.vpf_table.specs.Grid.{Grid};
     ghost use Rattle.vpf_triplet.specs.declared.orders.Order.{Order};
     ghost use Rattle.vpf_table.specs.Canonical.{FitsRow, rows_text};
     ghost use Rattle.vpf_table.specs.Reading.{most_rows};
+    ghost use Rattle.vpf_head.specs.Head.{varies_in};
+    ghost use Rattle.vpf_table.specs.Widths.{width_of};
     ghost use Rattle.vpf_table.specs.Opening.{opened_of};
     ghost use Rattle.vpf_table.specs.Spans.{IsOpened};
 
@@ -164,5 +167,16 @@ impl<'a> TableView<'a> {
         ensures { (order : Order) → length (rows_text order self.now.head.columns self.now.rows) ≤ result }
     {
         most_len(&self.header, self.bytes, self.start)
+    }
+
+    /// The rows as they lie in the file, where they have one width, of some bytes: in their canonical spelling.
+    pub(crate) fn fixed_rows(&self) -> Option<FixedRows<'_>>
+        ensures some { IfSome result (λ rows. 0 < rows.width) }
+        ensures width { IfSome result (λ rows. width_of self.now.head.columns ≡ Some rows.width) }
+        ensures alike { IfSome result (λ rows. varies_in self.now.head.columns ≡ false) }
+        ensures bytes { IfSome result (λ rows. rows.bytes.now ≡ rows_text self.now.head.order self.now.head.columns self.now.rows) }
+        ensures fits { IfSome result (λ rows. All (FitsRow self.now.head.columns) self.now.rows) }
+    {
+        fixed_rows(&self.header, self.bytes, self.start, self.width)
     }
 }

@@ -32,6 +32,7 @@ impl fmt::Display for Order {
 
 impl Order {
     /// The unsigned number that the first two bytes spell.
+    #[inline]
     pub fn u16_from(self, bytes: &[u8]) -> u16
         requires { 2 ≤ length bytes.now }
         ensures { result ≡ number_of self w16 bytes.now }
@@ -44,6 +45,7 @@ impl Order {
     }
 
     /// The unsigned number that the first four bytes spell.
+    #[inline]
     pub fn u32_from(self, bytes: &[u8]) -> u32
         requires { 4 ≤ length bytes.now }
         ensures { result ≡ number_of self w32 bytes.now }
@@ -56,6 +58,7 @@ impl Order {
     }
 
     /// The unsigned number that the first eight bytes spell.
+    #[inline]
     pub fn u64_from(self, bytes: &[u8]) -> u64
         requires { 8 ≤ length bytes.now }
         ensures { result ≡ number_of self w64 bytes.now }
@@ -70,6 +73,7 @@ impl Order {
     }
 
     /// Appends the two bytes that spell the unsigned number. After an error nothing is appended.
+    #[inline]
     pub fn put_u16(self, n: u16, out: &mut Vec<u8>) -> Result<(), AllocError>
         ensures ok { OnOk result (out.new.items ≡ out.old.items ++ number self w16 n) }
         ensures err { OnErr result (out.new.items ≡ out.old.items) }
@@ -81,6 +85,7 @@ impl Order {
     }
 
     /// Appends the four bytes that spell the unsigned number. After an error nothing is appended.
+    #[inline]
     pub fn put_u32(self, n: u32, out: &mut Vec<u8>) -> Result<(), AllocError>
         ensures ok { OnOk result (out.new.items ≡ out.old.items ++ number self w32 n) }
         ensures err { OnErr result (out.new.items ≡ out.old.items) }
@@ -92,6 +97,7 @@ impl Order {
     }
 
     /// Appends the eight bytes that spell the unsigned number. After an error nothing is appended.
+    #[inline]
     pub fn put_u64(self, n: u64, out: &mut Vec<u8>) -> Result<(), AllocError>
         ensures ok { OnOk result (out.new.items ≡ out.old.items ++ number self w64 n) }
         ensures err { OnErr result (out.new.items ≡ out.old.items) }

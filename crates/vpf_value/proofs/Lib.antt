@@ -7,3 +7,4 @@ pub mod Deciding
 pub mod WidthLaws
 pub mod FittingLaws
 pub mod Canonicals
+pub mod TurnedCells

@@ -7,3 +7,4 @@ pub mod Spelling
 pub mod Canonical
 pub mod Deciding
 pub mod Fitting
+pub mod Turning

@@ -13,6 +13,7 @@ ghost use Rattle.vpf_value.specs.Widths.{cell_width, TakesWidth};
 ghost use Rattle.vpf_value.specs.Deciding.{Decides};
 ghost use Rattle.vpf_value.specs.Fitting.{FitsCell, HasSpelling};
 ghost use Rattle.vpf_value.specs.Canonical.{spelled};
+ghost use Rattle.vpf_value.specs.Turning.{word_size, turned_cell};
 
 /// Each list of bytes begins with the spelling of exactly one value, or is refused with exactly one code, and never
 /// both. So no spelling is a proper beginning of another.
@@ -60,4 +61,9 @@ pub fn fitting_is_written()
 /// What is spelled in a field, as everything that is read there, fits it where the kind allows the count.
 pub fn spelled_fits()
     ensures { (order : Order) (kind : Kind) (count : Count) (v : Value) (bytes : List ℕ) → IsTrue (allows kind count) → IsCell order kind count v bytes → FitsCell kind count v }
+{}
+
+/// In the other order a cell of one width has the bytes that it has in this one, with each of its words turned round.
+pub fn turned_is_other_order()
+    ensures { (order other : Order) (kind : Kind) (count : Count) (v : Value) (width : ℕ) → order ≢ other → cell_width kind count ≡ Some width → FitsCell kind count v → spelled other kind count v ≡ turned_cell (word_size kind) (spelled order kind count v) }
 {}

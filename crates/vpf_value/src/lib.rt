@@ -8,6 +8,7 @@ mod fitting;
 pub mod laws;
 #[cfg(test)]
 mod tests;
+mod turning;
 mod widths;
 mod writing;
 
@@ -15,5 +16,6 @@ pub use cells::{Cell, cell_at};
 pub use comparing::same;
 pub use coords::{Coords, WordWidth};
 pub use fitting::fits;
+pub use turning::{WordSize, word_size};
 pub use widths::cell_width;
 pub use writing::{put_cell, spelled_len};

@@ -3,7 +3,7 @@ use Rattle.vpf_table.specs.Canonical.{FitsRow}
 use Rattle.vpf_table.specs.Drafts.{progress}
 use Rattle.vpf_table.specs.Writing.{most_bytes}
 use Rattle.vpf_table.proofs.RowTexts.{row_put, rows_put, row_room, row_fits}
-use Rattle.vpf_table.proofs.rewriting.put_rows.Goals as goal
+use Rattle.vpf_table.proofs.rewriting.put_decoded_rows.Goals as goal
 
 pub put_row_left-requires-clause-small : goal.put_row_left-requires-clause-small
 put_row_left-requires-clause-small c =

@@ -3,7 +3,7 @@ use Rattle.std.specs.Prelude.{All}
 use Rattle.vpf_table.specs.Canonical.{FitsRow, rows_text}
 use Rattle.vpf_table.specs.Drafts.{progress, with_rows}
 use Rattle.vpf_table.specs.Writing.{most_bytes}
-use Rattle.vpf_table.proofs.rewriting.put_rows.Given as goal
+use Rattle.vpf_table.proofs.rewriting.put_decoded_rows.Given as goal
 
 abbrev pub invariant-loop-row : goal.invariant-loop-row
 invariant-loop-row l = record {

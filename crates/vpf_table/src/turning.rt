@@ -1,0 +1,166 @@
+//! Rows of one width in the other byte order: their bytes with the words turned round, and no cell decoded.
+
+ghost use Rattle.std.specs.Prelude.{◌≡◌, ◌≤◌, ◌<◌, ◌+◌, ◌*◌, ◌/◌, ◌%◌, ◌++◌, All, false, IfOk, IfSome, IsOk, OnOk, Some, length};
+ghost use Rattle.vpf_value.specs.Turning.{each_piece, size_bytes};
+ghost use Rattle.vpf_head.specs.Head.{varies_in};
+ghost use Rattle.vpf_table.specs.Canonical.{FitsRow, rows_text};
+ghost use Rattle.vpf_table.specs.Reading.{most_rows, rows_at};
+ghost use Rattle.vpf_table.specs.Walking.{rows_of};
+ghost use Rattle.vpf_table.specs.Widths.{width_of};
+ghost use Rattle.vpf_table.specs.Turning.{fields_of, fields_width, turned_words, turned_rows};
+
+use crate::laws::cells_and_headers;
+use std::alloc::{AllocError, Global};
+use vpf_head::Header;
+use vpf_value::laws::{fitting_is_written, spelled_fits};
+use vpf_value::{WordSize, cell_width, word_size};
+
+/// About how many bytes are turned at a time, word by word over all their rows: they stay in the cache.
+const BLOCK_BYTES: usize = 2048;
+
+/// A field of rows that have one width: its words, and how many bytes they take.
+#[derive(Clone, Copy)]
+pub struct Field {
+    pub word: WordSize,
+    pub width: usize,
+}
+
+/// Rows that have one width, as they lie in their file.
+#[derive(Clone, Copy)]
+pub struct FixedRows<'a> {
+    pub width: usize,
+    pub bytes: &'a [u8],
+}
+
+/// The rows from `at` on where they have one width, of some bytes: they stand there in their canonical spelling.
+pub fn fixed_rows<'a>(
+    header: &Header<'_>,
+    bytes: &'a [u8],
+    at: usize,
+    width: Option<usize>,
+) -> Option<FixedRows<'a>>
+    requires inside { at ≤ length bytes.now }
+    requires read { IsOk (rows_at most_rows header.now.order header.now.columns bytes.now at) }
+    requires fixed { IfSome width (λ w. width_of header.now.columns ≡ Some w) }
+    ensures some { IfSome result (λ rows. 0 < rows.width) }
+    ensures width { IfSome result (λ rows. width_of header.now.columns ≡ Some rows.width) }
+    ensures alike { IfSome result (λ rows. varies_in header.now.columns ≡ false) }
+    ensures bytes { IfSome result (λ rows. rows.bytes.now ≡ rows_text header.now.order header.now.columns (rows_of (rows_at most_rows header.now.order header.now.columns bytes.now at))) }
+    ensures fits { IfSome result (λ rows. All (FitsRow header.now.columns) (rows_of (rows_at most_rows header.now.order header.now.columns bytes.now at))) }
+{
+    cells_and_headers();
+    fitting_is_written();
+    spelled_fits();
+    // What is true of each header.
+    let _columns = header.len();
+    let width = width?;
+    if width == 0 || header.varies() {
+        return None;
+    }
+    Some(FixedRows {
+        width,
+        bytes: &bytes[at..],
+    })
+}
+
+/// The fields of rows that have one width.
+pub fn fields_of(alloc: Global, header: &Header<'_>) -> Result<Vec<Field>, AllocError>
+    ensures { IfOk result (λ fields. fields.items ≡ fields_of header.now.columns) }
+{
+    let mut fields = Vec::new(alloc);
+    for c in 0..header.len() {
+        let column = header.at(c);
+        fields.push(Field {
+            word: word_size(column.kind),
+            width: cell_width(column.kind, column.count).unwrap_or(0),
+        })?;
+    }
+    Ok(fields)
+}
+
+/// Turns round the word that begins at `from` in each row.
+fn turn_word<const N: usize>(from: usize, width: usize, rows: &mut [u8])
+    requires some { 0 < width }
+    requires inside { from + N ≤ width }
+    ensures { rows.new ≡ each_piece (turned_words from 1 N) (length rows.old / width) width rows.old }
+{
+    for k in 0..rows.len() / width {
+        let at = k * width;
+        let row = &mut rows[at..at + width];
+        row[from..from + N].reverse();
+    }
+}
+
+/// Turns round so many words of each row, the first of which begins at `from`.
+fn turn_words<const N: usize>(from: usize, words: usize, width: usize, rows: &mut [u8])
+    requires some { 0 < width }
+    requires inside { from + words * N ≤ width }
+    ensures { rows.new ≡ each_piece (turned_words from words N) (length rows.old / width) width rows.old }
+{
+    for j in 0..words {
+        turn_word::<N>(from + j * N, width, rows);
+    }
+}
+
+/// Turns round the words of a field, which begins at `from` in each row.
+fn turn_field(field: Field, from: usize, width: usize, rows: &mut [u8])
+    requires some { 0 < width }
+    requires inside { from + field.width ≤ width }
+    ensures { rows.new ≡ each_piece (turned_words from (field.width / size_bytes field.word) (size_bytes field.word)) (length rows.old / width) width rows.old }
+{
+    match field.word {
+        WordSize::One => {}
+        WordSize::Two => turn_words::<2>(from, field.width / 2, width, rows),
+        WordSize::Four => turn_words::<4>(from, field.width / 4, width, rows),
+        WordSize::Eight => turn_words::<8>(from, field.width / 8, width, rows),
+    }
+}
+
+/// Turns round the words of all fields of each row.
+fn turn_rows(fields: &[Field], width: usize, rows: &mut [u8])
+    requires some { 0 < width }
+    requires whole { fields_width fields.now ≡ width }
+    ensures { rows.new ≡ turned_rows fields.now width rows.old }
+{
+    let mut from = 0;
+    for field in fields {
+        turn_field(*field, from, width, rows);
+        from += field.width;
+    }
+}
+
+/// How many bytes of rows of this width are turned at a time: those of some whole rows.
+fn block_len(width: usize) -> usize
+    requires { 0 < width }
+    ensures some { 0 < result }
+    ensures whole { result % width ≡ 0 }
+{
+    if width < BLOCK_BYTES {
+        BLOCK_BYTES / width * width
+    } else {
+        width
+    }
+}
+
+/// Appends rows of these fields, with their words turned round.
+pub fn put_turned(
+    fields: &[Field],
+    width: usize,
+    rows: &[u8],
+    out: &mut Vec<u8>,
+) -> Result<(), AllocError>
+    requires some { 0 < width }
+    requires whole { fields_width fields.now ≡ width }
+    ensures { OnOk result (out.new.items ≡ out.old.items ++ turned_rows fields.now width rows.now) }
+{
+    let block_len = block_len(width);
+    let mut left = rows;
+    while !left.is_empty() {
+        let (block, others) = left.split_at(block_len.min(left.len()));
+        let begun = out.len();
+        out.extend_from_slice(block)?;
+        turn_rows(fields, width, &mut out[begun..]);
+        left = others;
+    }
+    Ok(())
+}
