@@ -33,11 +33,26 @@ const IDS_SHORT: &[u8] =
 
 const IDS_INDEX: &[u8] = b"\x02\0\0\0\x29\0\0\0\x2d\0\0\0\x04\0\0\0\x31\0\0\0\x03\0\0\0";
 
+/// A column of each kind whose cells have one width, and two rows.
+const FIXED: &[u8] =
+    b"\xc4\0\0\0L;All;-;s=S,1,N,d,-,-,-,:i=I,1,N,d,-,-,-,:f=F,1,N,d,-,-,-,:r=R,1,N,d,-,-,-,:d=D,1,N,d,-,-,-,:t=T,3,N,d,-,-,-,:c=C,1,N,d,-,-,-,:b=B,1,N,d,-,-,-,:z=Z,1,N,d,-,-,-,:y=Y,1,N,d,-,-,-,:x=X,1,N,d,-,-,-,:;\
+    1212345678abcdefgh20260131120000.00000xyzABCDEFGHabcdefghijklmnopABCDEFGHIJKLabcdefghijklmnopqrstuvwx\
+    abcdefghijklmnopqr20260201120000.00000stuvwxyABCDEFGHIJKLMNOPQRST0123456789!?ABCDEFGHabcdefgh12345678";
+
+const FIXED_TURNED: &[u8] =
+    b"\0\0\0\xc4M;All;-;s=S,1,N,d,-,-,-,:i=I,1,N,d,-,-,-,:f=F,1,N,d,-,-,-,:r=R,1,N,d,-,-,-,:d=D,1,N,d,-,-,-,:t=T,3,N,d,-,-,-,:c=C,1,N,d,-,-,-,:b=B,1,N,d,-,-,-,:z=Z,1,N,d,-,-,-,:y=Y,1,N,d,-,-,-,:x=X,1,N,d,-,-,-,:;\
+    2143218765hgfedcba20260131120000.00000xyzDCBAHGFEhgfedcbaponmlkjiDCBAHGFELKJIhgfedcbaponmlkjixwvutsrq\
+    bafedcjihgrqponmlk20260201120000.00000stuyxwvDCBALKJIHGFETSRQPONM32107654?!98HGFEDCBAhgfedcba87654321";
+
 const NO_ENTRIES: &[u8] = b"\0\0\0\0\0\0\0\x18";
 
 /// The table, the order that it is written in, and its bytes and those of its index then.
-const CASES: [(&[u8], Order, &[u8], Option<&[u8]>); 6] = [
+const CASES: [(&[u8], Order, &[u8], Option<&[u8]>); 10] = [
     (ROW_ID, Order::Big, ROW_ID_TURNED, None),
+    (FIXED, Order::Big, FIXED_TURNED, None),
+    (FIXED, Order::Little, FIXED, None),
+    (FIXED_TURNED, Order::Little, FIXED, None),
+    (FIXED_TURNED, Order::Big, FIXED_TURNED, None),
     (TEXT, Order::Big, TEXT_TURNED, Some(TEXT_INDEX_TURNED)),
     (TEXT, Order::Little, TEXT, Some(TEXT_INDEX)),
     (TEXT_TURNED, Order::Little, TEXT, Some(TEXT_INDEX)),
@@ -67,6 +82,34 @@ fn writes_tables_in_either_order(rt: HostRuntime) -> Result<(), Fail> {
         let written = table.write_in(alloc, *order)?;
         assert!(rt; is(&written, want, *index), "case {i}");
     }
+    Ok(())
+}
+
+/// A header, and as many rows of a short number, a text of one byte and a word as make several blocks.
+fn many_rows(alloc: Global, order: Order) -> Result<Vec<u8>, AllocError> {
+    let mut bytes = match order {
+        Order::Little => b"\x3a\0\0\0L;T;-;s=S,1,N,d,-,-,-,:t=T,1,N,d,-,-,-,:f=F,1,N,d,-,-,-,:;",
+        Order::Big => b"\0\0\0\x3aM;T;-;s=S,1,N,d,-,-,-,:t=T,1,N,d,-,-,-,:f=F,1,N,d,-,-,-,:;",
+    }
+    .to_vec(alloc)?;
+    for n in 0..2000_u16 {
+        order.put_u16(n, &mut bytes)?;
+        bytes.push(b't')?;
+        order.put_u32(u32::from(n) * 65_537, &mut bytes)?;
+    }
+    Ok(bytes)
+}
+
+#[test]
+fn turns_rows_of_several_blocks(rt: HostRuntime) -> Result<(), Fail> {
+    let alloc = rt.alloc();
+    let little = many_rows(alloc, Order::Little)?;
+    let big = many_rows(alloc, Order::Big)?;
+    let table = TableView::open(alloc, &little, None)?;
+    assert_eq!(rt; table.len(), 2000);
+    assert!(rt; is(&table.write_in(alloc, Order::Big)?, &big, None));
+    let turned = TableView::open(alloc, &big, None)?;
+    assert!(rt; is(&turned.write_in(alloc, Order::Little)?, &little, None));
     Ok(())
 }
 

@@ -2,7 +2,7 @@
 
 use super::values::{SIX_WORDS, coords_of, id_of};
 use super::{DATE, L, M, ONE, STAR};
-use crate::{Cell, fits, put_cell, spelled_len};
+use crate::{Cell, WordSize, fits, put_cell, spelled_len, word_size};
 use std::alloc::{AllocError, Global};
 use std::test::Fail;
 use vpf_triplet::{Count, Kind, Order};
@@ -162,6 +162,26 @@ fn writes_ids_and_coordinates(rt: HostRuntime) -> Result<(), Fail> {
             writes(rt.alloc(), M, (*kind, *count), cell, big)?,
             "case {i} turned"
         );
+    }
+    Ok(())
+}
+
+#[test]
+fn tells_the_words_of_kinds(rt: HostRuntime) -> Result<(), Fail> {
+    for (kind, size) in [
+        (Kind::T, WordSize::One),
+        (Kind::D, WordSize::One),
+        (Kind::X, WordSize::One),
+        (Kind::S, WordSize::Two),
+        (Kind::I, WordSize::Four),
+        (Kind::F, WordSize::Four),
+        (Kind::C, WordSize::Four),
+        (Kind::Z, WordSize::Four),
+        (Kind::R, WordSize::Eight),
+        (Kind::B, WordSize::Eight),
+        (Kind::Y, WordSize::Eight),
+    ] {
+        assert_eq!(rt; word_size(kind), size);
     }
     Ok(())
 }
