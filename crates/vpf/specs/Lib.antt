@@ -12,3 +12,4 @@ pub mod Commands
 pub mod Loading
 pub mod Deciding
 pub mod Run
+pub mod SwapPlans

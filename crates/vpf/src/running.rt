@@ -21,13 +21,13 @@ use std::alloc::{AllocError, Global};
 use vpf_source::{DeviceError, Sink, Tree, make_all, put_all};
 
 /// The reply of a command over the bytes of its file.
-fn reply_over(alloc: Global, command: &Command, bytes: &[u8]) -> Result<Reply, AllocError>
-    ensures { IfOk result (AnswersOver command.now bytes.now) }
+fn reply_over(alloc: Global, command: &Command, bytes: Vec<u8>) -> Result<Reply, AllocError>
+    ensures { IfOk result (AnswersOver command.now bytes.items) }
 {
     match command {
-        Command::Show(name) => show(alloc, name.as_str(), bytes),
-        Command::Table(name) => check(alloc, name.as_str(), bytes),
-        Command::Cycles(name) => cycles(alloc, name.as_str(), bytes),
+        Command::Show(name) => show(alloc, name.as_str(), &bytes),
+        Command::Table(name) => check(alloc, name.as_str(), &bytes),
+        Command::Cycles(name) => cycles(alloc, name.as_str(), &bytes),
         Command::Swap(name, out) => swap(alloc, name.as_str(), out.as_str(), bytes),
     }
 }
@@ -40,7 +40,7 @@ fn obey<T: Tree>(alloc: Global, command: &Command, tree: &mut T) -> Result<Reply
     ensures files { T.files tree.new ≡ T.files tree.old }
 {
     match load_file(alloc, tree, command.file())? {
-        Loaded::Bytes(bytes) => Ok(reply_over(alloc, command, &bytes)?),
+        Loaded::Bytes(bytes) => Ok(reply_over(alloc, command, bytes)?),
         Loaded::Answered(reply) => Ok(reply),
     }
 }

@@ -1,8 +1,11 @@
 //! `swap`: a table written in the other byte order.
 
 ghost use Rattle.std.specs.Prelude.{◌≡◌, ◌∷◌, ◌++◌, IfOk, OnOk, string_bytes};
+ghost use Rattle.vpf_table.specs.InPlace.{HasRoom};
 ghost use Rattle.vpf_table.specs.Limits.{bound_text};
+ghost use Rattle.vpf_table.specs.Spelling.{IsTable};
 ghost use Rattle.vpf.specs.Answer.{limited, making};
+ghost use Rattle.vpf.specs.SwapPlans.{turned_answer, IsPlan};
 ghost use Rattle.vpf.specs.Texts.{limit_text};
 ghost use Rattle.vpf.specs.Swapping.{made_line, made_lines, made_text, index_files, part_name, written_answer, other_order, turned, swap_answer};
 
@@ -11,7 +14,7 @@ use crate::reply::Reply;
 use crate::texts::{fault, limit};
 use std::alloc::{AllocError, Global};
 use vpf_source::{Bytes, File, Name};
-use vpf_table::{Limit, TableView, WriteError, Written};
+use vpf_table::{Limit, TableView, Turning, WriteError, Written};
 use vpf_text::put_printed;
 use vpf_triplet::{Order, Part, PlaceError};
 
@@ -89,6 +92,15 @@ fn other_order(order: Order) -> Order
     }
 }
 
+/// What comes of a file that is to be written in the other order.
+#[derive(Drop)]
+enum Plan {
+    /// Its own bytes become the table.
+    Turning(Turning),
+    /// The reply, with the files that were made of it.
+    Answered(Reply),
+}
+
 /// The reply of writing a table in the other order under a name.
 fn write_turned(alloc: Global, out: &str, table: &TableView<'_>) -> Result<Reply, AllocError>
     ensures { IfOk result (λ reply. reply ≡ written_answer out.now (turned table.now)) }
@@ -101,14 +113,53 @@ fn write_turned(alloc: Global, out: &str, table: &TableView<'_>) -> Result<Reply
     }
 }
 
-/// The reply of `swap` over the bytes of a file: its table in the other byte order under another name, and the index that
-/// this has where rows vary.
-pub fn swap(alloc: Global, name: &str, out: &str, bytes: &[u8]) -> Result<Reply, AllocError>
-    ensures { IfOk result (λ reply. reply ≡ swap_answer name.now out.now bytes.now) }
+/// The plan for a table and the bytes of its file.
+fn plan_table(
+    alloc: Global,
+    out: &str,
+    table: &TableView<'_>,
+    bytes: &[u8],
+) -> Result<Plan, AllocError>
+    requires { IsTable table.now bytes.now }
+    ensures { IfOk result (λ plan. IsPlan out.now bytes.now plan (written_answer out.now (turned table.now))) }
+{
+    let order = other_order(table.header().order());
+    match table.turning(alloc, bytes, order)? {
+        Some(turning) => Ok(Plan::Turning(turning)),
+        None => Ok(Plan::Answered(write_turned(alloc, out, table)?)),
+    }
+}
+
+/// The plan for the bytes of a file.
+fn plan_file(alloc: Global, name: &str, out: &str, bytes: &[u8]) -> Result<Plan, AllocError>
+    ensures { IfOk result (λ plan. IsPlan out.now bytes.now plan (swap_answer name.now out.now bytes.now)) }
 {
     match TableView::open(alloc, bytes, None) {
-        Ok(table) => write_turned(alloc, out, &table),
-        Err(PlaceError::Place(place)) => fault(alloc, name, place),
+        Ok(table) => plan_table(alloc, out, &table, bytes),
+        Err(PlaceError::Place(place)) => Ok(Plan::Answered(fault(alloc, name, place)?)),
         Err(PlaceError::NoMemory) => Err(AllocError),
+    }
+}
+
+/// The reply of making the table of the bytes of a file that become it.
+fn turn(alloc: Global, out: &str, turning: Turning, bytes: Vec<u8>) -> Result<Reply, AllocError>
+    requires { HasRoom turning bytes.items }
+    ensures { IfOk result (λ reply. reply ≡ turned_answer out.now turning bytes.items) }
+{
+    let written = Written {
+        table: turning.turn(bytes),
+        index: None,
+    };
+    makes(alloc, files_of(alloc, out, written)?)
+}
+
+/// The reply of `swap` over the bytes of a file: its table in the other byte order under another name, and the index that
+/// this has where rows vary. The table is made in the memory of the file where its bytes become it.
+pub fn swap(alloc: Global, name: &str, out: &str, bytes: Vec<u8>) -> Result<Reply, AllocError>
+    ensures { IfOk result (λ reply. reply ≡ swap_answer name.now out.now bytes.items) }
+{
+    match plan_file(alloc, name, out, &bytes)? {
+        Plan::Turning(turning) => turn(alloc, out, turning, bytes),
+        Plan::Answered(reply) => Ok(reply),
     }
 }

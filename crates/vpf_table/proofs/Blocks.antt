@@ -4,7 +4,8 @@ use Rattle.std.specs.Prelude.{◌⊎◌}
 use Rattle.std.specs.Option.{unwrap_or}
 use Rattle.std.proofs.Math.Nat.{mul-add-div_right}
 use Rattle.std.proofs.lemmas.Bool.{cases_lt}
-use Rattle.std.proofs.lemmas.List.{append-nil, drop_at, drop_all, length-append, length-drop, length-take-le, nil_from_length, take_all, take_at, take-append-drop, take-append-le, drop-append-le}
+use Rattle.std.proofs.lemmas.List.{append-nil, drop_at, drop_all, drop-drop, length-append, length-drop, length-take-le, nil_from_length, take_all, take_at, take-append-drop, take-append-le, drop-append-le}
+use Rattle.std.proofs.lemmas.Slice.{take-put_mid, drop-put_mid}
 use borrow.Rule.Slice.PartMut.{put_mid}
 use Rattle.vpf_head.specs.Head.{Col}
 use Rattle.vpf_value.specs.declared.turning.WordSize.{WordSize}
@@ -93,6 +94,38 @@ no_more fs width s was all some e h =
     let none : s ≡ [] = nil_from_length s e in
     let rest : turned_rows fs width s ≡ [] = rw none (no_rows (turned_row fs) width some) in
     sym (append-nil was) ∙ (rw rest at h)
+
+-- ---- in place
+
+-- the rows before one are turned already, and those from it on are left
+pub record Turning (fs : List Field) (width at : ℕ) (s all : List ℕ) : Type 0 where
+  pub inside : at ≤ length s
+  pub done : take at s ++ turned_rows fs width (drop at s) ≡ all
+
+pub none_turned : (fs : List Field) (width : ℕ) (s : List ℕ) → Turning fs width 0 s (turned_rows fs width s)
+none_turned fs width s = record { inside = omega arith; done = refl }
+
+pub block_turned : (fs : List Field) (width size at k past : ℕ) (s y all : List ℕ) → 0 < width → size % width ≡ 0 → past ≡ at + min size (length s - at) → k ≡ past - at → y ≡ turned_rows fs width (take k (drop at s)) → length y ≡ length (take k (drop at s))
+    → Turning fs width at s all → Turning fs width past (put_mid at k s y) all
+block_turned fs width size at k past s y all some whole e f is len h =
+    let rest = drop at s in
+    let long : length rest ≡ length s - at = length-drop at s in
+    let least : k ≡ min size (length rest) = omega (arith, e, f, long) in
+    let part : (k % width ≡ 0) ⊎ (length rest ≤ k) = rw least (block_whole size (length rest) width whole) in
+    let wide : length y ≡ k = len ∙ length-take-le k rest (omega (arith, least)) in
+    let front = take-put_mid at k s y past (omega (arith, e, f, wide)) h.inside in
+    let back = drop-put_mid at k s y past (omega (arith, e, f)) h.inside wide in
+    let behind : drop past s ≡ drop k rest = ap (λ (n : ℕ). drop n s) (omega (arith, e, f)) ∙ sym (drop-drop k at s) in
+    let made : take at s ++ (y ++ turned_rows fs width (drop past s)) ≡ all = rw (is, behind, ← in_two_parts fs width k rest some part) (h.done) in
+    let same : length (put_mid at k s y) ≡ length s = omega (arith, length-append (take at s) (y ++ drop k rest), length-append y (drop k rest), length-take-le at s h.inside, length-drop k rest, long, wide, least, h.inside) in
+    record { inside = omega (arith, same, e, h.inside); done = rw (front, back, append_assoc) made }
+
+pub all_turned : (fs : List Field) (width at : ℕ) (s all : List ℕ) → 0 < width → length s ≤ at → Turning fs width at s all → s ≡ all
+all_turned fs width at s all some e h =
+    let rest : turned_rows fs width (drop at s) ≡ [] = rw (drop_all at s e) (no_rows (turned_row fs) width some) in
+    let whole : take at s ≡ s = take_all at s e in
+    let done : s ++ [] ≡ all = rw (whole, rest) at h.done in
+    sym (append-nil s) ∙ done
 
 -- ---- the fields of a header
 

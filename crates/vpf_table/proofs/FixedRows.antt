@@ -51,7 +51,7 @@ row_alone alone o (c ∷ cs) (v ∷ vs) b w e h =
     let others = row_alone alone o cs vs h.1 a.1 a.3 h.4 in
     rw (h.2, cell, others) refl
 
-rows_alone : Alone → (o : Order) (cs : List Col) (rows : List Row) (b : List ℕ) (w : ℕ) → width_of cs ≡ Some w → IsRows o cs rows b → b ≡ rows_text o cs rows
+pub rows_alone : Alone → (o : Order) (cs : List Col) (rows : List Row) (b : List ℕ) (w : ℕ) → width_of cs ≡ Some w → IsRows o cs rows b → b ≡ rows_text o cs rows
 unfolding rows_text
 rows_alone alone o cs [] b w e h = h
 rows_alone alone o cs (row ∷ rows) b w e h =
@@ -111,7 +111,7 @@ pieces_turned turned wide o p cs (row ∷ rows) w other e h =
     let back = drop_at text rest w len in
     rw (front, back, row_turned turned wide o p cs row w other e fits, pieces_turned turned wide o p cs rows w other e (All-tail (FitsRow cs) row rows h)) refl
 
-length-rows : HasWidth → (o : Order) (cs : List Col) (rows : List Row) (w : ℕ) → width_of cs ≡ Some w → All (FitsRow cs) rows → length (rows_text o cs rows) ≡ length rows * w
+pub length-rows : HasWidth → (o : Order) (cs : List Col) (rows : List Row) (w : ℕ) → width_of cs ≡ Some w → All (FitsRow cs) rows → length (rows_text o cs rows) ≡ length rows * w
 unfolding rows_text
 length-rows wide o cs [] w e h = omega arith
 length-rows wide o cs (row ∷ rows) w e h =
@@ -121,7 +121,7 @@ length-rows wide o cs (row ∷ rows) w e h =
 many_rows : (len n w : ℕ) → 0 < w → len ≡ n * w → len / w ≡ n
 many_rows len n w some e = let z : len ≡ n * w + 0 = omega (arith, e) in let none : 0 / w ≡ 0 = omega arith in ap (λ (k : ℕ). k / w) z ∙ mul-add-div_right some n 0 ∙ omega (arith, none)
 
-rows_turned : Turned → HasWidth → (o p : Order) (cs : List Col) (rows : List Row) (w : ℕ) → 0 < w → o ≢ p → width_of cs ≡ Some w → All (FitsRow cs) rows → rows_text p cs rows ≡ turned_rows (fields_of cs) w (rows_text o cs rows)
+pub rows_turned : Turned → HasWidth → (o p : Order) (cs : List Col) (rows : List Row) (w : ℕ) → 0 < w → o ≢ p → width_of cs ≡ Some w → All (FitsRow cs) rows → rows_text p cs rows ≡ turned_rows (fields_of cs) w (rows_text o cs rows)
 rows_turned turned wide o p cs rows w some other e h =
     let n = many_rows (length (rows_text o cs rows)) (length rows) w some (length-rows wide o cs rows w e h) in
     rw n (pieces_turned turned wide o p cs rows w other e h)

@@ -21,3 +21,4 @@ pub mod WritingLaws
 pub mod Pieces
 pub mod Blocks
 pub mod FixedRows
+pub mod InPlaceFiles

@@ -18,3 +18,4 @@ pub mod CellLists
 pub mod Drafts
 pub mod Writing
 pub mod Turning
+pub mod InPlace

@@ -5,6 +5,7 @@ mod cell_list;
 mod counting;
 mod draft;
 mod finding;
+mod in_place;
 mod indexing;
 mod iteration;
 pub mod laws;
@@ -23,6 +24,7 @@ mod writing;
 
 pub use cell_list::CellList;
 pub use finding::{ColumnAt, Finding, Seen, SeenWord, TableName};
+pub use in_place::Turning;
 pub use iteration::Rows;
 pub use limit::{Bound, Limit};
 pub use row::{Cells, RowView};

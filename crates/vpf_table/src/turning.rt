@@ -164,3 +164,18 @@ pub fn put_turned(
     }
     Ok(())
 }
+
+/// Turns round the words of all fields of each row, block by block.
+pub fn turn_blocks(fields: &[Field], width: usize, rows: &mut [u8])
+    requires some { 0 < width }
+    requires whole { fields_width fields.now ≡ width }
+    ensures { rows.new ≡ turned_rows fields.now width rows.old }
+{
+    let block_len = block_len(width);
+    let mut at = 0;
+    while at < rows.len() {
+        let past = at + block_len.min(rows.len() - at);
+        turn_rows(fields, width, &mut rows[at..past]);
+        at = past;
+    }
+}

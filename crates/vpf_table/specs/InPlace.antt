@@ -1,0 +1,22 @@
+-- A file whose bytes become its table in another order where they lie.
+use Rattle.std.specs.Prelude.{◌≡◌, ℕ, ◌≤◌, List, ◌++◌, length, drop, None}
+use Rattle.vpf_table.specs.declared.in_place.Turning.{Turning}
+use Rattle.vpf_table.specs.Canonical.{canonical_table, canonical_index}
+use Rattle.vpf_table.specs.Grid.{Grid}
+use Rattle.vpf_table.specs.Turning.{turned_rows}
+use Rattle.vpf_table.specs.Writing.{first_limit}
+
+-- there is room for the header
+abbrev pub HasRoom : Turning → List ℕ → Type 0
+HasRoom t bytes = length t.front.items ≤ length bytes
+
+-- the header in place of the first bytes, and the others with their words turned round
+abbrev pub turned_file : Turning → List ℕ → List ℕ
+turned_file t bytes = t.front.items ++ turned_rows t.fields.items t.width (drop (length t.front.items) bytes)
+
+-- The bytes become this table, which passes no limit and has no index.
+pub record Turns (t : Turning) (bytes : List ℕ) (g : Grid) : Type 0 where
+  pub room : HasRoom t bytes
+  pub limit : first_limit g ≡ None
+  pub table : turned_file t bytes ≡ canonical_table g
+  pub index : canonical_index g ≡ None
