@@ -12,7 +12,7 @@ use Rattle.vpf_value.specs.declared.turning.WordSize.{WordSize}
 use Rattle.vpf_value.specs.Turning.{each_piece, word_size}
 use Rattle.vpf_value.specs.Widths.{cell_width}
 use Rattle.vpf_table.specs.declared.turning.Field.{Field}
-use Rattle.vpf_table.specs.Turning.{bytes_or_none, field_of, fields_of, turned_row, turned_rows}
+use Rattle.vpf_table.specs.Turning.{bytes_or_none, field_of, turned_row, turned_rows}
 use Rattle.vpf_table.proofs.Pieces.{none_left}
 
 -- pieces of a list that ends with one of them, and those of another behind it

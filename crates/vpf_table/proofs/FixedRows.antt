@@ -1,6 +1,6 @@
 -- Rows of one width: their bytes are the canonical ones, and those of the other order are these with the words turned round.
 use Rattle.std.specs.Prelude.{All, IsOk}
-use Rattle.std.proofs.Common.{◌≡◌, ◌≢◌, ℕ, zero, suc, ◌+◌, ◌-◌, ◌*◌, ◌/◌, ◌<◌, ◌≤◌, Bool, true, false, cond, List, [], ◌∷◌, ◌++◌, length, take, drop, map, Option, Some, None, refl, sym, ap, subst, ◌∙◌, arith}
+use Rattle.std.proofs.Common.{◌≡◌, ◌≢◌, ℕ, suc, ◌+◌, ◌*◌, ◌/◌, ◌<◌, ◌≤◌, Bool, false, cond, List, [], ◌∷◌, ◌++◌, length, drop, Some, None, refl, sym, ap, ◌∙◌, arith}
 use Rattle.std.proofs.Math.Nat.{mul-add-div_right}
 use Rattle.std.proofs.lemmas.List.{length-append, take_at, drop_at}
 use Rattle.std.proofs.lemmas.List.Elements.{All-head, All-tail}
@@ -21,7 +21,7 @@ use Rattle.vpf_table.specs.declared.turning.Field.{Field}
 use Rattle.vpf_table.specs.Grid.{Row}
 use Rattle.vpf_table.specs.Reading.{most_rows, rows_at}
 use Rattle.vpf_table.specs.Walking.{rows_of}
-use Rattle.vpf_table.specs.Widths.{add_width, width_of}
+use Rattle.vpf_table.specs.Widths.{width_of}
 use Rattle.vpf_table.specs.Spelling.{IsRow, IsRows}
 use Rattle.vpf_table.specs.Canonical.{FitsRow, row_text, rows_text}
 use Rattle.vpf_table.specs.Drafts.{Progress, with_rows, with_bytes}

@@ -1,12 +1,12 @@
 -- A file of rows of one width becomes the table in the other order where it lies.
 use Rattle.std.specs.Prelude.{All}
 use Rattle.std.specs.Option.{is_some}
-use Rattle.std.proofs.Common.{◌≡◌, ◌≢◌, ℕ, ◌+◌, ◌-◌, ◌*◌, ◌<◌, ◌≤◌, Bool, true, false, List, [], ◌∷◌, ◌++◌, length, take, drop, Option, Some, None, refl, sym, ap, ◌∙◌, arith}
-use Rattle.std.proofs.lemmas.List.{length-append, drop_at, drop_all, take_all, take_at}
+use Rattle.std.proofs.Common.{◌≡◌, ◌≢◌, ℕ, ◌+◌, ◌<◌, ◌≤◌, false, List, ◌++◌, length, drop, Option, Some, None, refl, sym, ap, ◌∙◌, arith}
+use Rattle.std.proofs.lemmas.List.{length-append, drop_at}
 use Rattle.vpf_triplet.specs.declared.orders.Order.{Order}
 use Rattle.vpf_triplet.specs.declared.places.Part.{Part}
 use Rattle.vpf_head.specs.Canonical.{canonical_text, canonical_header}
-use Rattle.vpf_head.specs.Head.{Head, Col, varies_in}
+use Rattle.vpf_head.specs.Head.{varies_in}
 use Rattle.vpf_table.specs.declared.limit.Limit.{Limit}
 use Rattle.vpf_table.specs.declared.turning.Field.{Field}
 use Rattle.vpf_table.specs.Grid.{Grid}
@@ -16,7 +16,7 @@ use Rattle.vpf_table.specs.Turning.{fields_of, turned_rows}
 use Rattle.vpf_table.specs.Widths.{width_of}
 use Rattle.vpf_table.specs.Writing.{limit_by, first_limit}
 use Rattle.vpf_table.proofs.FixedRows.{Alone, Turned, HasWidth, rows_alone, rows_turned, length-rows}
-use Rattle.vpf_table.proofs.WholeTables.{StandsFor, told_limit, length-table}
+use Rattle.vpf_table.proofs.WholeTables.{told_limit, length-table}
 
 pub none_is : {X : Type 0} (x : Option X) → is_some x ≡ false → x ≡ None
 none_is None e = refl

@@ -1,11 +1,10 @@
 -- Pieces of a list that are changed one after another, in place.
 use Rattle.std.proofs.Common.{◌≡◌, ℕ, zero, suc, ◌+◌, ◌-◌, ◌*◌, ◌/◌, ◌<◌, ◌≤◌, List, [], ◌∷◌, ◌++◌, length, take, drop, reverse, refl, sym, ap, ◌∙◌, append_assoc, arith}
 use Rattle.std.proofs.Math.Nat.{mul-le-mul_left}
-use Rattle.std.proofs.lemmas.List.{drop-drop, length-append, length-drop, length-take-le, length-reverse, take-append-drop, take_all, take_at, drop_at, take-append-le, drop-append-le, drop_more, drop_all}
+use Rattle.std.proofs.lemmas.List.{drop-drop, length-append, length-drop, length-take-le, length-reverse, take-append-drop, take_at, drop_at, take-append-le, drop-append-le}
 use Rattle.std.proofs.lemmas.List.Sums.{sum_by-cons}
 use Rattle.std.proofs.lemmas.Slice.{take-put_mid, drop-put_mid}
 use borrow.Rule.Slice.PartMut.{put_mid}
-use Rattle.std.specs.Prelude.{sum_by}
 use Rattle.vpf_value.specs.declared.turning.WordSize.{WordSize}
 use Rattle.vpf_value.specs.declared.turning.WordSize.TheVariants.{One, Two, Four, Eight}
 use Rattle.vpf_table.specs.declared.turning.Field.{Field}

@@ -1,6 +1,6 @@
 -- Rows of one width in the other byte order: the same bytes, with the words of their cells turned round.
 use Rattle.std.specs.Prelude.{ℕ, ◌/◌, List, [], ◌∷◌, ◌++◌, length, take, drop, map, reverse, Option, Some, None, sum_by}
-use Rattle.vpf_value.specs.Turning.{each_piece, size_bytes, word_size, turned_cell}
+use Rattle.vpf_value.specs.Turning.{each_piece, word_size, turned_cell}
 use Rattle.vpf_value.specs.Widths.{cell_width}
 use Rattle.vpf_head.specs.Head.{Col}
 use Rattle.vpf_table.specs.declared.turning.Field.{Field}

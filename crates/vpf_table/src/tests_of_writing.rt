@@ -8,7 +8,8 @@ use crate::writing::first_limit;
 use crate::{Bound, CellList, Cells, Limit, TableView, WriteError, Written, write};
 use std::alloc::{AllocError, Global};
 use std::test::Fail;
-use vpf_triplet::{Order, Part};
+use vpf_source::Bytes;
+use vpf_triplet::{Order, Part, PlaceError};
 
 /// A header without the mark of its order, and one row.
 const ROW_ID: &[u8] = b"\x22\0\0\0Table;-;id=I,    1,P,Row Id,-,-,:;\x07\0\0\0";
@@ -81,6 +82,51 @@ fn writes_tables_in_either_order(rt: HostRuntime) -> Result<(), Fail> {
         let table = TableView::open(alloc, bytes, None)?;
         let written = table.write_in(alloc, *order)?;
         assert!(rt; is(&written, want, *index), "case {i}");
+    }
+    Ok(())
+}
+
+/// The bytes of a table's file turned into this order in their own memory, where they can be.
+fn turned(alloc: Global, bytes: &[u8], order: Order) -> Result<Option<Bytes>, PlaceError> {
+    let turning = match TableView::open(alloc, bytes, None) {
+        Ok(table) => table.turning(alloc, bytes, order)?,
+        Err(error) => return Err(error),
+    };
+    match turning {
+        Some(turning) => Ok(Some(turning.turn(bytes.to_vec(alloc)?))),
+        None => Ok(None),
+    }
+}
+
+#[test]
+fn turns_files_in_their_own_memory(rt: HostRuntime) -> Result<(), Fail> {
+    let alloc = rt.alloc();
+    let little = many_rows(alloc, Order::Little)?;
+    let big = many_rows(alloc, Order::Big)?;
+    for (i, (bytes, order, want)) in [
+        (FIXED, Order::Big, Some(FIXED_TURNED)),
+        (FIXED_TURNED, Order::Little, Some(FIXED)),
+        (ROW_ID, Order::Big, Some(ROW_ID_TURNED)),
+        (little.as_slice(), Order::Big, Some(big.as_slice())),
+        // In this order already, behind a header that grows, and with rows that vary.
+        (FIXED, Order::Little, None),
+        (
+            b"\x1e\0\0\0Table;-;id=I,1,P,Row Id,-,-,:;\x07\0\0\0",
+            Order::Big,
+            None,
+        ),
+        (TEXT, Order::Big, None),
+    ]
+    .iter()
+    .enumerate()
+    {
+        let made = turned(alloc, bytes, *order)?;
+        let same = match (&made, want) {
+            (Some(made), Some(want)) => made.as_slice() == *want,
+            (None, None) => true,
+            _ => false,
+        };
+        assert!(rt; same, "case {i}");
     }
     Ok(())
 }

@@ -1,6 +1,6 @@
 -- The words of a cell turned round are its words in the other order.
-use Rattle.std.specs.Int.{Width, w16, w32, w64, cast_unsigned}
-use Rattle.std.proofs.Common.{◌≡◌, ◌≢◌, ℕ, zero, suc, ◌+◌, ◌*◌, ◌/◌, ◌≤◌, List, [], ◌∷◌, ◌++◌, length, take, drop, reverse, Option, Some, None, refl, sym, ap, ◌∙◌, arith}
+use Rattle.std.specs.Int.{w16, w32, w64, cast_unsigned}
+use Rattle.std.proofs.Common.{◌≡◌, ◌≢◌, ℕ, zero, suc, ◌/◌, List, [], ◌∷◌, length, take, drop, reverse, Some, None, refl, sym, ◌∙◌, arith}
 use Rattle.std.proofs.lemmas.List.{append-nil, take-append-drop, take_at, drop_at, take_all, drop_all}
 use Rattle.vpf_triplet.specs.declared.orders.Order.{Order}
 use Rattle.vpf_triplet.specs.declared.orders.Order.TheVariants.{Little, Big}
@@ -16,7 +16,7 @@ use Rattle.vpf_value.specs.declared.coords.Tuple.TheVariants.{Pair, Triple}
 use Rattle.vpf_value.specs.declared.turning.WordSize.{WordSize}
 use Rattle.vpf_value.specs.declared.turning.WordSize.TheVariants.{One, Two, Four, Eight}
 use Rattle.vpf_value.specs.Words.{word_bytes, number_width, word_text}
-use Rattle.vpf_value.specs.Values.{Value, TextOf, Word4Of, Word8Of, NumberOf, DateOf, Nothing, TripletOf, WordsOf}
+use Rattle.vpf_value.specs.Values.{Value, TextOf, Word4Of, Word8Of, NumberOf, DateOf, WordsOf}
 use Rattle.vpf_value.specs.Fitting.{FitsKind, FitsCell, FitsTuples}
 use Rattle.vpf_value.specs.Widths.{cell_width, many_width}
 use Rattle.vpf_value.specs.Canonical.{spelled, spelled_text, spelled_word4, spelled_word8, spelled_number, spelled_date, spelled_tuples}

@@ -1,4 +1,4 @@
-use Rattle.std.proofs.Common.{◌++◌, length, drop, refl, ap}
+use Rattle.std.proofs.Common.{◌++◌, length, drop, refl}
 use Rattle.vpf_table.specs.Turning.{turned_rows}
 use Rattle.vpf_table.proofs.Blocks.{behind_turned}
 use Rattle.vpf_table.proofs.in_place.turn_over.Goals as goal

@@ -1,12 +1,10 @@
-use Rattle.std.proofs.Common.{◌≡◌, ◌≢◌, false, ap, sym, ◌∙◌, rules}
-use Rattle.std.specs.Prelude.{Some}
+use Rattle.std.proofs.Common.{◌≡◌, ◌≢◌, ap, sym, ◌∙◌, rules}
 use Rattle.std.proofs.lemmas.Result.{on_ok_weaker}
 use denote.Enum.Bare.{same_true, same_false}
 use Rattle.vpf_triplet.specs.contracts.orders.Order.{the_type}
 use Rattle.vpf_table.specs.Canonical.{rows_text}
 use Rattle.vpf_table.specs.Drafts.{progress}
-use Rattle.vpf_table.specs.Turning.{fields_of, fields_width}
-use Rattle.vpf_table.specs.Widths.{width_of}
+use Rattle.vpf_table.specs.Turning.{fields_of}
 use Rattle.vpf_table.proofs.FixedRows.{bytes_put, turned_put, fields_wide}
 use Rattle.vpf_table.proofs.rewriting.put_fixed_rows.Goals as goal
 

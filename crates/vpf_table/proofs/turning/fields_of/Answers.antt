@@ -1,4 +1,3 @@
-use Rattle.std.proofs.Common.{sym, refl, ◌+◌}
 use Rattle.vpf_head.specs.Views.{col}
 use Rattle.vpf_table.proofs.WalkLemmas.{next_item}
 use Rattle.vpf_table.proofs.Blocks.{field_by, field_pushed}

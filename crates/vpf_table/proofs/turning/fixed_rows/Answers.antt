@@ -1,4 +1,4 @@
-use Rattle.std.proofs.Common.{arith, ◌∙◌, ◌≡◌, Some, drop}
+use Rattle.std.proofs.Common.{arith, ◌∙◌, ◌≡◌, Some}
 use Rattle.std.proofs.lemmas.List.{take_rest}
 use Rattle.vpf_table.specs.Widths.{width_of}
 use Rattle.vpf_table.proofs.FixedRows.{read_is_canonical}

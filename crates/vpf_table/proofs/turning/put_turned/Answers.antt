@@ -1,4 +1,4 @@
-use Rattle.std.proofs.Common.{◌≡◌, ◌++◌, ◌-◌, ◌≤◌, ◌∙◌, length, min, sym, ap, arith, rules}
+use Rattle.std.proofs.Common.{◌≡◌, ◌++◌, ◌-◌, ◌∙◌, length, min, ap, arith, rules}
 use Rattle.std.proofs.lemmas.List.{length-append, with_items_is}
 use borrow.Rule.Slice.PartMut.{put_mid}
 use Rattle.vpf_table.specs.Turning.{turned_rows}

@@ -1,4 +1,4 @@
-use Rattle.std.proofs.Common.{◌≡◌, ◌+◌, ◌-◌, length, min, refl, arith, rules}
+use Rattle.std.proofs.Common.{◌≡◌, ◌+◌, ◌-◌, length, min, refl, rules}
 use Rattle.vpf_table.proofs.Blocks.{none_turned, block_turned, all_turned}
 use Rattle.vpf_table.proofs.turning.turn_blocks.Goals as goal
 

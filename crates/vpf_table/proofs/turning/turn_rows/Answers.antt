@@ -1,9 +1,8 @@
-use Rattle.std.proofs.Common.{◌≡◌, ◌+◌, ◌∷◌, length, drop, get_or, arith}
+use Rattle.std.proofs.Common.{◌≡◌, ◌+◌, ◌∷◌, length, drop, get_or}
 use Rattle.std.proofs.lemmas.List.{drop_more, drop_all}
 use Rattle.vpf_table.specs.declared.turning.Field.{Field}
 use Rattle.vpf_value.specs.declared.turning.WordSize.TheVariants.{One}
-use Rattle.vpf_table.specs.Turning.{turned_rows}
-use Rattle.vpf_table.proofs.Pieces.{Left, fields_begun, field_step, fields_done}
+use Rattle.vpf_table.proofs.Pieces.{fields_begun, field_step, fields_done}
 use Rattle.vpf_table.proofs.turning.turn_rows.Goals as goal
 
 pub loop-field-init : goal.loop-field-init

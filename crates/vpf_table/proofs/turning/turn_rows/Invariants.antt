@@ -1,4 +1,4 @@
-use Rattle.std.proofs.Common.{◌/◌, length, drop}
+use Rattle.std.proofs.Common.{length, drop}
 use Rattle.vpf_table.specs.Turning.{turned_rows}
 use Rattle.vpf_table.proofs.Pieces.{Left}
 use Rattle.vpf_table.proofs.turning.turn_rows.Given as goal

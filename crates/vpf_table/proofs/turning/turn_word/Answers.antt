@@ -1,5 +1,4 @@
-use Rattle.std.proofs.Common.{arith, refl, ◌*◌, ◌+◌, ◌-◌, take, drop}
-use Rattle.vpf_value.specs.Turning.{each_piece}
+use Rattle.std.proofs.Common.{arith, ◌*◌, ◌+◌, ◌-◌, take, drop}
 use Rattle.vpf_table.specs.Turning.{turned_words}
 use Rattle.vpf_table.proofs.Pieces.{none_changed, one_changed, all_changed, word_turned, turned_words_keeps}
 use Rattle.vpf_table.proofs.turning.turn_word.Goals as goal

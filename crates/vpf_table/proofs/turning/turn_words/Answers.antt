@@ -1,4 +1,4 @@
-use Rattle.std.proofs.Common.{◌+◌, ◌-◌, ◌*◌, ◌/◌, arith}
+use Rattle.std.proofs.Common.{◌+◌, ◌-◌, ◌*◌, arith}
 use Rattle.vpf_table.proofs.Pieces.{words_begun, words_step, words_done}
 use Rattle.vpf_table.proofs.turning.turn_words.Goals as goal
 

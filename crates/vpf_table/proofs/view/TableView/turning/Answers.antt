@@ -1,11 +1,9 @@
-use Rattle.std.proofs.Common.{◌≡◌, ◌≢◌, ◌+◌, ◌∙◌, length, sym, ap, arith, rules}
+use Rattle.std.proofs.Common.{◌≡◌, ◌≢◌, ◌+◌, length, sym, rules}
 use Rattle.std.specs.Prelude.{None}
 use denote.Enum.Bare.{same_false}
 use Rattle.vpf_triplet.specs.contracts.orders.Order.{the_type}
 use Rattle.vpf_head.specs.Canonical.{canonical_header}
 use Rattle.vpf_table.specs.Canonical.{in_order}
-use Rattle.vpf_table.specs.Turning.{fields_of}
-use Rattle.vpf_table.specs.Writing.{first_limit}
 use Rattle.vpf_table.proofs.FixedRows.{fields_wide}
 use Rattle.vpf_table.proofs.InPlaceFiles.{none_is, in_place, within}
 use Rattle.vpf_table.proofs.WholeTables.{within_limits}
