@@ -40,11 +40,16 @@ in_place alone turned wide g order bytes rows front fields w t some e alike rows
     let index : canonical_index (in_order order g) ≡ None = rw alike refl in
     record { room = omega (arith, long); table = rw (behind, rows_are, fields_are, front_is) (ap (λ (xs : List ℕ). canonical_header (in_order order g).head ++ xs) (sym text)); index = index }
 
-pub within : HasWidth → (g : Grid) (order : Order) (rows : List ℕ) (w many : ℕ) (told : Option (Part × Limit)) → width_of g.head.columns ≡ Some w → rows ≡ rows_text g.head.order g.head.columns g.rows → All (FitsRow g.head.columns) g.rows → many ≡ length g.rows
-    → told ≡ limit_by (length (canonical_text (in_order order g).head)) many (length (canonical_header (in_order order g).head) + length rows) (varies_in g.head.columns) → told ≡ None → first_limit (in_order order g) ≡ None
-within wide g order rows w many told e is fits count told_is none =
+-- the header in the other order and the rows are as long as the table
+pub turned_size : HasWidth → (g : Grid) (order : Order) (rows : List ℕ) (w : ℕ) → width_of g.head.columns ≡ Some w → rows ≡ rows_text g.head.order g.head.columns g.rows → All (FitsRow g.head.columns) g.rows → length (canonical_header (in_order order g).head) + length rows ≡ length (canonical_table (in_order order g))
+turned_size wide g order rows w e is fits =
     let cs = g.head.columns in
-    let h = in_order order g in
     let len : length rows ≡ length (rows_text order cs g.rows) = ap length is ∙ length-rows wide g.head.order cs g.rows w e fits ∙ sym (length-rows wide order cs g.rows w e fits) in
-    let size : length (canonical_header h.head) + length rows ≡ length (canonical_table h) = omega (arith, length-table h, len) in
-    told_limit h many (length rows) told None count (record { same = λ text n varies. ap (λ (k : ℕ). limit_by text n k varies) size }) told_is none
+    omega (arith, length-table (in_order order g), len)
+
+-- what is told of limits is the table's own
+pub told_first : HasWidth → (g : Grid) (order : Order) (rows : List ℕ) (w many : ℕ) (told : Option (Part × Limit)) → width_of g.head.columns ≡ Some w → rows ≡ rows_text g.head.order g.head.columns g.rows → All (FitsRow g.head.columns) g.rows → many ≡ length g.rows
+    → told ≡ limit_by (length (canonical_text (in_order order g).head)) many (length (canonical_header (in_order order g).head) + length rows) (varies_in g.head.columns) → first_limit (in_order order g) ≡ told
+told_first wide g order rows w many told e is fits count told_is =
+    let size = turned_size wide g order rows w e is fits in
+    told_limit (in_order order g) many (length rows) told told count (record { same = λ text n varies. ap (λ (k : ℕ). limit_by text n k varies) size }) told_is refl

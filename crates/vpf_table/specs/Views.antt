@@ -1,5 +1,5 @@
 -- What contracts see of a table.
-use Rattle.std.specs.Prelude.{◌≡◌, ◌≤◌, List, length, Result, Ok, Some, IfSome}
+use Rattle.std.specs.Prelude.{◌≡◌, ◌≤◌, ◌<◌, ◌^◌, ℕ, List, length, Result, Ok, Some, IfSome}
 use Rattle.vpf_triplet.specs.declared.places.Place.{Place}
 use Rattle.vpf_table.specs.declared.view.TableView.TheInside.{Inside}
 use Rattle.vpf_table.specs.Grid.{Row, Grid}
@@ -16,11 +16,12 @@ read_rows t = rows_at most_rows t.header.order t.header.columns t.bytes.now t.st
 abbrev pub grid_of : Inside → Grid
 grid_of t = record { head = t.header; rows = rows_of (read_rows t) }
 
--- The bytes after the header are rows, so many, and of this width where one is kept. An index that is kept has the offset
+-- The bytes after the header are rows, so many, and of this width where one is kept: it is wherever it fits a number. An index that is kept has the offset
 -- and the length of each.
 pub record IsRead (t : Inside) : Type 0 where
   pub read : read_rows t ≡ Ok (rows_of (read_rows t))
   pub count : t.rows ≡ length (rows_of (read_rows t))
   pub fixed : IfSome t.width (λ w. width_of t.header.columns ≡ Some w)
+  pub known : (w : ℕ) → width_of t.header.columns ≡ Some w → w < 2 ^ 64 → t.width ≡ Some w
   pub inside : t.start ≤ length t.bytes.now
   pub index : IfSome t.index (λ entries. entries ≡ spans_at (length (rows_of (read_rows t))) t.header.order t.header.columns t.bytes.now t.start)

@@ -49,9 +49,9 @@ impl Turning {
 }
 
 impl<'a> TableView<'a> {
-    ghost use Rattle.std.specs.Prelude.{IfOk, IfSome};
+    ghost use Rattle.std.specs.Prelude.{IfOk, IfSome, IsSome};
     ghost use Rattle.vpf_table.specs.Canonical.{in_order};
-    ghost use Rattle.vpf_table.specs.InPlace.{Turns};
+    ghost use Rattle.vpf_table.specs.InPlace.{Turns, CanTurn};
     ghost use Rattle.vpf_table.specs.Spelling.{IsTable};
 
     /// How the bytes of this table's file become the table in this order, as `write_in` writes it. None where rows have no
@@ -63,7 +63,8 @@ impl<'a> TableView<'a> {
         order: Order,
     ) -> Result<Option<Turning>, AllocError>
         requires { IsTable self.now bytes.now }
-        ensures { IfOk result (λ found. IfSome found (λ t. Turns t bytes.now (in_order order self.now))) }
+        ensures found { IfOk result (λ found. IfSome found (λ t. Turns t bytes.now (in_order order self.now))) }
+        ensures known { CanTurn self.now bytes.now order → IfOk result (λ found. IsSome found) }
     {
         fitting_is_written();
         turned_is_other_order();

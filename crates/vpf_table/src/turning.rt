@@ -1,6 +1,6 @@
 //! Rows of one width in the other byte order: their bytes with the words turned round, and no cell decoded.
 
-ghost use Rattle.std.specs.Prelude.{◌≡◌, ◌≤◌, ◌<◌, ◌+◌, ◌*◌, ◌/◌, ◌%◌, ◌++◌, All, false, IfOk, IfSome, IsOk, OnOk, Some, length};
+ghost use Rattle.std.specs.Prelude.{◌≡◌, ◌≤◌, ◌<◌, ◌+◌, ◌*◌, ◌/◌, ◌%◌, ◌++◌, ℕ, All, false, IfOk, IfSome, IsOk, IsSome, OnOk, Some, length};
 ghost use Rattle.vpf_value.specs.Turning.{each_piece, size_bytes};
 ghost use Rattle.vpf_head.specs.Head.{varies_in};
 ghost use Rattle.vpf_table.specs.Canonical.{FitsRow, rows_text};
@@ -42,6 +42,7 @@ pub fn fixed_rows<'a>(
     requires inside { at ≤ length bytes.now }
     requires read { IsOk (rows_at most_rows header.now.order header.now.columns bytes.now at) }
     requires fixed { IfSome width (λ w. width_of header.now.columns ≡ Some w) }
+    ensures known { (w : ℕ) → width ≡ Some w → 0 < w → varies_in header.now.columns ≡ false → IsSome result }
     ensures some { IfSome result (λ rows. 0 < rows.width) }
     ensures width { IfSome result (λ rows. width_of header.now.columns ≡ Some rows.width) }
     ensures alike { IfSome result (λ rows. varies_in header.now.columns ≡ false) }
@@ -134,6 +135,8 @@ fn block_len(width: usize) -> usize
     requires { 0 < width }
     ensures some { 0 < result }
     ensures whole { result % width ≡ 0 }
+    // Another row would be too much.
+    ensures full { BLOCK_BYTES < result + width }
 {
     if width < BLOCK_BYTES {
         BLOCK_BYTES / width * width

@@ -42,7 +42,7 @@ impl<'a> Model for TableView<'a> {
 }
 
 impl<'a> TableView<'a> {
-    ghost use Rattle.std.specs.Prelude.{◌≡◌, ◌≤◌, ◌+◌, ◌-◌, ◌==◌, ◌<◌, All, false, IfOk, IfSome, Ok, Some, length, slice_get};
+    ghost use Rattle.std.specs.Prelude.{◌≡◌, ◌≤◌, ◌+◌, ◌-◌, ◌==◌, ◌<◌, ◌^◌, ℕ, All, false, IfOk, IfSome, IsSome, Ok, Some, length, slice_get};
     ghost use Rattle.std.specs.Option.{option_copied};
     ghost use Rattle.vpf_triplet.specs.Places.{Answers};
     ghost use Rattle.vpf_table.specs.Grid.{Grid};
@@ -171,6 +171,7 @@ impl<'a> TableView<'a> {
 
     /// The rows as they lie in the file, where they have one width, of some bytes: in their canonical spelling.
     pub(crate) fn fixed_rows(&self) -> Option<FixedRows<'_>>
+        ensures known { (w : ℕ) → width_of self.now.head.columns ≡ Some w → 0 < w → w < 2 ^ 64 → varies_in self.now.head.columns ≡ false → IsSome result }
         ensures some { IfSome result (λ rows. 0 < rows.width) }
         ensures width { IfSome result (λ rows. width_of self.now.head.columns ≡ Some rows.width) }
         ensures alike { IfSome result (λ rows. varies_in self.now.head.columns ≡ false) }
