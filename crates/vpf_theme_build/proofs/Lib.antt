@@ -9,3 +9,9 @@ mod TextLemmas
 mod FieldLemmas
 mod BuildLemmas
 mod ScanLemmas
+mod PieceLemmas
+mod HeaderLemmas
+mod MarkLemmas
+mod ListedLemmas
+mod AgainLemmas
+mod ColumnLemmas

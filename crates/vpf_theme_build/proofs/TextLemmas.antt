@@ -23,13 +23,13 @@ rows_inside n spots h k d m = subst (λ (r : ℕ). (1 ≤ r) × (r ≤ n)) (get_
 
 -- ---- lengths
 
-length-number : (o : Order) (size : RowSize) (n : ℕ) → length (number o (row_width size) n) ≡ row_bytes size
+pub length-number : (o : Order) (size : RowSize) (n : ℕ) → length (number o (row_width size) n) ≡ row_bytes size
 length-number Little sizes.Short n = refl
 length-number Little sizes.Long n = refl
 length-number Big sizes.Short n = refl
 length-number Big sizes.Long n = refl
 
-length-rows : (o : Order) (size : RowSize) (rows : List ℕ) → length (rows_text o size rows) ≡ length rows * row_bytes size
+pub length-rows : (o : Order) (size : RowSize) (rows : List ℕ) → length (rows_text o size rows) ≡ length rows * row_bytes size
 length-rows o size [] = omega arith
 length-rows o size (row ∷ rows) = length-append (number o (row_width size) row) (rows_text o size rows) ∙ omega (arith, length-number o size row, length-rows o size rows)
 
@@ -88,7 +88,7 @@ small_data l n h k = by_form l.form l n h k
 
 -- ---- names
 
-abbrev spaces : ℕ → List ℕ
+abbrev pub spaces : ℕ → List ℕ
 spaces len = replicate len 32
 
 get-name : (name : List ℕ) (len i : ℕ) → i < length name → get_or (name ++ spaces len) i 0 ≡ get_or name i 0
@@ -106,7 +106,7 @@ get-past [] len i h k = get-space len i (omega arith)
 get-past (b ∷ name) len zero h k = absurd (omega arith)
 get-past (b ∷ name) len (suc i) h k = get-past name len i (omega arith) (omega arith)
 
-length-spaces : (len : ℕ) → length (spaces len) ≡ len
+pub length-spaces : (len : ℕ) → length (spaces len) ≡ len
 length-spaces zero = refl
 length-spaces (suc len) = ap suc (length-spaces len)
 

@@ -26,7 +26,7 @@ abbrev Rise : List Value → Type 0
 Rise [] = Unit {0}
 Rise (v ∷ vs) = Above v vs × Rise vs
 
-abbrev Each : (Value → Type 0) → List Value → Type 0
+abbrev pub Each : (Value → Type 0) → List Value → Type 0
 Each P [] = Unit {0}
 Each P (v ∷ vs) = P v × Each P vs
 
@@ -65,7 +65,7 @@ with_each : (P : Value → Type 0) (v : Value) (us : List Value) → P v → Eac
 with_each P v [] a x = (a, tt)
 with_each P v (u ∷ us) a x = each_case P v u us (with_value v us) (value_cmp v u) a x.0 x.1 (with_each P v us a x.1)
 
-values_each : (P : Value → Type 0) (cells : List Value) → Each P cells → Each P (values_of cells)
+pub values_each : (P : Value → Type 0) (cells : List Value) → Each P cells → Each P (values_of cells)
 values_each P [] x = tt
 values_each P (v ∷ cells) x = with_each P v (values_of cells) x.0 (values_each P cells x.1)
 

@@ -10,6 +10,9 @@ use Rattle.vpf_theme.specs.declared.layout.Form.{Form}
 use Rattle.vpf_theme.specs.declared.layout.Layout.{Layout}
 use Rattle.vpf_theme.specs.Layouts.{is_indexed}
 use Rattle.vpf_theme.specs.Entries.{Theme}
+use Rattle.vpf_theme.specs.Findings.{cells_of}
+use Rattle.vpf_theme.specs.Agreeing.{AgreesAt}
+use Rattle.vpf_theme.specs.Reading.{theme_of}
 use Rattle.vpf_theme_build.specs.declared.errors.BuildError.{BuildError}
 use Rattle.vpf_theme_build.specs.declared.errors.BuildError.TheVariants as errors
 use Rattle.vpf_theme_build.specs.Grouping.{entries_for, values_of}
@@ -48,3 +51,11 @@ Builds bytes (Err errors.NoMemory) want = Unit {0}
 -- the column at this position has this count and a kind that can be indexed
 abbrev pub CanBuild : Grid → ℕ → ℕ → Type 0
 CanBuild grid c count = (c < length grid.head.columns) × ((column : Col) → slice_get grid.head.columns c ≡ Some column → (column.count ≡ Fixed count) × (is_indexed column.kind ≡ true))
+
+-- the bytes are read as the index of the cells of the column at this position
+abbrev pub AreRead : Grid → ℕ → Form → List ℕ → Type 0
+AreRead grid c form bytes = (column : Col) (count : ℕ) → slice_get grid.head.columns c ≡ Some column → column.count ≡ Fixed count → theme_of grid.head.order bytes ≡ Ok (index_for form column count (cells_of grid c))
+
+-- an index that the bytes are read as agrees with the column at this position
+abbrev pub AgreeAt : Grid → ℕ → List ℕ → Type 0
+AgreeAt grid c bytes = (t : Theme) → theme_of grid.head.order bytes ≡ Ok t → AgreesAt t grid c

@@ -8,11 +8,12 @@ ghost use Rattle.vpf_theme.specs.Findings.{cells_of};
 ghost use Rattle.vpf_theme_build.specs.Grouping.{IsGroup, entry_in};
 ghost use Rattle.vpf_theme_build.specs.Text.{all_data, directory_text, index_len, index_text};
 ghost use Rattle.vpf_theme_build.specs.Writing.{AreEntries, FitsSpot};
-ghost use Rattle.vpf_theme_build.specs.Building.{Builds, CanBuild, built_by, limited};
+ghost use Rattle.vpf_theme_build.specs.Building.{AgreeAt, AreRead, Builds, CanBuild, built_by, limited};
 
 use crate::errors::BuildError;
 use crate::grouping::{Group, Spot, groups_of, sorted_spots};
 use crate::heading::put_header;
+use crate::laws::{built_indexes_agree, built_indexes_are_read};
 use crate::writing::{data_len, put_data, put_entry, row_size_for};
 use std::alloc::{AllocError, Global};
 use vpf_table::TableView;
@@ -153,11 +154,16 @@ fn build_fixed(
     form: Form,
 ) -> Result<Vec<u8>, BuildError>
     requires { CanBuild table.now column count }
-    ensures { (c : Col) → slice_get table.now.head.columns column ≡ Some c → Builds (λ v. v.items) result (built_by table.now.head.order table_name.now form c (cells_of table.now column) (Count.Fixed count)) }
+    ensures bytes { (c : Col) → slice_get table.now.head.columns column ≡ Some c → Builds (λ v. v.items) result (built_by table.now.head.order table_name.now form c (cells_of table.now column) (Count.Fixed count)) }
+    ensures opened { IfOk result (λ v. AreRead table.now column form v.items) }
+    ensures agrees { IfOk result (λ v. AgreeAt table.now column v.items) }
 {
+    built_indexes_are_read();
+    built_indexes_agree();
     let header = table.header();
-    // What is true of each header.
+    // What is true of each header, and of the rows of each table.
     let _columns = header.len();
+    let _rows = table.rows();
     let found = header.at(column);
     let spots = sorted_spots(alloc, table, column)?;
     let groups = groups_of(alloc, &spots)?;
@@ -187,7 +193,12 @@ pub fn build(
     form: Form,
 ) -> Result<Vec<u8>, BuildError>
     requires { column < length table.now.head.columns }
-    ensures { (c : Col) → slice_get table.now.head.columns column ≡ Some c → Builds (λ v. v.items) result (built_by table.now.head.order table_name.now form c (cells_of table.now column) c.count) }
+    // The bytes of the index, or why there are none.
+    ensures bytes { (c : Col) → slice_get table.now.head.columns column ≡ Some c → Builds (λ v. v.items) result (built_by table.now.head.order table_name.now form c (cells_of table.now column) c.count) }
+    // These bytes are read as the index of the column's cells.
+    ensures opened { IfOk result (λ v. AreRead table.now column form v.items) }
+    // The index that they are read as agrees with the column.
+    ensures agrees { IfOk result (λ v. AgreeAt table.now column v.items) }
 {
     let header = table.header();
     let found = header.at(column);

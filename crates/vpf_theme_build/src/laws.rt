@@ -1,20 +1,34 @@
 //! Laws about the indexes that are built.
 
-ghost use Rattle.std.specs.Prelude.{◌≡◌, ℕ, All, List, true};
+ghost use Rattle.std.specs.Prelude.{◌≡◌, ◌<◌, ◌≤◌, ◌^◌, ℕ, All, List, Ok, length, true};
+ghost use Rattle.vpf_triplet.specs.declared.orders.Order.{Order};
 ghost use Rattle.vpf_triplet.specs.declared.kinds.Count.{Count};
 ghost use Rattle.vpf_value.specs.Values.{Value};
 ghost use Rattle.vpf_value.specs.Fitting.{FitsCell};
 ghost use Rattle.vpf_head.specs.Head.{Col};
 ghost use Rattle.vpf_theme.specs.declared.layout.Form.{Form};
-ghost use Rattle.vpf_theme.specs.Layouts.{is_indexed};
+ghost use Rattle.vpf_theme.specs.Layouts.{is_count, is_indexed};
+ghost use Rattle.vpf_theme.specs.Reading.{theme_of};
 ghost use Rattle.vpf_theme.specs.Agreeing.{AgreesWithColumn};
-ghost use Rattle.vpf_theme_build.specs.Building.{index_for};
+ghost use Rattle.vpf_theme_build.specs.Building.{index_for, layout_for, most_bytes};
+ghost use Rattle.vpf_theme_build.specs.Grouping.{entries_for};
+ghost use Rattle.vpf_theme_build.specs.Text.{index_len, index_text};
 
 use vpf_theme::laws::values_are_ordered;
+use vpf_value::laws::fitting_is_written;
 
 /// The index that is built of a column agrees with it.
 pub fn built_indexes_agree()
     ensures { (form : Form) (column : Col) (count : ℕ) (cells : List Value) → column.count ≡ Count.Fixed count → is_indexed column.kind ≡ true → All (FitsCell column.kind column.count) cells → AgreesWithColumn (index_for form column count cells) column cells }
 {
     values_are_ordered();
+}
+
+/// The bytes that are built of the cells of a column are read as the index of these cells, whatever the table's file is
+/// called.
+pub fn built_indexes_are_read()
+    ensures { (order : Order) (form : Form) (column : Col) (count : ℕ) (cells : List Value) (table : List ℕ) → column.count ≡ Count.Fixed count → is_indexed column.kind ≡ true → is_count column.kind count ≡ true → All (FitsCell column.kind column.count) cells → length cells < 2 ^ 24 → index_len (layout_for order form column count cells) (entries_for cells) ≤ most_bytes → theme_of order (index_text (layout_for order form column count cells) table column.name (entries_for cells)) ≡ Ok (index_for form column count cells) }
+{
+    values_are_ordered();
+    fitting_is_written();
 }

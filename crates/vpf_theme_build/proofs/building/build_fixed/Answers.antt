@@ -1,4 +1,4 @@
-use Rattle.std.proofs.Common.{◌≡◌, true, length, map, sym, subst, ◌∙◌, arith}
+use Rattle.std.proofs.Common.{◌≡◌, ◌≤◌, true, length, map, Ok, sym, subst, ◌∙◌, arith}
 use Rattle.std.specs.Prelude.{slice_index_or}
 use Rattle.std.proofs.lemmas.Grind.{common_steps}
 use Rattle.std.proofs.lemmas.List.{length-map}
@@ -9,10 +9,12 @@ use Rattle.vpf_head.specs.Views.{col}
 use Rattle.vpf_table.specs.Grid.{Row}
 use Rattle.vpf_theme.specs.declared.layout.Layout.{Layout}
 use Rattle.vpf_theme.specs.Findings.{cells_of}
-use Rattle.vpf_theme_build.specs.Grouping.{entry_in}
-use Rattle.vpf_theme_build.specs.Building.{Builds, built_by}
+use Rattle.vpf_theme.specs.Reading.{theme_of}
+use Rattle.vpf_theme_build.specs.Grouping.{entries_for, entry_in}
+use Rattle.vpf_theme_build.specs.Text.{index_len, index_text}
+use Rattle.vpf_theme_build.specs.Building.{AgreeAt, AreRead, Builds, built_by, index_for, layout_for, most_bytes}
 use Rattle.vpf_theme_build.proofs.FieldLemmas.{are_entries, groups_len}
-use Rattle.vpf_theme_build.proofs.BuildLemmas.{has_values, layout_is, built_is, one_column}
+use Rattle.vpf_theme_build.proofs.BuildLemmas.{agree_at, are_read, built_is, cells_fit, has_values, if_built, layout_is, one_column}
 use Rattle.vpf_theme_build.proofs.building.build_fixed.Goals as goal
 
 pub overflow_cast-layout : goal.overflow_cast-layout
@@ -60,8 +62,8 @@ finish-requires-clause-rows c =
     let size = rw same at c.row_size_for.ensures in
     rw (c.deref-2.ensures.value, c.deref-3.ensures.value) (are_entries l c.in_ok-spots.spots.items c.in_ok-groups.groups.items cells e (omega (arith, n, c.len-2.ensures.value)) (omega (arith, c.len-2.ensures.most)) size)
 
-pub returns : goal.returns
-returns c = λ c' is'.
+pub returns-clause-bytes : goal.returns-clause-bytes
+returns-clause-bytes c = λ c' is'.
     let grid = c.args.table.now in
     let cells = cells_of grid c.args.column in
     let column = col c.at-found.result.now in
@@ -81,3 +83,34 @@ returns c = λ c' is'.
     let b = built_is grid.head.order c.args.table_name.now c.args.form column cells c.args.count _ (map (entry_in c.in_ok-spots.spots.items) c.in_ok-groups.groups.items) can.1 l e in
     let same = one_column grid.head.columns c.args.column column c' is is' in
     subst (λ (x : Col). Builds (λ v. v.items) c.finish.result (built_by grid.head.order c.args.table_name.now c.args.form x cells (Fixed c.args.count))) same (rw b f)
+
+-- the bytes that are not too many are read as the index
+read : (c : goal.After-drop-spots-2) → index_len (layout_for c.args.table.now.head.order c.args.form (col c.at-found.result.now) c.args.count (cells_of c.args.table.now c.args.column)) (entries_for (cells_of c.args.table.now c.args.column)) ≤ most_bytes
+    → theme_of c.args.table.now.head.order (index_text (layout_for c.args.table.now.head.order c.args.form (col c.at-found.result.now) c.args.count (cells_of c.args.table.now c.args.column)) c.args.table_name.now (col c.at-found.result.now).name (entries_for (cells_of c.args.table.now c.args.column))) ≡ Ok (index_for c.args.form (col c.at-found.result.now) c.args.count (cells_of c.args.table.now c.args.column))
+read c small =
+    let grid = c.args.table.now in
+    let column = col c.at-found.result.now in
+    let is = rw c.header-header.ensures at c.at-found.ensures in
+    let can = c.requires.1 column is in
+    let values = has_values grid.head c.args.column c.args.count column (rw c.header-header.ensures at c.len-columns.ensures.sound) is can.0 can.1 in
+    let fits = cells_fit grid c.args.column column (rw c.rows-rows.ensures.rows at c.rows-rows.ensures.fits) is in
+    let n = length-map grid.rows (λ (row : Row). slice_index_or row c.args.column Nothing) in
+    c.built_indexes_are_read.ensures grid.head.order c.args.form column c.args.count (cells_of grid c.args.column) c.args.table_name.now can.0 can.1 values.1 fits (omega (arith, n, c.len.ensures.value, c.len.ensures.most)) small
+
+pub returns-clause-opened : goal.returns-clause-opened
+returns-clause-opened c =
+    let grid = c.args.table.now in
+    let column = col c.at-found.result.now in
+    let is = rw c.header-header.ensures at c.at-found.ensures in
+    let can = c.requires.1 column is in
+    if_built (λ v. v.items) (AreRead grid c.args.column c.args.form) c.finish.result grid.head.order c.args.table_name.now c.args.form column (cells_of grid c.args.column) c.args.count can.1 (returns-clause-bytes c column is) (λ small. are_read grid c.args.column c.args.form column c.args.count _ is can.0 (read c small))
+
+pub returns-clause-agrees : goal.returns-clause-agrees
+returns-clause-agrees c =
+    let grid = c.args.table.now in
+    let column = col c.at-found.result.now in
+    let is = rw c.header-header.ensures at c.at-found.ensures in
+    let can = c.requires.1 column is in
+    let fits = cells_fit grid c.args.column column (rw c.rows-rows.ensures.rows at c.rows-rows.ensures.fits) is in
+    let agrees = c.built_indexes_agree.ensures c.args.form column c.args.count (cells_of grid c.args.column) can.0 can.1 fits in
+    if_built (λ v. v.items) (AgreeAt grid c.args.column) c.finish.result grid.head.order c.args.table_name.now c.args.form column (cells_of grid c.args.column) c.args.count can.1 (returns-clause-bytes c column is) (λ small. agree_at grid c.args.column c.args.form column c.args.count _ is (read c small) agrees)

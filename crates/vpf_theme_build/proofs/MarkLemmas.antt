@@ -1,0 +1,127 @@
+-- The bits of a bitmap that is written, read again as the rows that they mark.
+use Rattle.std.proofs.Common.{◌≡◌, ℕ, zero, suc, ◌+◌, ◌-◌, ◌*◌, ◌/◌, ◌%◌, ◌^◌, ◌<◌, ◌≤◌, Bool, true, false, ◌==◌, List, [], ◌∷◌, ◌++◌, length, drop, get_or, refl, sym, ap, subst, ◌∙◌, arith, inl, inr}
+use Rattle.std.specs.Prelude.{filter, if◌then◌else◌}
+use Rattle.std.specs.List.{list_any, range_with_len}
+use Rattle.std.specs.Int.{bit_at}
+use Rattle.std.proofs.lemmas.Bool.{cases_lt, cases_eq, eq-eqb, ne_eqb}
+use Rattle.std.proofs.lemmas.List.{get_or-drop}
+use Rattle.std.proofs.lemmas.List.FromFn.{get_or-map-range_with_len, length-map-range_with_len}
+use Rattle.std.proofs.lemmas.Nat.Bits.{bit_at_cat_low, bit_at_cat_high}
+use Rattle.vpf_theme.specs.Entries.{is_marked}
+use Rattle.vpf_theme_build.specs.Text.{bits_of, bitmap_byte, bitmap_text}
+use Rattle.vpf_theme_build.proofs.BitLemmas.{bits_more, below_more, still_small}
+
+-- ---- rows that rise
+
+-- rows that rise from `a` on, up to n
+abbrev pub Rises : ℕ → ℕ → List ℕ → Type 0
+Rises a n [] = Unit {0}
+Rises a n (r ∷ rs) = (a ≤ r) × ((r ≤ n) × Rises (r + 1) n rs)
+
+pub rises_later : (a b n : ℕ) (rows : List ℕ) → a ≤ b → Rises b n rows → Rises a n rows
+rises_later a b n [] h r = tt
+rises_later a b n (x ∷ rows) h r = (omega (arith, r.0), (r.1.0, r.1.1))
+
+abbrev has : List ℕ → ℕ → Bool
+has rows row = list_any (λ r. r == row) rows
+
+has_none : (a n row : ℕ) (rows : List ℕ) → Rises a n rows → row < a → has rows row ≡ false
+has_none a n row [] r h = refl
+has_none a n row (x ∷ rows) r h = rw (ne_eqb x row (λ e. omega (arith, r.0, e))) (has_none (x + 1) n row rows r.1.1 (omega (arith, r.0)))
+
+pub has_past : (a n row : ℕ) (rows : List ℕ) → Rises a n rows → n < row → has rows row ≡ false
+has_past a n row [] r h = refl
+has_past a n row (x ∷ rows) r h = rw (ne_eqb x row (λ e. omega (arith, r.1.0, e))) (has_past (x + 1) n row rows r.1.1 h)
+
+-- ---- bits
+
+-- 1 where it holds
+abbrev bit : Bool → ℕ
+bit b = if b then 1 else 0
+
+bit_value : (b : Bool) (n : ℕ) → (if b then 2 ^ n else 0) ≡ bit b * 2 ^ n
+bit_value true n = omega arith
+bit_value false n = omega arith
+
+bit_small : (b : Bool) (m n : ℕ) → m < 2 ^ n → m + (if b then 2 ^ n else 0) < 2 ^ (n + 1)
+bit_small true m n h = below_more m n h
+bit_small false m n h = let k = still_small n m h in omega (arith, k)
+
+bits_small : (rows : List ℕ) (first n : ℕ) → bits_of rows first n < 2 ^ n
+bits_small rows first zero = omega arith
+bits_small rows first (suc n) =
+    let e : n + 1 ≡ suc n = omega arith in
+    let small : bits_of rows first (n + 1) < 2 ^ (n + 1) = subst (λ (m : ℕ). m < 2 ^ (n + 1)) (sym (bits_more rows first n)) (bit_small (has rows (first + n)) (bits_of rows first n) n (bits_small rows first n)) in
+    subst (λ (m : ℕ). bits_of rows first m < 2 ^ m) e small
+
+bit_alone : (b : Bool) → bit_at (bit b) 0 ≡ bit b
+bit_alone true = refl
+bit_alone false = refl
+
+top_bit : (t : Bool) (m n b : ℕ) → b ≡ n → m < 2 ^ n → bit_at (bit t * 2 ^ n + m) b ≡ bit t
+top_bit t m n b e h =
+    let d : b - n ≡ 0 = omega arith in
+    let high = bit_at_cat_high (bit t) n m b h (omega arith) in
+    rw d at high ∙ bit_alone t
+
+bits_again : (rows : List ℕ) (first n b : ℕ) → b < n → bit_at (bits_of rows first n) b ≡ bit (has rows (first + b))
+bits_again rows first zero b h = absurd (omega arith)
+bits_again rows first (suc n) b h =
+    let t = has rows (first + n) in
+    let m = bits_of rows first n in
+    let more : bits_of rows first (n + 1) ≡ bit t * 2 ^ n + m = bits_more rows first n ∙ ap (λ (x : ℕ). m + x) (bit_value t n) ∙ omega arith in
+    let e : n + 1 ≡ suc n = omega arith in
+    ap (λ (k : ℕ). bit_at (bits_of rows first k) b) (sym e) ∙ ap (λ (k : ℕ). bit_at k b) more ∙ elim (cases_lt b n) [
+      | inl lt ↦ bit_at_cat_low (bit t) n m b lt ∙ bits_again rows first n b lt
+      | inr ge ↦ top_bit t m n b (omega arith) (bits_small rows first n) ∙ ap (λ (k : ℕ). bit (has rows (first + k))) (let z : n ≡ b = omega arith in z)
+    ]
+
+bit_told : (b : Bool) → (bit b == 1) ≡ b
+bit_told true = refl
+bit_told false = refl
+
+-- ---- a bitmap in its file
+
+byte_in : (bytes text rest : List ℕ) (at j : ℕ) → drop at bytes ≡ text ++ rest → j < length text → get_or bytes (at + j) 0 ≡ get_or text j 0
+byte_in bytes text rest at j e h = sym (get_or-drop at bytes j 0) ∙ ap (λ (x : List ℕ). get_or x j 0) e ∙ front text rest j h
+  where
+    front : (text rest : List ℕ) (j : ℕ) → j < length text → get_or (text ++ rest) j 0 ≡ get_or text j 0
+    front [] rest j h = absurd (omega arith)
+    front (b ∷ text) rest zero h = refl
+    front (b ∷ text) rest (suc j) h = front text rest j (omega arith)
+
+pub length-bitmap : (n : ℕ) (rows : List ℕ) → length (bitmap_text n rows) ≡ (n + 7) / 8
+length-bitmap n rows = length-map-range_with_len (bitmap_byte rows) 0 ((n + 7) / 8)
+
+pub marked_again : (bytes rest rows : List ℕ) (at n k : ℕ) → drop at bytes ≡ bitmap_text n rows ++ rest → k < 8 * ((n + 7) / 8) → is_marked bytes at k ≡ has rows (k + 1)
+unfolding is_marked
+marked_again bytes rest rows at n k e h =
+    let j : k / 8 < (n + 7) / 8 = omega arith in
+    let b : k % 8 < 8 = omega arith in
+    let byte = byte_in bytes (bitmap_text n rows) rest at (k / 8) e (omega (arith, length-bitmap n rows)) ∙ get_or-map-range_with_len (bitmap_byte rows) 0 ((n + 7) / 8) (k / 8) (k / 8) 0 j (omega arith) in
+    let row : 8 * (k / 8) + 1 + k % 8 ≡ k + 1 = omega arith in
+    rw (byte, bits_again rows (8 * (k / 8) + 1) 8 (k % 8) b, row) (bit_told (has rows (k + 1)))
+
+-- ---- the rows that a bitmap marks
+
+kept_none : (p : ℕ → Bool) (a n : ℕ) → ((row : ℕ) → a ≤ row → row < a + n → p row ≡ false) → filter p (range_with_len a n) ≡ []
+kept_none p a zero h = refl
+kept_none p a (suc n) h = rw (h a (omega arith) (omega arith)) (kept_none p (a + 1) n (λ row low high. h row (omega arith) (omega arith)))
+
+pub marks_are_rows : (p : ℕ → Bool) (rows : List ℕ) (a n last : ℕ) → a + n ≡ last + 1 → Rises a last rows → ((row : ℕ) → a ≤ row → row < a + n → p row ≡ has rows row) → filter p (range_with_len a n) ≡ rows
+marks_are_rows p [] a n last z r h = kept_none p a n h
+marks_are_rows p (x ∷ rows) a zero last z r h = absurd (omega (arith, r.0, r.1.0))
+marks_are_rows p (x ∷ rows) a (suc n) last z r h = elim (cases_eq x a) [
+  | inl e ↦
+      let here = h a (omega arith) (omega arith) in
+      let told : p a ≡ true = rw (eq-eqb x a e) at here in
+      let later : (row : ℕ) → a + 1 ≤ row → row < a + 1 + n → p row ≡ has rows row = λ row low high.
+      let there = h row (omega arith) (omega arith) in rw (ne_eqb x row (λ k. omega (arith, k, e))) at there in
+      let next : Rises (a + 1) last rows = rw (← e) r.1.1 in
+      rw (told, marks_are_rows p rows (a + 1) n last (omega arith) next later, e) refl
+  | inr ne ↦
+      let above : a < x = omega (arith, r.0, ne) in
+      let here = h a (omega arith) (omega arith) in
+      let told : p a ≡ false = here ∙ has_none x last a (x ∷ rows) (omega arith, (r.1.0, r.1.1)) above in
+      rw told (marks_are_rows p (x ∷ rows) (a + 1) n last (omega arith) (omega arith, (r.1.0, r.1.1)) (λ row low high. h row (omega arith) (omega arith)))
+]
