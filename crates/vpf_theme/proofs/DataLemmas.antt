@@ -20,13 +20,13 @@ not_false : (b : Bool) → not b ≡ false → b ≡ true
 not_false true h = refl
 not_false false h = absurd (cc h)
 
-list_many : (l : Layout) (bytes : List ℕ) (i : ℕ) (e : Extent) → list_line l bytes i e ≡ None → (e.count ≡ 0 → ⊥) → numbers_line l bytes i e ≡ None
+pub list_many : (l : Layout) (bytes : List ℕ) (i : ℕ) (e : Extent) → list_line l bytes i e ≡ None → (e.count ≡ 0 → ⊥) → numbers_line l bytes i e ≡ None
 list_many l bytes i e h ne = rw (ne_eqb e.count 0 ne) at h
 
 list_one : (l : Layout) (bytes : List ℕ) (i : ℕ) (e : Extent) → list_line l bytes i e ≡ None → e.count ≡ 0 → is_row l e.offset ≡ true
 list_one l bytes i e h z = let f = rw (eq-eqb e.count 0 z) at h in not_false (is_row l e.offset) (no_fault (not (is_row l e.offset)) (entry_start l i) codes.ThemeRow f)
 
-numbers_data : (l : Layout) (bytes : List ℕ) (i : ℕ) (e : Extent) → numbers_line l bytes i e ≡ None → is_data l bytes e.offset (e.count * row_bytes l.row_size) ≡ true
+pub numbers_data : (l : Layout) (bytes : List ℕ) (i : ℕ) (e : Extent) → numbers_line l bytes i e ≡ None → is_data l bytes e.offset (e.count * row_bytes l.row_size) ≡ true
 numbers_data l bytes i e h =
     let r = or_none (fault_where (not (is_data l bytes e.offset (e.count * row_bytes l.row_size))) (entry_start l i) codes.ThemeSpan) (first_of (number_line l bytes e.offset) (range_with_len 0 e.count)) h in
     not_false (is_data l bytes e.offset (e.count * row_bytes l.row_size)) (no_fault (not (is_data l bytes e.offset (e.count * row_bytes l.row_size))) (entry_start l i) codes.ThemeSpan r.0)
@@ -42,7 +42,7 @@ data_ends l bytes offset len h = grind (arith, nat_tests)
 row_bounds : (l : Layout) (n : ℕ) → is_row l n ≡ true → (1 ≤ n) × (n ≤ l.rows)
 row_bounds l n h = grind (arith, nat_tests)
 
-bitmap_data : (l : Layout) (bytes : List ℕ) (i : ℕ) (e : Extent) → bitmap_line l bytes i e ≡ None → is_bitmap l bytes e ≡ true
+pub bitmap_data : (l : Layout) (bytes : List ℕ) (i : ℕ) (e : Extent) → bitmap_line l bytes i e ≡ None → is_bitmap l bytes e ≡ true
 bitmap_data l bytes i e h =
     let r = or_none (fault_where (not (is_bitmap l bytes e)) (entry_start l i) codes.ThemeSpan) (first_of (pad_line bytes e.offset) (range_with_len l.rows (8 * e.count - l.rows))) h in
     not_false (is_bitmap l bytes e) (no_fault (not (is_bitmap l bytes e)) (entry_start l i) codes.ThemeSpan r.0)
@@ -60,7 +60,7 @@ all_one : (P : ℕ → Type 0) (x : ℕ) → P x → All P (x ∷ [])
 all_one P x p zero d h = p
 all_one P x p (suc k) d h = absurd (omega arith)
 
-all_range : (P : ℕ → Type 0) (f : ℕ → ℕ) (n : ℕ) → ((k : ℕ) → k < n → P (f k)) → All P (map f (range_with_len 0 n))
+pub all_range : (P : ℕ → Type 0) (f : ℕ → ℕ) (n : ℕ) → ((k : ℕ) → k < n → P (f k)) → All P (map f (range_with_len 0 n))
 all_range P f n p k d h =
     let m : k < n = omega (arith, h, length-map-range_with_len f 0 n) in
     let e = get_or-map-range_with_len f 0 n k k d m (omega arith) in

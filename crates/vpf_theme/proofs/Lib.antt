@@ -10,3 +10,7 @@ mod WalkLemmas
 mod AgreeLemmas
 mod AgreementLemmas
 mod ScanLemmas
+pub mod PieceLemmas
+mod HeaderLemmas
+mod StoredLemmas
+mod SpellingLemmas

@@ -13,7 +13,7 @@ use Rattle.vpf_theme.specs.declared.layout.Layout.{Layout}
 use Rattle.vpf_theme.specs.Layouts.{HasValues, entry_start, is_indexed, value_bytes}
 use Rattle.vpf_theme.specs.Entries.{IsWhole}
 
-indexed_width : (kind : Kind) (n : ℕ) → IsTrue (is_indexed kind) → cell_width kind (Fixed n) ≡ Some (unwrap_or (cell_width kind (Fixed n)) 0)
+pub indexed_width : (kind : Kind) (n : ℕ) → IsTrue (is_indexed kind) → cell_width kind (Fixed n) ≡ Some (unwrap_or (cell_width kind (Fixed n)) 0)
 indexed_width kinds.K n h = absurd cc
 indexed_width kind n h = refl
 

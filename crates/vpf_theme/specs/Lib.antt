@@ -3,6 +3,7 @@ pub mod Ordering
 pub mod Entries
 pub mod Reading
 pub mod Views
+pub mod Spelling
 pub mod Findings
 pub mod Agreeing
 pub mod Keys

@@ -1,9 +1,11 @@
 //! Laws about the definitions of thematic indexes alone.
 
-ghost use Rattle.std.specs.Prelude.{◌≡◌, ◌↔◌, List, IsTrue, None};
+ghost use Rattle.std.specs.Prelude.{◌≡◌, ◌↔◌, ℕ, List, IsTrue, None, Ok};
 ghost use Rattle.std.specs.Cmp.{IsTotalOrder};
 ghost use Rattle.std.specs.declared.cmp.Ordering.TheVariants.{Equal};
+ghost use Rattle.vpf_triplet.specs.declared.orders.Order.{Order};
 ghost use Rattle.vpf_triplet.specs.declared.kinds.Kind.{Kind};
+ghost use Rattle.vpf_triplet.specs.Numbers.{IsBytes};
 ghost use Rattle.vpf_triplet.specs.declared.kinds.Count.{Count};
 ghost use Rattle.vpf_value.specs.Values.{Value};
 ghost use Rattle.vpf_value.specs.Fitting.{FitsCell};
@@ -13,6 +15,10 @@ ghost use Rattle.vpf_theme.specs.Ordering.{same_value, value_cmp};
 ghost use Rattle.vpf_theme.specs.Entries.{Theme, found_in};
 ghost use Rattle.vpf_theme.specs.Findings.{first_finding};
 ghost use Rattle.vpf_theme.specs.Agreeing.{AgreesWithColumn, HaveRows, listed, scan_of};
+ghost use Rattle.vpf_theme.specs.Reading.{theme_of};
+ghost use Rattle.vpf_theme.specs.Spelling.{IsThematicIndex};
+
+use vpf_value::laws;
 
 /// Where an index agrees with a column, what it lists for a value is the plain scan.
 pub fn listed_is_scan()
@@ -32,3 +38,19 @@ pub fn values_are_ordered()
     ensures equal { (kind : Kind) (count : Count) (v u : Value) → IsTrue (is_indexed kind) → FitsCell kind count v → FitsCell kind count u → value_cmp v u ≡ Equal → v ≡ u }
     ensures same { (v u : Value) → IsTrue (same_value v u) ↔ (v ≡ u) }
 {}
+
+/// What is spelled as an index is read as that index.
+pub fn spelled_is_read()
+    ensures { (order : Order) (theme : Theme) (bytes : List ℕ) → IsThematicIndex order theme bytes → theme_of order bytes ≡ Ok theme }
+{
+    laws::spelled_is_read();
+    laws::fixed_cells();
+}
+
+/// What is read as an index is spelled so.
+pub fn read_is_spelled()
+    ensures { (order : Order) (theme : Theme) (bytes : List ℕ) → IsBytes bytes → theme_of order bytes ≡ Ok theme → IsThematicIndex order theme bytes }
+{
+    laws::read_is_spelled();
+    laws::fixed_cells();
+}

@@ -9,6 +9,7 @@ ghost use Rattle.vpf_theme.specs.Views.{AreRows, all_rows};
 use crate::checking::check_entries;
 use crate::entries::extent_at;
 use crate::hits::Hits;
+use crate::laws::{read_is_spelled, spelled_is_read};
 use crate::layout::{Form, Layout};
 use crate::searching::{find_place, sure_value};
 use std::marker::Model;
@@ -48,21 +49,35 @@ fn hits_at<'a>(layout: &Layout, bytes: &'a [u8], i: u32) -> Hits<'a>
 }
 
 impl<'a> ThemeView<'a> {
-    ghost use Rattle.std.specs.Prelude.{◌≡◌, ◌≤◌, ◌+◌, ◌-◌, ◌*◌, ◌^◌, ◌<◌, true, false, IfSome, length, option_map};
+    ghost use Rattle.std.specs.Prelude.{◌≡◌, ◌≤◌, ◌+◌, ◌-◌, ◌*◌, ◌^◌, ◌<◌, true, false, IfOk, IfSome, Ok, length, option_map};
     ghost use Rattle.vpf_triplet.specs.declared.kinds.Count.{Count};
     ghost use Rattle.vpf_value.specs.Values.{view};
     ghost use Rattle.vpf_value.specs.Fitting.{FitsCell};
-    ghost use Rattle.vpf_theme.specs.Entries.{found_in};
+    ghost use Rattle.vpf_theme.specs.Entries.{Theme, found_in};
     ghost use Rattle.vpf_theme.specs.Findings.{entry_at};
     ghost use Rattle.vpf_theme.specs.Agreeing.{HaveRows};
     ghost use Rattle.vpf_theme.specs.Views.{AreRows, all_rows};
     ghost use Rattle.vpf_triplet.specs.Places.{Gives};
     ghost use Rattle.vpf_theme.specs.Reading.{theme_of};
+    ghost use Rattle.vpf_theme.specs.Spelling.{IsThematicIndex};
 
     /// The index of a file, in the order of its table. Refused at the first fault: the header field by field, and then
     /// entry by entry.
-    #[tactic(auto, unfolding(crate::specs::Reading::theme_of))]
     pub fn open(bytes: &'a [u8], order: Order) -> Result<ThemeView<'a>, Place>
+        // What is opened is spelled so.
+        ensures found { IfOk result (λ t. IsThematicIndex order t bytes.now) }
+        // What is spelled as an index is opened as that index.
+        ensures only { (t : Theme) → IsThematicIndex order t bytes.now → Gives (λ t. t) result (Ok t) }
+        // The index, or the first fault.
+        ensures exact { Gives (λ t. t) result (theme_of order bytes.now) }
+    {
+        spelled_is_read();
+        read_is_spelled();
+        ThemeView::read(bytes, order)
+    }
+
+    #[tactic(auto, unfolding(crate::specs::Reading::theme_of))]
+    fn read(bytes: &'a [u8], order: Order) -> Result<ThemeView<'a>, Place>
         ensures { Gives (λ t. t) result (theme_of order bytes.now) }
     {
         let layout = Layout::read(order, bytes)?;

@@ -1,0 +1,222 @@
+-- An index is spelled exactly where it is read.
+use Rattle.std.proofs.Common.{◌≡◌, ℕ, zero, suc, ◌+◌, ◌-◌, ◌*◌, ◌<◌, ◌≤◌, Bool, true, false, not, ◌&&◌, List, [], ◌∷◌, ◌++◌, length, map, take, drop, Option, Some, None, Result, Ok, Err, Less, refl, sym, ap, subst, ◌∙◌, arith, inl, inr}
+use Rattle.std.specs.Prelude.{nat_lt}
+use Rattle.std.specs.List.{range_with_len}
+use Rattle.std.specs.Int.{w32}
+use Rattle.std.specs.Ordering.{is_lt}
+use Rattle.std.proofs.lemmas.Bool.{cases_lt, le-ltb, ltb-true}
+use Rattle.std.proofs.lemmas.List.{length-drop, length-take-le}
+use Rattle.std.proofs.lemmas.List.FromFn.{length-map-range_with_len}
+use Rattle.vpf_triplet.specs.declared.orders.Order.{Order}
+use Rattle.vpf_triplet.specs.declared.kinds.Kind.{Kind}
+use Rattle.vpf_triplet.specs.declared.kinds.Count.{Count}
+use Rattle.vpf_triplet.specs.declared.kinds.Count.TheVariants.{Fixed}
+use Rattle.vpf_triplet.specs.declared.places.Place.{Place}
+use Rattle.vpf_triplet.specs.declared.places.Code.TheVariants as codes
+use Rattle.vpf_triplet.specs.Numbers.{IsBytes, number}
+use Rattle.vpf_triplet.specs.Places.{◌>>=◌}
+use Rattle.vpf_triplet.proofs.Spelled.{IsBytes-drop}
+use Rattle.vpf_value.specs.Values.{Value}
+use Rattle.vpf_value.specs.Reading.{Answer, cell_from}
+use Rattle.vpf_value.specs.Spelling.{IsCell}
+use Rattle.vpf_theme.specs.declared.layout.Layout.{Layout}
+use Rattle.vpf_theme.specs.declared.entries.Extent.{Extent}
+use Rattle.vpf_theme.specs.Layouts.{HasValues, entry_bytes, entry_start, layout_of, u32_at, value_bytes}
+use Rattle.vpf_theme.specs.Ordering.{value_cmp}
+use Rattle.vpf_theme.specs.Entries.{Entry, Theme, entry_of, extent_of, rows_by, theme_in, value_of, value_read}
+use Rattle.vpf_theme.specs.Reading.{cut_line, entries_line, entry_line, first_of, rises_at, sort_line, theme_of, unless_fault}
+use Rattle.vpf_theme.specs.Spelling.{AreEntriesAt, IsBelow, IsEntryAt, IsHeader, IsNumberAt, IsThematicIndex, ValuesRise, layout_from}
+use Rattle.vpf_theme.proofs.DataLemmas.{entry_are_rows}
+use Rattle.vpf_theme.proofs.FaultLemmas.{entry_none, entry_rows, rises_from, whole_from}
+use Rattle.vpf_theme.proofs.HeaderLemmas.{layout_again, layout_read, then_ok}
+use Rattle.vpf_theme.proofs.PieceLemmas.{front_stands, length-u32, piece_inside, u32_stands, u32_there}
+use Rattle.vpf_theme.proofs.StoredLemmas.{rows_again, rows_silent, rows_stand}
+use Rattle.vpf_theme.proofs.ValueLemmas.{FixedCells, indexed_width}
+
+-- ---- the laws of cells that are used
+
+-- what is spelled is read, whatever follows
+abbrev pub CellsAreRead : Type 0
+CellsAreRead = (order : Order) (kind : Kind) (count : Count) (v : Value) (text rest : List ℕ) → IsCell order kind count v text → cell_from order kind count (text ++ rest) ≡ Ok (v, length text)
+
+-- what is read is spelled
+abbrev pub CellsAreSpelled : Type 0
+CellsAreSpelled = (order : Order) (kind : Kind) (count : Count) (bytes : List ℕ) (v : Value) (n : ℕ) → IsBytes bytes → cell_from order kind count bytes ≡ Ok (v, n) → (n ≤ length bytes) × IsCell order kind count v (take n bytes)
+
+-- what is read of the value of entry i
+abbrev value_answer : Layout → List ℕ → ℕ → Answer
+value_answer l bytes i = cell_from l.order l.kind (Fixed l.count) (drop (entry_start l i) bytes)
+
+-- ---- what is spelled is read
+
+answer_there : CellsAreRead → (l : Layout) (bytes : List ℕ) (i : ℕ) (e : Entry) (d : IsEntryAt l bytes i e) → value_answer l bytes i ≡ Ok (e.value, length d.spelling)
+answer_there read l bytes i e d = ap (cell_from l.order l.kind (Fixed l.count)) d.value.1 ∙ read l.order l.kind (Fixed l.count) e.value d.spelling d.value.0 d.spelled
+
+never : (a : Answer) (v : Value) (n : ℕ) → a ≡ Ok (v, n) → a ≡ Err codes.CellCut → ⊥
+never a v n h k = cc
+
+taken : Answer → ℕ
+taken (Ok r) = r.1
+taken (Err code) = 0
+
+same_length : (a : Answer) (v u : Value) (n m : ℕ) → a ≡ Ok (v, n) → a ≡ Ok (u, m) → n ≡ m
+unfolding taken
+same_length a v u n m h k = sym (ap taken h) ∙ ap taken k
+
+length-spelling : CellsAreRead → FixedCells → (l : Layout) (bytes : List ℕ) (i : ℕ) (e : Entry) → HasValues l → (d : IsEntryAt l bytes i e) → length d.spelling ≡ value_bytes l
+length-spelling read fixed l bytes i e v d =
+    let part = drop (entry_start l i) bytes in
+    let width = fixed l.order l.kind (Fixed l.count) part (value_bytes l) (indexed_width l.kind l.count v.0) in
+    let answer = answer_there read l bytes i e d in
+    elim (cases_lt (length part) (value_bytes l)) [
+      | inl lt ↦ absurd (never (value_answer l bytes i) e.value (length d.spelling) answer (width.cut lt))
+      | inr ge ↦ let w = width.whole ge in same_length (value_answer l bytes i) e.value w.0 (length d.spelling) (value_bytes l) answer w.1
+    ]
+
+value_again : CellsAreRead → (l : Layout) (bytes : List ℕ) (i : ℕ) (e : Entry) → IsEntryAt l bytes i e → value_of l bytes i ≡ e.value
+unfolding value_of
+value_again read l bytes i e d = ap value_read (answer_there read l bytes i e d)
+
+abbrev extent_with : ℕ → ℕ → Extent
+extent_with offset count = record { offset = offset; count = count }
+
+extent_again : (l : Layout) (bytes : List ℕ) (i : ℕ) (e : Entry) (d : IsEntryAt l bytes i e) → length d.spelling ≡ value_bytes l → extent_of l bytes i ≡ d.extent
+unfolding extent_of
+extent_again l bytes i e d len =
+    let offset = rw len at (u32_there l.order d.extent.offset bytes (entry_start l i + length d.spelling) d.offset) in
+    let count = rw len at (u32_there l.order d.extent.count bytes (entry_start l i + length d.spelling + 4) d.count) in
+    ap (λ (x : ℕ). extent_with x (u32_at l.order bytes (entry_start l i + value_bytes l + 4))) offset ∙ ap (λ (x : ℕ). extent_with d.extent.offset x) count
+
+abbrev entry_with : Value → List ℕ → Entry
+entry_with value rows = record { value = value; rows = rows }
+
+entry_again : (l : Layout) (bytes : List ℕ) (i : ℕ) (e : Entry) (d : IsEntryAt l bytes i e) → value_of l bytes i ≡ e.value → extent_of l bytes i ≡ d.extent → entry_of l bytes i ≡ e
+unfolding entry_of
+entry_again l bytes i e d value extent =
+    ap (λ (x : Value). entry_with x (rows_by l.form l bytes (extent_of l bytes i))) value
+    ∙ ap (λ (x : Extent). entry_with e.value (rows_by l.form l bytes x)) extent
+    ∙ ap (λ (x : List ℕ). entry_with e.value x) (rows_again l.form l bytes d.extent e.rows d.inside d.rows)
+
+entry_whole : (l : Layout) (bytes : List ℕ) (i : ℕ) (e : Entry) (d : IsEntryAt l bytes i e) → length d.spelling ≡ value_bytes l → entry_start l i + entry_bytes l ≤ length bytes
+entry_whole l bytes i e d len =
+    let four = length-u32 l.order d.extent.count in
+    let inside = piece_inside bytes (number l.order w32 d.extent.count) (entry_start l i + length d.spelling + 4) (omega (arith, four)) d.count.1 in
+    omega (arith, inside, four, len)
+
+cut_silent : (l : Layout) (bytes : List ℕ) (i : ℕ) → entry_start l i + entry_bytes l ≤ length bytes → cut_line l bytes i ≡ None
+cut_silent l bytes i h = rw (le-ltb (length bytes) (entry_start l i + entry_bytes l) h) refl
+
+sort_case : (s z r : Bool) → (s ≡ true → z ≡ true → r ≡ true) → (s && z && not r) ≡ false
+sort_case false z r h = refl
+sort_case true false r h = refl
+sort_case true true true h = refl
+sort_case true true false h = absurd (cc (h refl refl))
+
+sort_silent : (l : Layout) (bytes : List ℕ) (i : ℕ) → (l.sorted ≡ true → 0 < i → value_cmp (value_of l bytes (i - 1)) (value_of l bytes i) ≡ Less) → sort_line l bytes i ≡ None
+sort_silent l bytes i f = rw (sort_case l.sorted (nat_lt 0 i) (rises_at l bytes i) (λ s z. ap is_lt (f s (ltb-true 0 i z)))) refl
+
+entry_silent : (l : Layout) (bytes : List ℕ) (i : ℕ) (e : Entry) (d : IsEntryAt l bytes i e) → entry_start l i + entry_bytes l ≤ length bytes → (l.sorted ≡ true → 0 < i → value_cmp (value_of l bytes (i - 1)) (value_of l bytes i) ≡ Less) → extent_of l bytes i ≡ d.extent → entry_line l bytes i ≡ None
+unfolding entry_line
+entry_silent l bytes i e d whole rise extent = rw (cut_silent l bytes i whole, sort_silent l bytes i rise, extent) (rows_silent l.form l bytes i d.extent e.rows d.inside d.rows)
+
+-- the entries from entry i on are read, and no line says anything of them
+record AreRead (l : Layout) (bytes : List ℕ) (i : ℕ) (es : List Entry) : Type 0 where
+  entries : map (entry_of l bytes) (range_with_len i (length es)) ≡ es
+  silent : first_of (entry_line l bytes) (range_with_len i (length es)) ≡ None
+
+entries_again : CellsAreRead → FixedCells → (l : Layout) (bytes : List ℕ) (i : ℕ) (es : List Entry) → HasValues l → AreEntriesAt l bytes i es → (l.sorted ≡ true → ValuesRise es) → (l.sorted ≡ true → 0 < i → IsBelow (value_of l bytes (i - 1)) es) → AreRead l bytes i es
+entries_again read fixed l bytes i [] v at rise below = record { entries = refl; silent = refl }
+entries_again read fixed l bytes i (e ∷ es) v at rise below =
+    let d = at.0 in
+    let len = length-spelling read fixed l bytes i e v d in
+    let value = value_again read l bytes i e d in
+    let extent = extent_again l bytes i e d len in
+    let entry = entry_again l bytes i e d value extent in
+    let silent = entry_silent l bytes i e d (entry_whole l bytes i e d len) (λ s k. rw value (below s k)) extent in
+    let z : i + 1 - 1 ≡ i = omega arith in
+    let more = entries_again read fixed l bytes (i + 1) es v at.1 (λ s. (rise s).1) (λ s k. rw (z, value) ((rise s).0)) in
+    record { entries = rw (entry, more.entries) refl; silent = rw (silent, more.silent) refl }
+
+abbrev theme_with : Theme → List Entry → Theme
+theme_with t es = record t { entries = es }
+
+pub theme_again : CellsAreRead → FixedCells → (o : Order) (t : Theme) (bytes : List ℕ) → IsThematicIndex o t bytes → theme_of o bytes ≡ Ok t
+unfolding theme_of entries_line
+theme_again read fixed o t bytes is =
+    let l = layout_from o is.row_size t in
+    let r = entries_again read fixed l bytes 0 t.entries is.values is.entries is.rise (λ s k. absurd (omega arith)) in
+    rw (layout_again l bytes is.values is.header, r.silent) (ap (λ (es : List Entry). Ok (theme_with t es)) r.entries)
+
+-- ---- what is read is spelled
+
+value_stands : CellsAreSpelled → FixedCells → (l : Layout) (bytes : List ℕ) (i : ℕ) → IsBytes bytes → HasValues l → entry_start l i + entry_bytes l ≤ length bytes → IsCell l.order l.kind (Fixed l.count) (value_of l bytes i) (take (value_bytes l) (drop (entry_start l i) bytes))
+unfolding value_of
+value_stands spelled fixed l bytes i fits v whole =
+    let part = drop (entry_start l i) bytes in
+    let width = fixed l.order l.kind (Fixed l.count) part (value_bytes l) (indexed_width l.kind l.count v.0) in
+    let w = width.whole (omega (arith, length-drop (entry_start l i) bytes)) in
+    let s = spelled l.order l.kind (Fixed l.count) part w.0 (value_bytes l) (IsBytes-drop (entry_start l i) bytes fits) w.1 in
+    rw w.1 s.1
+
+entry_stands : CellsAreSpelled → FixedCells → (l : Layout) (bytes : List ℕ) (i : ℕ) → IsBytes bytes → HasValues l → entries_line l bytes ≡ None → i < l.entries → IsEntryAt l bytes i (entry_of l bytes i)
+unfolding entry_of extent_of
+entry_stands spelled fixed l bytes i fits v none h =
+    let whole = whole_from l bytes i none h in
+    let spelling = take (value_bytes l) (drop (entry_start l i) bytes) in
+    let len : length spelling ≡ value_bytes l = length-take-le (value_bytes l) (drop (entry_start l i) bytes) (omega (arith, length-drop (entry_start l i) bytes)) in
+    let offset = u32_stands l.order bytes (entry_start l i + value_bytes l) (extent_of l bytes i).offset fits (omega arith) refl in
+    let count = u32_stands l.order bytes (entry_start l i + value_bytes l + 4) (extent_of l bytes i).count fits (omega arith) refl in
+    record {
+      spelling = spelling;
+      extent = extent_of l bytes i;
+      spelled = value_stands spelled fixed l bytes i fits v whole;
+      value = (drop (entry_start l i + value_bytes l) bytes, front_stands bytes spelling (entry_start l i) (value_bytes l) refl);
+      offset = rw len offset;
+      count = rw len count;
+      inside = entry_are_rows l bytes i none h;
+      rows = rows_stand l.form l bytes i (extent_of l bytes i) fits (entry_rows l bytes i (entry_none l bytes i none h));
+    }
+
+entries_stand : CellsAreSpelled → FixedCells → (l : Layout) (bytes : List ℕ) (i n : ℕ) → IsBytes bytes → HasValues l → entries_line l bytes ≡ None → i + n ≡ l.entries → AreEntriesAt l bytes i (map (entry_of l bytes) (range_with_len i n))
+entries_stand spelled fixed l bytes i zero fits v none h = tt
+entries_stand spelled fixed l bytes i (suc n) fits v none h = (entry_stands spelled fixed l bytes i fits v none (omega arith), entries_stand spelled fixed l bytes (i + 1) n fits v none (omega arith))
+
+value-entry : (l : Layout) (bytes : List ℕ) (i : ℕ) → (entry_of l bytes i).value ≡ value_of l bytes i
+unfolding entry_of
+value-entry l bytes i = refl
+
+below_next : (l : Layout) (bytes : List ℕ) (i n : ℕ) → entries_line l bytes ≡ None → l.sorted ≡ true → i + 1 + n ≡ l.entries → IsBelow (entry_of l bytes i).value (map (entry_of l bytes) (range_with_len (i + 1) n))
+below_next l bytes i zero none s h = tt
+below_next l bytes i (suc n) none s h = rw (value-entry l bytes i, value-entry l bytes (i + 1)) (rises_from l bytes i none s (omega arith))
+
+entries_rise : (l : Layout) (bytes : List ℕ) (i n : ℕ) → entries_line l bytes ≡ None → l.sorted ≡ true → i + n ≡ l.entries → ValuesRise (map (entry_of l bytes) (range_with_len i n))
+entries_rise l bytes i zero none s h = tt
+entries_rise l bytes i (suc n) none s h = (below_next l bytes i n none s (omega arith), entries_rise l bytes (i + 1) n none s (omega arith))
+
+theme_stands : CellsAreSpelled → FixedCells → (l : Layout) (bytes : List ℕ) → IsBytes bytes → HasValues l → IsHeader l bytes → entries_line l bytes ≡ None → IsThematicIndex l.order (theme_in l bytes) bytes
+theme_stands spelled fixed l bytes fits v h none =
+    let same : layout_from l.order l.row_size (theme_in l bytes) ≡ l = ap (λ (n : ℕ). with_entries l n) (length-map-range_with_len (entry_of l bytes) 0 l.entries) in
+    record {
+      row_size = l.row_size;
+      values = subst HasValues (sym same) v;
+      header = subst (λ (x : Layout). IsHeader x bytes) (sym same) h;
+      entries = subst (λ (x : Layout). AreEntriesAt x bytes 0 (theme_in l bytes).entries) (sym same) (entries_stand spelled fixed l bytes 0 l.entries fits v none (omega arith));
+      rise = λ s. entries_rise l bytes 0 l.entries none s (omega arith);
+    }
+  where
+    with_entries : Layout → ℕ → Layout
+    with_entries l n = record l { entries = n }
+
+unless_ok : (m : Option Place) (x y : Theme) → unless_fault m x ≡ Ok y → (m ≡ None) × (x ≡ y)
+unless_ok None x y e = (refl, cc e)
+unless_ok (Some p) x y e = absurd (cc e)
+
+pub theme_read : CellsAreSpelled → FixedCells → (o : Order) (t : Theme) (bytes : List ℕ) → IsBytes bytes → theme_of o bytes ≡ Ok t → IsThematicIndex o t bytes
+unfolding theme_of
+theme_read spelled fixed o t bytes fits e =
+    let layout = then_ok (layout_of o bytes) (λ l. unless_fault (entries_line l bytes) (theme_in l bytes)) t e in
+    let l = layout.0 in
+    let read = layout_read o bytes l fits layout.1 in
+    let told = unless_ok (entries_line l bytes) (theme_in l bytes) t layout.2 in
+    let is = theme_stands spelled fixed l bytes fits read.values read.header told.0 in
+    subst (λ (x : Order). IsThematicIndex x t bytes) read.order (subst (λ (x : Theme). IsThematicIndex l.order x bytes) told.1 is)
