@@ -1,7 +1,7 @@
 -- A header is spelled exactly where it is read.
-use Rattle.std.proofs.Common.{◌≡◌, ℕ, ◌+◌, ◌*◌, ◌^◌, ◌<◌, ◌≤◌, ◌⊎◌, Bool, true, false, ◌&&◌, ◌||◌, cond, List, [], ◌∷◌, ◌++◌, length, drop, get_or, Option, Some, None, Result, Ok, Err, refl, sym, ap, subst, ◌∙◌, arith, inl, inr}
+use Rattle.std.proofs.Common.{◌≡◌, ℕ, ◌<◌, ◌≤◌, ◌⊎◌, Bool, true, false, ◌||◌, cond, List, [], ◌∷◌, length, get_or, Option, Some, None, Result, Ok, Err, refl, sym, ap, subst, ◌∙◌, arith, inl, inr}
 use Rattle.std.specs.Prelude.{◌==◌, ◌↔◌, bytes_eq, find, nat_lt}
-use Rattle.std.proofs.lemmas.Bool.{cases_lt, eq-eqb, eqb-true, le-ltb, ltb-false}
+use Rattle.std.proofs.lemmas.Bool.{eq-eqb, eqb-true, le-ltb, ltb-false}
 use Rattle.std.proofs.lemmas.Slice.Eq.{bytes_eq-Decides}
 use Rattle.vpf_triplet.specs.declared.orders.Order.{Order}
 use Rattle.vpf_triplet.specs.declared.kinds.Kind.{Kind}
@@ -18,7 +18,7 @@ use Rattle.vpf_theme.specs.declared.layout.RowSize.{RowSize}
 use Rattle.vpf_theme.specs.declared.layout.RowSize.TheVariants as sizes
 use Rattle.vpf_theme.specs.declared.layout.Layout.{Layout}
 use Rattle.vpf_theme.specs.Layouts.{HasValues, asked, count_of, directory_end, fields_of, form_of, form_text, is_count, is_indexed, is_size, indexed_kinds, is_sorted_mark, kind_of, layout_of, row_size_of, row_size_text, sized, u32_at}
-use Rattle.vpf_theme.specs.Spelling.{IsHeader, IsNumberAt, StandsAt}
+use Rattle.vpf_theme.specs.Spelling.{IsHeader, StandsAt}
 use Rattle.vpf_theme.proofs.PieceLemmas.{byte_stands, letter_there, u32_stands, u32_there}
 
 -- ---- letters

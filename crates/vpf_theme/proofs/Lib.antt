@@ -1,5 +1,5 @@
 mod FirstLemmas
-mod ValueLemmas
+pub mod ValueLemmas
 mod HitLemmas
 mod OrderLemmas
 mod FaultLemmas

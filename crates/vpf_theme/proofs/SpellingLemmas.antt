@@ -1,5 +1,5 @@
 -- An index is spelled exactly where it is read.
-use Rattle.std.proofs.Common.{◌≡◌, ℕ, zero, suc, ◌+◌, ◌-◌, ◌*◌, ◌<◌, ◌≤◌, Bool, true, false, not, ◌&&◌, List, [], ◌∷◌, ◌++◌, length, map, take, drop, Option, Some, None, Result, Ok, Err, Less, refl, sym, ap, subst, ◌∙◌, arith, inl, inr}
+use Rattle.std.proofs.Common.{◌⊎◌, ◌≡◌, ℕ, zero, suc, ◌+◌, ◌-◌, ◌<◌, ◌≤◌, Bool, true, false, not, ◌&&◌, List, [], ◌∷◌, ◌++◌, length, map, take, drop, Option, Some, None, Result, Ok, Err, Less, refl, sym, ap, subst, ◌∙◌, arith, inl, inr}
 use Rattle.std.specs.Prelude.{nat_lt}
 use Rattle.std.specs.List.{range_with_len}
 use Rattle.std.specs.Int.{w32}
@@ -14,7 +14,6 @@ use Rattle.vpf_triplet.specs.declared.kinds.Count.TheVariants.{Fixed}
 use Rattle.vpf_triplet.specs.declared.places.Place.{Place}
 use Rattle.vpf_triplet.specs.declared.places.Code.TheVariants as codes
 use Rattle.vpf_triplet.specs.Numbers.{IsBytes, number}
-use Rattle.vpf_triplet.specs.Places.{◌>>=◌}
 use Rattle.vpf_triplet.proofs.Spelled.{IsBytes-drop}
 use Rattle.vpf_value.specs.Values.{Value}
 use Rattle.vpf_value.specs.Reading.{Answer, cell_from}
@@ -25,7 +24,8 @@ use Rattle.vpf_theme.specs.Layouts.{HasValues, entry_bytes, entry_start, layout_
 use Rattle.vpf_theme.specs.Ordering.{value_cmp}
 use Rattle.vpf_theme.specs.Entries.{Entry, Theme, entry_of, extent_of, rows_by, theme_in, value_of, value_read}
 use Rattle.vpf_theme.specs.Reading.{cut_line, entries_line, entry_line, first_of, rises_at, sort_line, theme_of, unless_fault}
-use Rattle.vpf_theme.specs.Spelling.{AreEntriesAt, IsBelow, IsEntryAt, IsHeader, IsNumberAt, IsThematicIndex, ValuesRise, layout_from}
+use Rattle.vpf_theme.specs.Deciding.{Decides, FirstFault}
+use Rattle.vpf_theme.specs.Spelling.{AreEntriesAt, IsBelow, IsEntryAt, IsHeader, IsThematicIndex, ValuesRise, layout_from}
 use Rattle.vpf_theme.proofs.DataLemmas.{entry_are_rows}
 use Rattle.vpf_theme.proofs.FaultLemmas.{entry_none, entry_rows, rises_from, whole_from}
 use Rattle.vpf_theme.proofs.HeaderLemmas.{layout_again, layout_read, then_ok}
@@ -220,3 +220,26 @@ theme_read spelled fixed o t bytes fits e =
     let told = unless_ok (entries_line l bytes) (theme_in l bytes) t layout.2 in
     let is = theme_stands spelled fixed l bytes fits read.values read.header told.0 in
     subst (λ (x : Order). IsThematicIndex x t bytes) read.order (subst (λ (x : Theme). IsThematicIndex l.order x bytes) told.1 is)
+
+-- ---- one or the other
+
+theme_or_fault : CellsAreSpelled → FixedCells → (o : Order) (bytes : List ℕ) (r : Result Theme Place) → IsBytes bytes → theme_of o bytes ≡ r → ((t : Theme) × IsThematicIndex o t bytes) ⊎ ((place : Place) × FirstFault o bytes place)
+theme_or_fault spelled fixed o bytes (Ok t) fits e = inl (t, theme_read spelled fixed o t bytes fits e)
+theme_or_fault spelled fixed o bytes (Err place) fits e = inr (place, e)
+
+ok_err : (r : Result Theme Place) (t : Theme) (p : Place) → r ≡ Ok t → r ≡ Err p → ⊥
+ok_err r t p e f = cc
+
+ok_ok : (r : Result Theme Place) (t u : Theme) → r ≡ Ok t → r ≡ Ok u → t ≡ u
+ok_ok r t u e f = cc
+
+err_err : (r : Result Theme Place) (p q : Place) → r ≡ Err p → r ≡ Err q → p ≡ q
+err_err r p q e f = cc
+
+pub theme_decided : CellsAreRead → CellsAreSpelled → FixedCells → (o : Order) (bytes : List ℕ) → IsBytes bytes → Decides o bytes
+theme_decided read spelled fixed o bytes fits = record {
+  either = theme_or_fault spelled fixed o bytes (theme_of o bytes) fits refl;
+  never_both = λ t place is fault. ok_err (theme_of o bytes) t place (theme_again read fixed o t bytes is) fault;
+  one_index = λ t u is other. ok_ok (theme_of o bytes) t u (theme_again read fixed o t bytes is) (theme_again read fixed o u bytes other);
+  one_fault = λ p q e f. err_err (theme_of o bytes) p q e f;
+}

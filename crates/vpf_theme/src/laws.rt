@@ -17,6 +17,7 @@ ghost use Rattle.vpf_theme.specs.Findings.{first_finding};
 ghost use Rattle.vpf_theme.specs.Agreeing.{AgreesWithColumn, HaveRows, listed, scan_of};
 ghost use Rattle.vpf_theme.specs.Reading.{theme_of};
 ghost use Rattle.vpf_theme.specs.Spelling.{IsThematicIndex};
+ghost use Rattle.vpf_theme.specs.Deciding.{Decides};
 
 use vpf_value::laws;
 
@@ -51,6 +52,15 @@ pub fn spelled_is_read()
 pub fn read_is_spelled()
     ensures { (order : Order) (theme : Theme) (bytes : List ℕ) → IsBytes bytes → theme_of order bytes ≡ Ok theme → IsThematicIndex order theme bytes }
 {
+    laws::read_is_spelled();
+    laws::fixed_cells();
+}
+
+/// Each list of bytes is a file of exactly one index, or has exactly one first fault, and never both.
+pub fn themes_decide()
+    ensures { (order : Order) (bytes : List ℕ) → IsBytes bytes → Decides order bytes }
+{
+    laws::spelled_is_read();
     laws::read_is_spelled();
     laws::fixed_cells();
 }

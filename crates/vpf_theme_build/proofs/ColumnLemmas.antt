@@ -1,5 +1,5 @@
--- The index that is built of a column is read again.
-use Rattle.std.proofs.Common.{◌≡◌, ℕ, ◌+◌, ◌^◌, ◌<◌, ◌≤◌, Bool, true, false, cond, List, [], ◌∷◌, length, map, zero, suc, Ok, refl, sym, arith}
+-- The bytes that are built of a column are a file of its index.
+use Rattle.std.proofs.Common.{◌≡◌, ℕ, ◌^◌, ◌<◌, ◌≤◌, true, List, [], ◌∷◌, length, map, zero, suc, refl, sym, ap, subst, arith}
 use Rattle.std.specs.Prelude.{All}
 use Rattle.std.specs.Cmp.{IsTotalOrder}
 use Rattle.std.proofs.lemmas.Bool.Decides.{nat_tests}
@@ -13,54 +13,53 @@ use Rattle.vpf_head.specs.Fields.{most_values}
 use Rattle.vpf_head.specs.Head.{Col}
 use Rattle.vpf_theme.specs.declared.layout.Form.{Form}
 use Rattle.vpf_theme.specs.declared.layout.Layout.{Layout}
-use Rattle.vpf_theme.specs.Layouts.{is_count, is_indexed}
-use Rattle.vpf_theme.specs.Ordering.{same_value, value_cmp}
-use Rattle.vpf_theme.specs.Agreeing.{scan_from}
-use Rattle.vpf_theme.specs.Reading.{theme_of}
-use Rattle.vpf_theme_build.specs.Building.{index_for, layout_for, most_bytes}
+use Rattle.vpf_theme.specs.Layouts.{is_count}
+use Rattle.vpf_theme.specs.Ordering.{value_cmp}
+use Rattle.vpf_theme.specs.Spelling.{IsThematicIndex, layout_from}
+use Rattle.vpf_theme_build.specs.Building.{CanIndex, index_for, layout_for, most_bytes}
 use Rattle.vpf_theme_build.specs.Grouping.{entries_for, entry_for, values_of}
-use Rattle.vpf_theme_build.specs.Text.{index_len, index_text}
-use Rattle.vpf_theme_build.proofs.AgainLemmas.{AreReadAgain, EachEntry, HaveWidths, index_again}
-use Rattle.vpf_theme_build.proofs.FieldLemmas.{values_len}
-use Rattle.vpf_theme_build.proofs.MarkLemmas.{Rises, rises_later}
+use Rattle.vpf_theme_build.specs.Text.{index_len, index_text, row_size_for}
+use Rattle.vpf_theme_build.proofs.FieldLemmas.{scan_inside, scan_rises, values_len}
+use Rattle.vpf_theme_build.proofs.SpelledLemmas.{AreSpelled, EachEntry, HaveWidths, index_stands}
 use Rattle.vpf_theme_build.proofs.ValueLists.{Each, HasCell, cells_have, entries_for_rising, scan_some, values_each}
 
 -- ---- the entries
-
-scan_case : (c : Bool) (at n : ℕ) (rest : List ℕ) → at ≤ n → Rises (at + 1) n rest → Rises at n (cond c (at ∷ rest) rest)
-scan_case true at n rest h r = (omega arith, (h, r))
-scan_case false at n rest h r = rises_later at (at + 1) n rest (omega arith) r
-
-scan_rises_from : (at n : ℕ) (v : Value) (cells : List Value) → at + length cells ≤ n + 1 → Rises at n (scan_from at v cells)
-scan_rises_from at n v [] h = tt
-scan_rises_from at n v (u ∷ cells) h = scan_case (same_value u v) at n (scan_from (at + 1) v cells) (omega arith) (scan_rises_from (at + 1) n v cells (omega arith))
 
 each_from : (P : Value → Type 0) (cells : List Value) → All P cells → Each P cells
 each_from P [] h = tt
 each_from P (v ∷ cells) h = (h zero v (omega arith), each_from P cells (λ k d m. h (suc k) d (omega arith)))
 
-each_entry : (l : Layout) (cells vs : List Value) → l.rows ≡ length cells → Each (FitsCell l.kind (Fixed l.count)) vs → Each (HasCell cells) vs → EachEntry l (map (entry_for cells) vs)
-each_entry l cells [] n f h = tt
-each_entry l cells (v ∷ vs) n f h = (record { fits = f.0; some = scan_some 1 v cells h.0; rise = scan_rises_from 1 l.rows v cells (omega arith) }, each_entry l cells vs n f.1 h.1)
+each_entry : (l : Layout) (cells vs : List Value) → l.rows ≡ length cells → l.row_size ≡ row_size_for l.rows → length cells < 2 ^ 24 → Each (FitsCell l.kind (Fixed l.count)) vs → Each (HasCell cells) vs → EachEntry l (map (entry_for cells) vs)
+each_entry l cells [] n size few f h = tt
+each_entry l cells (v ∷ vs) n size few f h = (record { fits = f.0; some = scan_some 1 v cells h.0; rows = record { size = size; few = omega arith; inside = scan_inside 1 l.rows v cells (omega arith) (omega arith); rise = scan_rises 1 v cells } }, each_entry l cells vs n size few f.1 h.1)
 
-entries_are : (l : Layout) (cells : List Value) → l.rows ≡ length cells → All (FitsCell l.kind (Fixed l.count)) cells → EachEntry l (entries_for cells)
-entries_are l cells n fits = each_entry l cells (values_of cells) n (values_each (FitsCell l.kind (Fixed l.count)) cells (each_from (FitsCell l.kind (Fixed l.count)) cells fits)) (values_each (HasCell cells) cells (cells_have cells))
+entries_are : (l : Layout) (cells : List Value) → l.rows ≡ length cells → l.row_size ≡ row_size_for l.rows → length cells < 2 ^ 24 → All (FitsCell l.kind (Fixed l.count)) cells → EachEntry l (entries_for cells)
+entries_are l cells n size few fits = each_entry l cells (values_of cells) n size few (values_each (FitsCell l.kind (Fixed l.count)) cells (each_from (FitsCell l.kind (Fixed l.count)) cells fits)) (values_each (HasCell cells) cells (cells_have cells))
 
 -- ---- the index
 
 count_few : (kind : Kind) (n : ℕ) → is_count kind n ≡ true → n ≤ most_values
 count_few kind n h = grind (arith, nat_tests)
 
-pub built_again : AreReadAgain → HaveWidths → IsTotalOrder value_cmp → (order : Order) (form : Form) (column : Col) (count : ℕ) (cells : List Value) (table : List ℕ) → is_indexed column.kind ≡ true → is_count column.kind count ≡ true → All (FitsCell column.kind (Fixed count)) cells → length cells < 2 ^ 24 → index_len (layout_for order form column count cells) (entries_for cells) ≤ most_bytes
-    → theme_of order (index_text (layout_for order form column count cells) table column.name (entries_for cells)) ≡ Ok (index_for form column count cells)
-built_again again wide o order form column count cells table indexed counted fits few size =
-    let l = layout_for order form column count cells in
+with_entries : Layout → ℕ → Layout
+with_entries l n = record l { entries = n }
+
+pub built_stands : AreSpelled → HaveWidths → IsTotalOrder value_cmp → (order : Order) (form : Form) (column : Col) (count : ℕ) (cells : List Value) (table : List ℕ) → CanIndex order form column count cells → IsThematicIndex order (index_for form column count cells) (index_text (layout_for order form column count cells) table column.name (entries_for cells))
+unfolding with_entries
+built_stands spelled wide o order form column count cells table can =
+    let t = index_for form column count cells in
+    let size = row_size_for (length cells) in
+    let l = layout_from order size t in
     let es = entries_for cells in
-    index_again again wide l table column.name es (record {
-      stored = record { values = (indexed, counted); sorted = refl; rows = omega arith; entries = omega (arith, values_len cells); size = omega arith; count = omega (arith, count_few column.kind count counted) };
-      rows = record { size = refl; few = few };
-      entries = sym (length-map (values_of cells) (entry_for cells));
-      each = entries_are l cells refl fits;
+    let same : l ≡ layout_for order form column count cells = ap (with_entries l) (length-map (values_of cells) (entry_for cells)) in
+    let fits = rw can.fixed at can.fits in
+    let len = length-map (values_of cells) (entry_for cells) in
+    let small = subst (λ (k : Layout). index_len k es ≤ most_bytes) (sym same) can.small in
+    let is = index_stands spelled wide order size t table column.name (record {
+      values = (can.indexed, can.counted);
+      stored = record { sorted = refl; rows = omega (arith, can.few); entries = omega (arith, values_len cells, can.few, len); size = omega (arith, small); count = omega (arith, count_few column.kind count can.counted) };
+      each = entries_are l cells refl refl can.few fits;
       rise = entries_for_rising o cells;
-      small = omega arith;
-    })
+      small = omega (arith, small);
+    }) in
+    subst (λ (k : Layout). IsThematicIndex order t (index_text k table column.name es)) same is

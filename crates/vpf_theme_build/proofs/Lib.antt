@@ -9,9 +9,8 @@ mod TextLemmas
 mod FieldLemmas
 mod BuildLemmas
 mod ScanLemmas
-mod PieceLemmas
 mod HeaderLemmas
 mod MarkLemmas
 mod ListedLemmas
-mod AgainLemmas
+mod SpelledLemmas
 mod ColumnLemmas

@@ -1,7 +1,7 @@
--- The bits of a bitmap that is written, read again as the rows that they mark.
-use Rattle.std.proofs.Common.{◌≡◌, ℕ, zero, suc, ◌+◌, ◌-◌, ◌*◌, ◌/◌, ◌%◌, ◌^◌, ◌<◌, ◌≤◌, Bool, true, false, ◌==◌, List, [], ◌∷◌, ◌++◌, length, drop, get_or, refl, sym, ap, subst, ◌∙◌, arith, inl, inr}
-use Rattle.std.specs.Prelude.{filter, if◌then◌else◌}
-use Rattle.std.specs.List.{list_any, range_with_len}
+-- The bits of a bitmap that is written mark its rows.
+use Rattle.std.proofs.Common.{◌≡◌, ℕ, zero, suc, ◌+◌, ◌-◌, ◌*◌, ◌/◌, ◌%◌, ◌^◌, ◌<◌, Bool, true, false, ◌==◌, ◌||◌, List, [], ◌∷◌, ◌++◌, length, drop, get_or, refl, sym, ap, subst, ◌∙◌, arith, inl, inr}
+use Rattle.std.specs.Prelude.{◌↔◌, Contains, if◌then◌else◌}
+use Rattle.std.specs.List.{list_any}
 use Rattle.std.specs.Int.{bit_at}
 use Rattle.std.proofs.lemmas.Bool.{cases_lt, cases_eq, eq-eqb, ne_eqb}
 use Rattle.std.proofs.lemmas.List.{get_or-drop}
@@ -11,27 +11,26 @@ use Rattle.vpf_theme.specs.Entries.{is_marked}
 use Rattle.vpf_theme_build.specs.Text.{bits_of, bitmap_byte, bitmap_text}
 use Rattle.vpf_theme_build.proofs.BitLemmas.{bits_more, below_more, still_small}
 
--- ---- rows that rise
-
--- rows that rise from `a` on, up to n
-abbrev pub Rises : ℕ → ℕ → List ℕ → Type 0
-Rises a n [] = Unit {0}
-Rises a n (r ∷ rs) = (a ≤ r) × ((r ≤ n) × Rises (r + 1) n rs)
-
-pub rises_later : (a b n : ℕ) (rows : List ℕ) → a ≤ b → Rises b n rows → Rises a n rows
-rises_later a b n [] h r = tt
-rises_later a b n (x ∷ rows) h r = (omega (arith, r.0), (r.1.0, r.1.1))
+-- ---- members
 
 abbrev has : List ℕ → ℕ → Bool
 has rows row = list_any (λ r. r == row) rows
 
-has_none : (a n row : ℕ) (rows : List ℕ) → Rises a n rows → row < a → has rows row ≡ false
-has_none a n row [] r h = refl
-has_none a n row (x ∷ rows) r h = rw (ne_eqb x row (λ e. omega (arith, r.0, e))) (has_none (x + 1) n row rows r.1.1 (omega (arith, r.0)))
+or_true : (b : Bool) → (b || true) ≡ true
+or_true true = refl
+or_true false = refl
 
-pub has_past : (a n row : ℕ) (rows : List ℕ) → Rises a n rows → n < row → has rows row ≡ false
-has_past a n row [] r h = refl
-has_past a n row (x ∷ rows) r h = rw (ne_eqb x row (λ e. omega (arith, r.1.0, e))) (has_past (x + 1) n row rows r.1.1 h)
+has_member : (rows : List ℕ) (row k : ℕ) → k < length rows → get_or rows k row ≡ row → has rows row ≡ true
+has_member [] row k h e = absurd (omega arith)
+has_member (x ∷ rows) row zero h e = rw (eq-eqb x row e) refl
+has_member (x ∷ rows) row (suc k) h e = rw (has_member rows row k (omega arith) e, or_true) refl
+
+member_of : (rows : List ℕ) (row : ℕ) → has rows row ≡ true → Contains rows row
+member_of [] row h = absurd (cc h)
+member_of (x ∷ rows) row h = elim (cases_eq x row) [
+  | inl e ↦ (zero, omega arith, e)
+  | inr ne ↦ let k = rw (ne_eqb x row ne) at h in let c = member_of rows row k in (suc c.0, omega (arith, c.1), c.2)
+]
 
 -- ---- bits
 
@@ -93,7 +92,7 @@ byte_in bytes text rest at j e h = sym (get_or-drop at bytes j 0) ∙ ap (λ (x 
 pub length-bitmap : (n : ℕ) (rows : List ℕ) → length (bitmap_text n rows) ≡ (n + 7) / 8
 length-bitmap n rows = length-map-range_with_len (bitmap_byte rows) 0 ((n + 7) / 8)
 
-pub marked_again : (bytes rest rows : List ℕ) (at n k : ℕ) → drop at bytes ≡ bitmap_text n rows ++ rest → k < 8 * ((n + 7) / 8) → is_marked bytes at k ≡ has rows (k + 1)
+marked_again : (bytes rest rows : List ℕ) (at n k : ℕ) → drop at bytes ≡ bitmap_text n rows ++ rest → k < 8 * ((n + 7) / 8) → is_marked bytes at k ≡ has rows (k + 1)
 unfolding is_marked
 marked_again bytes rest rows at n k e h =
     let j : k / 8 < (n + 7) / 8 = omega arith in
@@ -102,26 +101,7 @@ marked_again bytes rest rows at n k e h =
     let row : 8 * (k / 8) + 1 + k % 8 ≡ k + 1 = omega arith in
     rw (byte, bits_again rows (8 * (k / 8) + 1) 8 (k % 8) b, row) (bit_told (has rows (k + 1)))
 
--- ---- the rows that a bitmap marks
-
-kept_none : (p : ℕ → Bool) (a n : ℕ) → ((row : ℕ) → a ≤ row → row < a + n → p row ≡ false) → filter p (range_with_len a n) ≡ []
-kept_none p a zero h = refl
-kept_none p a (suc n) h = rw (h a (omega arith) (omega arith)) (kept_none p (a + 1) n (λ row low high. h row (omega arith) (omega arith)))
-
-pub marks_are_rows : (p : ℕ → Bool) (rows : List ℕ) (a n last : ℕ) → a + n ≡ last + 1 → Rises a last rows → ((row : ℕ) → a ≤ row → row < a + n → p row ≡ has rows row) → filter p (range_with_len a n) ≡ rows
-marks_are_rows p [] a n last z r h = kept_none p a n h
-marks_are_rows p (x ∷ rows) a zero last z r h = absurd (omega (arith, r.0, r.1.0))
-marks_are_rows p (x ∷ rows) a (suc n) last z r h = elim (cases_eq x a) [
-  | inl e ↦
-      let here = h a (omega arith) (omega arith) in
-      let told : p a ≡ true = rw (eq-eqb x a e) at here in
-      let later : (row : ℕ) → a + 1 ≤ row → row < a + 1 + n → p row ≡ has rows row = λ row low high.
-      let there = h row (omega arith) (omega arith) in rw (ne_eqb x row (λ k. omega (arith, k, e))) at there in
-      let next : Rises (a + 1) last rows = rw (← e) r.1.1 in
-      rw (told, marks_are_rows p rows (a + 1) n last (omega arith) next later, e) refl
-  | inr ne ↦
-      let above : a < x = omega (arith, r.0, ne) in
-      let here = h a (omega arith) (omega arith) in
-      let told : p a ≡ false = here ∙ has_none x last a (x ∷ rows) (omega arith, (r.1.0, r.1.1)) above in
-      rw told (marks_are_rows p (x ∷ rows) (a + 1) n last (omega arith) (omega arith, (r.1.0, r.1.1)) (λ row low high. h row (omega arith) (omega arith)))
-]
+pub marks_there : (bytes rest rows : List ℕ) (at n k : ℕ) → drop at bytes ≡ bitmap_text n rows ++ rest → k < 8 * ((n + 7) / 8) → (is_marked bytes at k ≡ true) ↔ Contains rows (k + 1)
+marks_there bytes rest rows at n k e h =
+    let m = marked_again bytes rest rows at n k e h in
+    (λ t. member_of rows (k + 1) (sym m ∙ t), λ c. m ∙ has_member rows (k + 1) c.0 c.1 c.2)

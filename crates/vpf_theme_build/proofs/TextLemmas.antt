@@ -4,7 +4,6 @@ use Rattle.std.specs.Prelude.{All, replicate, if◌then◌else◌}
 use Rattle.std.proofs.lemmas.List.{get_or-map, length-map, length-append, length-drop, length-take, drop_more, take_more}
 use Rattle.std.proofs.lemmas.List.FromFn.{length-map-range_with_len}
 use Rattle.vpf_triplet.specs.declared.orders.Order.{Order}
-use Rattle.vpf_triplet.specs.declared.orders.Order.TheVariants.{Little, Big}
 use Rattle.vpf_triplet.specs.Numbers.{number}
 use Rattle.vpf_theme.specs.declared.layout.Form.{Form}
 use Rattle.vpf_theme.specs.declared.layout.Form.TheVariants as forms
@@ -12,10 +11,12 @@ use Rattle.vpf_theme.specs.declared.layout.RowSize.{RowSize}
 use Rattle.vpf_theme.specs.declared.layout.RowSize.TheVariants as sizes
 use Rattle.vpf_theme.specs.declared.layout.Layout.{Layout}
 use Rattle.vpf_theme.specs.Layouts.{row_bytes}
+use Rattle.vpf_theme.specs.Spelling.{row_width, rows_text}
+use Rattle.vpf_theme.proofs.PieceLemmas.{length-row}
 use Rattle.vpf_theme_build.specs.declared.grouping.Spot.{Spot}
 use Rattle.vpf_theme_build.specs.declared.grouping.Group.{Group}
 use Rattle.vpf_theme_build.specs.Grouping.{IsGroup, cells_in, entry_in, row_of}
-use Rattle.vpf_theme_build.specs.Text.{all_data, bitmap_byte, data_by, data_text, directory_text, entry_text, row_width, rows_text}
+use Rattle.vpf_theme_build.specs.Text.{all_data, bitmap_byte, data_by, data_text, directory_text, entry_text}
 use Rattle.vpf_theme_build.specs.Writing.{data_len, data_len_by}
 
 pub rows_inside : (n : ℕ) (spots : List Spot) → All (λ row. (1 ≤ row) × (row ≤ n)) (map row_of spots) → (k : ℕ) (d : Spot) → k < length spots → (1 ≤ (get_or spots k d).row) × ((get_or spots k d).row ≤ n)
@@ -23,15 +24,9 @@ rows_inside n spots h k d m = subst (λ (r : ℕ). (1 ≤ r) × (r ≤ n)) (get_
 
 -- ---- lengths
 
-pub length-number : (o : Order) (size : RowSize) (n : ℕ) → length (number o (row_width size) n) ≡ row_bytes size
-length-number Little sizes.Short n = refl
-length-number Little sizes.Long n = refl
-length-number Big sizes.Short n = refl
-length-number Big sizes.Long n = refl
-
 pub length-rows : (o : Order) (size : RowSize) (rows : List ℕ) → length (rows_text o size rows) ≡ length rows * row_bytes size
 length-rows o size [] = omega arith
-length-rows o size (row ∷ rows) = length-append (number o (row_width size) row) (rows_text o size rows) ∙ omega (arith, length-number o size row, length-rows o size rows)
+length-rows o size (row ∷ rows) = length-append (number o (row_width size) row) (rows_text o size rows) ∙ omega (arith, length-row o size row, length-rows o size rows)
 
 data_case : (b : Bool) (text : List ℕ) (n : ℕ) → length text ≡ n → length (if b then [] else text) ≡ (if b then 0 else n)
 data_case true text n h = refl

@@ -1,14 +1,15 @@
 -- The thematic index that is built of a column.
-use Rattle.std.specs.Prelude.{◌≡◌, ◌<◌, ℕ, slice_get, Some, nat_le, if◌then◌else◌, true, List, length, Result, Ok, Err}
+use Rattle.std.specs.Prelude.{◌≡◌, ◌<◌, ◌≤◌, ◌^◌, ℕ, All, slice_get, Some, nat_le, if◌then◌else◌, true, List, length, Result, Ok, Err}
 use Rattle.vpf_triplet.specs.declared.orders.Order.{Order}
 use Rattle.vpf_triplet.specs.declared.kinds.Count.{Count}
 use Rattle.vpf_triplet.specs.declared.kinds.Count.TheVariants.{Fixed, Star}
 use Rattle.vpf_value.specs.Values.{Value}
+use Rattle.vpf_value.specs.Fitting.{FitsCell}
 use Rattle.vpf_head.specs.Head.{Col}
 use Rattle.vpf_table.specs.Grid.{Grid}
 use Rattle.vpf_theme.specs.declared.layout.Form.{Form}
 use Rattle.vpf_theme.specs.declared.layout.Layout.{Layout}
-use Rattle.vpf_theme.specs.Layouts.{is_indexed}
+use Rattle.vpf_theme.specs.Layouts.{is_count, is_indexed}
 use Rattle.vpf_theme.specs.Entries.{Theme}
 use Rattle.vpf_theme.specs.Findings.{cells_of}
 use Rattle.vpf_theme.specs.Agreeing.{AgreesAt}
@@ -29,6 +30,16 @@ layout_for o form column count cells = record { order = o; form = form; kind = c
 -- the index of these cells
 abbrev pub index_for : Form → Col → ℕ → List Value → Theme
 index_for form column count cells = record { form = form; kind = column.kind; count = count; rows = length cells; sorted = true; entries = entries_for cells }
+
+-- an index of these cells can be built: the column has this count and a kind that can be indexed, its cells fit it, they
+-- are no more than a table has, and the index is no larger than a file
+pub record CanIndex (o : Order) (form : Form) (column : Col) (count : ℕ) (cells : List Value) : Type 0 where
+  pub fixed : column.count ≡ Fixed count
+  pub indexed : is_indexed column.kind ≡ true
+  pub counted : is_count column.kind count ≡ true
+  pub fits : All (FitsCell column.kind column.count) cells
+  pub few : length cells < 2 ^ 24
+  pub small : index_len (layout_for o form column count cells) (entries_for cells) ≤ most_bytes
 
 -- the bytes of an index, unless they are too many
 abbrev pub limited : ℕ → List ℕ → Result (List ℕ) BuildError

@@ -2,8 +2,7 @@
 use Rattle.std.specs.Prelude.{ℕ, ◌+◌, ◌*◌, ◌/◌, ◌^◌, ◌==◌, nat_le, if◌then◌else◌, List, [], ◌∷◌, ◌++◌, length, map, take, replicate, slice_index, sum}
 use Rattle.std.specs.Prelude.{codes as text}
 use Rattle.std.specs.List.{list_any, range_with_len}
-use Rattle.std.specs.Int.{Width, w16, w32}
-use Rattle.vpf_triplet.specs.declared.orders.Order.{Order}
+use Rattle.std.specs.Int.{w32}
 use Rattle.vpf_triplet.specs.declared.kinds.Count.TheVariants.{Fixed}
 use Rattle.vpf_triplet.specs.Kinds.{kind_text}
 use Rattle.vpf_triplet.specs.Numbers.{number}
@@ -15,24 +14,15 @@ use Rattle.vpf_theme.specs.declared.layout.RowSize.TheVariants as sizes
 use Rattle.vpf_theme.specs.declared.layout.Layout.{Layout}
 use Rattle.vpf_theme.specs.Layouts.{directory_end, form_text, row_size_text}
 use Rattle.vpf_theme.specs.Entries.{Entry}
+use Rattle.vpf_theme.specs.Spelling.{rows_text}
 
 -- row numbers have 2 bytes where they are at most 32,767, and else 4
 abbrev pub row_size_for : ℕ → RowSize
 row_size_for n = if nat_le n 32767 then sizes.Short else sizes.Long
 
--- a row number is an unsigned number of this width
-abbrev pub row_width : RowSize → Width
-row_width sizes.Short = w16
-row_width sizes.Long = w32
-
 -- the first bytes of a name, so many, with spaces after it
 abbrev pub spaced : ℕ → List ℕ → List ℕ
 spaced n name = take n (name ++ replicate n 32)
-
--- row numbers, one after another
-abbrev pub rows_text : Order → RowSize → List ℕ → List ℕ
-rows_text o size [] = []
-rows_text o size (row ∷ rows) = number o (row_width size) row ++ rows_text o size rows
 
 -- bit b of the rows from `first` on: set where row first + b is among the rows
 abbrev pub bit_of : List ℕ → ℕ → ℕ → ℕ

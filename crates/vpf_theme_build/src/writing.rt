@@ -4,8 +4,9 @@ ghost use Rattle.std.specs.Prelude.{◌≡◌, ◌<◌, ◌≤◌, ◌+◌, ◌/
 ghost use Rattle.std.specs.List.{list_any};
 ghost use Rattle.std.specs.List.Sorted.{IsStrictlyIncreasing};
 ghost use Rattle.vpf_triplet.specs.Numbers.{number};
+ghost use Rattle.vpf_theme.specs.Spelling.{row_width, rows_text};
 ghost use Rattle.vpf_theme_build.specs.Grouping.{IsNext, entry_of, row_of};
-ghost use Rattle.vpf_theme_build.specs.Text.{bitmap_text, bits_of, count_by, data_text, entry_text, offset_by, row_size_for, row_width, rows_text};
+ghost use Rattle.vpf_theme_build.specs.Text.{bitmap_text, bits_of, count_by, data_text, entry_text, offset_by, row_size_for};
 ghost use Rattle.vpf_theme_build.specs.Writing.{AreEntryRows, FitsSpot, data_len, is_alone};
 
 use crate::grouping::Spot;

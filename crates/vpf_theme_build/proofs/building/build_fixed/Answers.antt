@@ -95,7 +95,7 @@ read c small =
     let values = has_values grid.head c.args.column c.args.count column (rw c.header-header.ensures at c.len-columns.ensures.sound) is can.0 can.1 in
     let fits = cells_fit grid c.args.column column (rw c.rows-rows.ensures.rows at c.rows-rows.ensures.fits) is in
     let n = length-map grid.rows (λ (row : Row). slice_index_or row c.args.column Nothing) in
-    c.built_indexes_are_read.ensures grid.head.order c.args.form column c.args.count (cells_of grid c.args.column) c.args.table_name.now can.0 can.1 values.1 fits (omega (arith, n, c.len.ensures.value, c.len.ensures.most)) small
+    c.built_indexes_are_read.ensures grid.head.order c.args.form column c.args.count (cells_of grid c.args.column) c.args.table_name.now (record { fixed = can.0; indexed = can.1; counted = values.1; fits = fits; few = omega (arith, n, c.len.ensures.value, c.len.ensures.most); small = small })
 
 pub returns-clause-opened : goal.returns-clause-opened
 returns-clause-opened c =

@@ -1,6 +1,6 @@
 use Rattle.std.proofs.Common.{◌≡◌, ◌++◌, map, drop}
 use Rattle.vpf_theme_build.specs.Grouping.{row_of}
-use Rattle.vpf_theme_build.specs.Text.{rows_text}
+use Rattle.vpf_theme.specs.Spelling.{rows_text}
 use Rattle.vpf_theme_build.proofs.writing.put_rows.Given as goal
 
 abbrev pub invariant-loop-spot : goal.invariant-loop-spot

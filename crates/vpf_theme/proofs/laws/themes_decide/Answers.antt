@@ -1,0 +1,5 @@
+use Rattle.vpf_theme.proofs.SpellingLemmas.{theme_decided}
+use Rattle.vpf_theme.proofs.laws.themes_decide.Goals as goal
+
+pub returns : goal.returns
+returns c = theme_decided c.spelled_is_read.ensures c.read_is_spelled.ensures c.fixed_cells.ensures

@@ -1,0 +1,18 @@
+-- Bytes are a file of one thematic index, or have one first fault.
+use Rattle.std.specs.Prelude.{◌≡◌, ◌⊎◌, ℕ, List, Err}
+use Rattle.vpf_triplet.specs.declared.orders.Order.{Order}
+use Rattle.vpf_triplet.specs.declared.places.Place.{Place}
+use Rattle.vpf_theme.specs.Entries.{Theme}
+use Rattle.vpf_theme.specs.Reading.{theme_of}
+use Rattle.vpf_theme.specs.Spelling.{IsThematicIndex}
+
+-- the bytes are no index, and this is their first fault
+abbrev pub FirstFault : Order → List ℕ → Place → Type 0
+FirstFault o bytes place = theme_of o bytes ≡ Err place
+
+-- exactly one of the two, in one way
+pub record Decides (o : Order) (bytes : List ℕ) : Type 0 where
+  pub either : ((t : Theme) × IsThematicIndex o t bytes) ⊎ ((place : Place) × FirstFault o bytes place)
+  pub never_both : (t : Theme) (place : Place) → IsThematicIndex o t bytes → FirstFault o bytes place → ⊥
+  pub one_index : (t u : Theme) → IsThematicIndex o t bytes → IsThematicIndex o u bytes → t ≡ u
+  pub one_fault : (p q : Place) → FirstFault o bytes p → FirstFault o bytes q → p ≡ q
