@@ -31,8 +31,8 @@ layout_for o form column count cells = record { order = o; form = form; kind = c
 abbrev pub index_for : Form → Col → ℕ → List Value → Theme
 index_for form column count cells = record { form = form; kind = column.kind; count = count; rows = length cells; sorted = true; entries = entries_for cells }
 
--- an index of these cells can be built: the column has this count and a kind that can be indexed, its cells fit it, they
--- are no more than a table has, and the index is no larger than a file
+-- An index of these cells can be built: the column has this count and a kind that can be indexed, its cells fit it, they
+-- are no more than a table has, and the index is no larger than a file.
 pub record CanIndex (o : Order) (form : Form) (column : Col) (count : ℕ) (cells : List Value) : Type 0 where
   pub fixed : column.count ≡ Fixed count
   pub indexed : is_indexed column.kind ≡ true
