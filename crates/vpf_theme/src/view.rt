@@ -76,6 +76,7 @@ impl<'a> ThemeView<'a> {
         ThemeView::read(bytes, order)
     }
 
+    /// The index that reading gives, or the first fault.
     #[tactic(auto, unfolding(crate::specs::Reading::theme_of))]
     fn read(bytes: &'a [u8], order: Order) -> Result<ThemeView<'a>, Place>
         ensures { Gives (λ t. t) result (theme_of order bytes.now) }
