@@ -1,5 +1,4 @@
-pub mod Filtering
-pub mod LastLetters
-pub mod Lines
 pub mod Telling
+pub mod RowsAnswers
+pub mod IndexedAnswers
 pub mod Answering

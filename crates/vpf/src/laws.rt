@@ -1,7 +1,9 @@
-//! The law of answers.
+//! Laws of answers.
 
 ghost use Rattle.vpf.specs.Deciding.{HasAnswer, OneAnswer};
+ghost use Rattle.vpf.specs.Indexed.{PlainAnswers};
 
+use vpf_answers::laws::index_answers_as_the_scan;
 use vpf_edges::laws::one_boundary_listing;
 
 /// Words over files have exactly one answer.
@@ -10,4 +12,11 @@ pub fn one_answer()
     ensures one { OneAnswer }
 {
     one_boundary_listing();
+}
+
+/// Where the thematic index of a column agrees with it, the answer of `rows` is that by a plain scan.
+pub fn plain_answers()
+    ensures { PlainAnswers }
+{
+    index_answers_as_the_scan();
 }

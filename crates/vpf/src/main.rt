@@ -2,23 +2,21 @@
 #![tactic(auto)]
 
 mod command;
-mod cycling;
-mod disagreeing;
 mod laws;
 mod loading;
-mod names;
-mod reply;
 mod running;
-mod showing;
+mod selecting;
 mod status;
-mod swapping;
+#[cfg(test)]
+mod testing;
 #[cfg(test)]
 mod tests;
 #[cfg(test)]
 mod tests_of_cycles;
 #[cfg(test)]
+mod tests_of_rows;
+#[cfg(test)]
 mod tests_of_swaps;
-mod texts;
 
 use running::run;
 use std::io::ErrorKind;

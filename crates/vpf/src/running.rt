@@ -1,34 +1,45 @@
 //! The whole program, over any tree and any sink.
 
-ghost use Rattle.std.specs.Prelude.{◌≡◌, ◌≢◌, ◌≤◌, [], IfOk, IfSome, IsErrOf, None, is_some, map, string_bytes};
+ghost use Rattle.std.specs.Prelude.{◌≡◌, ◌≢◌, ◌≤◌, [], IfOk, IfSome, IsErrOf, None, Some, is_some, map, string_bytes};
 ghost use Rattle.std.specs.Io.KnownBytes.{Keeps};
 ghost use Rattle.vpf_source.specs.Causes.{Rose};
 ghost use Rattle.vpf_source.specs.Writing.{TellsAsBefore};
-ghost use Rattle.vpf.specs.Answer.{Answer};
+ghost use Rattle.vpf_answers.specs.Answer.{Answer};
 ghost use Rattle.vpf.specs.Commands.{command_of, AnswersOver, IsAnswerTo, IsAnswer};
+ghost use Rattle.vpf_source.specs.Files.{Files};
+ghost use Rattle.vpf_answers.specs.declared.requests.RowsRequest.{RowsRequest};
+ghost use Rattle.vpf.specs.declared.command.Command.TheVariants.{Rows};
+ghost use Rattle.vpf.specs.Indexed.{IndexAgrees, IsPlainAnswer};
 ghost use Rattle.vpf.specs.Run.{Carries, IsCompleted, Prints};
 
 use crate::command::{Command, read_command};
-use crate::cycling::cycles;
-use crate::laws::one_answer;
+use crate::laws::{one_answer, plain_answers};
 use crate::loading::{Loaded, load_file};
-use crate::reply::Reply;
-use crate::showing::{check, show};
+use crate::selecting::rows;
 use crate::status::{Status, Stop};
-use crate::swapping::swap;
-use crate::texts::usage;
-use std::alloc::{AllocError, Global};
+use std::alloc::Global;
+use vpf_answers::{Reply, check, cycles, index, show, swap, usage};
 use vpf_source::{DeviceError, Sink, Tree, make_all, put_all};
 
-/// The reply of a command over the bytes of its file.
-fn reply_over(alloc: Global, command: &Command, bytes: Vec<u8>) -> Result<Reply, AllocError>
-    ensures { IfOk result (AnswersOver command.now bytes.items) }
+/// The reply of a command over the bytes of its file, with the other files of the tree.
+fn reply_over<T: Tree>(
+    alloc: Global,
+    command: &Command,
+    bytes: Vec<u8>,
+    tree: &mut T,
+) -> Result<Reply, Stop>
+    ensures told { IfSome (T.files tree.old) (λ files. IfOk result (AnswersOver command.now files bytes.items)) }
+    ensures fault { IsErrOf result Stop.TreeFault → Rose (T.faults tree.old) (T.faults tree.new) }
+    ensures later { T.faults tree.old ≤ T.faults tree.new }
+    ensures files { T.files tree.new ≡ T.files tree.old }
 {
     match command {
-        Command::Show(name) => show(alloc, name.as_str(), &bytes),
-        Command::Table(name) => check(alloc, name.as_str(), &bytes),
-        Command::Cycles(name) => cycles(alloc, name.as_str(), &bytes),
-        Command::Swap(name, out) => swap(alloc, name.as_str(), out.as_str(), bytes),
+        Command::Show(name) => Ok(show(alloc, name.as_str(), &bytes)?),
+        Command::Table(name) => Ok(check(alloc, name.as_str(), &bytes)?),
+        Command::Cycles(name) => Ok(cycles(alloc, name.as_str(), &bytes)?),
+        Command::Swap(name, out) => Ok(swap(alloc, name.as_str(), out.as_str(), bytes)?),
+        Command::Index(request) => Ok(index(alloc, request, &bytes)?),
+        Command::Rows(request) => rows(alloc, request, &bytes, tree),
     }
 }
 
@@ -40,7 +51,7 @@ fn obey<T: Tree>(alloc: Global, command: &Command, tree: &mut T) -> Result<Reply
     ensures files { T.files tree.new ≡ T.files tree.old }
 {
     match load_file(alloc, tree, command.file())? {
-        Loaded::Bytes(bytes) => Ok(reply_over(alloc, command, bytes)?),
+        Loaded::Bytes(bytes) => reply_over(alloc, command, bytes, tree),
         Loaded::Answered(reply) => Ok(reply),
     }
 }
@@ -94,12 +105,39 @@ fn carry_out<T: Tree, O: Sink>(tree: &mut T, out: &mut O, reply: &Reply) -> Stat
     }
 }
 
+/// Does what the words ask, as `run` does.
+fn do_words<T: Tree, O: Sink>(alloc: Global, words: &[String], tree: &mut T, out: &mut O) -> Status
+    ensures answer { (answer : Answer) → IsAnswer (command_of (map string_bytes words.now)) (T.files tree.old) answer
+        → Carries answer result (record { files = T.files tree.old; written = O.written out.old }) (record { files = T.files tree.new; written = O.written out.new }) }
+    ensures tree_fault { result ≡ Status.TreeFault → Rose (T.faults tree.old) (T.faults tree.new) }
+    ensures sink_fault { result ≡ Status.SinkFault → Rose (O.faults out.old) (O.faults out.new) }
+    ensures completed { (answer : Answer) → IsAnswer (command_of (map string_bytes words.now)) (T.files tree.old) answer
+        → ¬ Rose (T.faults tree.old) (T.faults tree.new) → ¬ Rose (O.faults out.old) (O.faults out.new) → IsCompleted answer result }
+    ensures usage { command_of (map string_bytes words.now) ≡ None → result ≢ Status.TreeFault }
+    ensures silent { result ≡ Status.TreeFault → Keeps (O.written out.old) (O.written out.new) }
+    ensures tells { TellsAsBefore (O.written out.old) (O.written out.new) }
+    ensures tells_files { is_some (T.files tree.new) ≡ is_some (T.files tree.old) }
+    ensures tree_later { T.faults tree.old ≤ T.faults tree.new }
+    ensures sink_later { O.faults out.old ≤ O.faults out.new }
+{
+    one_answer();
+    match reply_to(alloc, words, tree) {
+        Ok(reply) => carry_out(tree, out, &reply),
+        Err(Stop::TreeFault) => Status::TreeFault,
+        Err(Stop::NoMemory) => Status::NoMemory,
+    }
+}
+
 /// Does what the words ask, over the files of a tree, and prints the answer to a sink. The words are those after the
 /// program's name. All files and all text are composed before the first file is made, and all files are made before the
 /// first byte of the text is written.
 pub fn run<T: Tree, O: Sink>(alloc: Global, words: &[String], tree: &mut T, out: &mut O) -> Status
     // Where the tree tells its files, status, files and text are those of the answer, as far as no fault ended the run.
     ensures answer { (answer : Answer) → IsAnswer (command_of (map string_bytes words.now)) (T.files tree.old) answer
+        → Carries answer result (record { files = T.files tree.old; written = O.written out.old }) (record { files = T.files tree.new; written = O.written out.new }) }
+
+    // Where the thematic index of the column agrees with it, `rows` does what a plain scan of the column does.
+    ensures indexed { (files : Files) (request : RowsRequest) (answer : Answer) → command_of (map string_bytes words.now) ≡ Some (Rows request) → T.files tree.old ≡ Some files → IndexAgrees files request → IsPlainAnswer files request answer
         → Carries answer result (record { files = T.files tree.old; written = O.written out.old }) (record { files = T.files tree.new; written = O.written out.new }) }
 
     // A fault is answered only where its count rose in this call; where neither rose, the run is completed.
@@ -116,10 +154,6 @@ pub fn run<T: Tree, O: Sink>(alloc: Global, words: &[String], tree: &mut T, out:
     ensures tree_later { T.faults tree.old ≤ T.faults tree.new }
     ensures sink_later { O.faults out.old ≤ O.faults out.new }
 {
-    one_answer();
-    match reply_to(alloc, words, tree) {
-        Ok(reply) => carry_out(tree, out, &reply),
-        Err(Stop::TreeFault) => Status::TreeFault,
-        Err(Stop::NoMemory) => Status::NoMemory,
-    }
+    plain_answers();
+    do_words(alloc, words, tree, out)
 }

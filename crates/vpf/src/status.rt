@@ -4,19 +4,7 @@ ghost use Rattle.std.specs.Prelude.{◌≡◌};
 ghost use Rattle.vpf.specs.declared.status.Stop.TheVariants as stops;
 
 use std::alloc::AllocError;
-
-/// How a run ends where nothing stops it.
-#[derive(Clone, Copy, Debug, PartialEq, Eq)]
-pub enum Verdict {
-    /// What was asked is done.
-    Done,
-    /// The files don't allow it.
-    Refused,
-    /// The words are no command.
-    Usage,
-    /// A bound is passed.
-    Limit,
-}
+use vpf_answers::Verdict;
 
 /// What stops a run before its answer is known.
 #[derive(Clone, Copy, Debug, PartialEq, Eq)]

@@ -2,6 +2,7 @@
 
 use crate::running::run;
 use crate::status::Status;
+use crate::testing::words_of;
 use std::alloc::{AllocError, Global};
 use std::test::Fail;
 use vpf_source::{MemSink, MemTree};
@@ -107,14 +108,6 @@ const NO_COMMANDS: [&[&str]; 11] = [
     &["--help"],
     &["tile", "lib", "cov", "out"],
 ];
-
-fn words_of(alloc: Global, words: &[&str]) -> Result<Vec<String>, AllocError> {
-    let mut owned = Vec::new(alloc);
-    for word in words {
-        owned.push(String::from_str(alloc, word)?)?;
-    }
-    Ok(owned)
-}
 
 fn put_samples(tree: &mut MemTree) -> Result<(), AllocError> {
     for (name, bytes) in [

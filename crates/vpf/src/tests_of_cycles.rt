@@ -2,6 +2,7 @@
 
 use crate::running::run;
 use crate::status::Status;
+use crate::testing::words_of;
 use std::alloc::{AllocError, Global};
 use std::test::Fail;
 use vpf_source::{MemSink, MemTree};
@@ -129,10 +130,7 @@ fn cycles_of(alloc: Global, table: &[u8]) -> Result<(Status, MemSink), AllocErro
     let mut tree = MemTree::new(alloc, 4096, Vec::new(alloc));
     tree.put("edg", table)?;
     let mut out = MemSink::new(alloc, 4096, Vec::new(alloc));
-    let words = vec![in alloc;
-        String::from_str(alloc, "cycles")?,
-        String::from_str(alloc, "edg")?,
-    ]?;
+    let words = words_of(alloc, &["cycles", "edg"])?;
     let status = run(alloc, &words, &mut tree, &mut out);
     Ok((status, out))
 }

@@ -2,9 +2,10 @@
 
 use crate::running::run;
 use crate::status::Status;
+use crate::testing::{sink, words_of};
 use std::alloc::{AllocError, Global};
 use std::test::Fail;
-use vpf_source::{MemSink, MemTree};
+use vpf_source::MemTree;
 
 /// One column of numbers and a row, 1, in either order.
 const LITTLE: &[u8] = b"\x19\0\0\0L;T;-;id=I,1,P,i,-,-,-,:;\x01\0\0\0";
@@ -112,14 +113,6 @@ const NO_SWAPS: [&[&str]; 8] = [
     &["swap", "little", "."],
 ];
 
-fn words_of(alloc: Global, words: &[&str]) -> Result<Vec<String>, AllocError> {
-    let mut owned = Vec::new(alloc);
-    for word in words {
-        owned.push(String::from_str(alloc, word)?)?;
-    }
-    Ok(owned)
-}
-
 /// A tree of samples, read in pieces, where one call fails.
 fn samples(alloc: Global, piece: u32, failing: u64) -> Result<MemTree, AllocError> {
     let piece = piece.max(1);
@@ -136,12 +129,6 @@ fn samples(alloc: Global, piece: u32, failing: u64) -> Result<MemTree, AllocErro
         tree.put(name, bytes)?;
     }
     Ok(tree)
-}
-
-/// A sink that takes pieces, where one write fails.
-fn sink(alloc: Global, piece: u32, failing: u64) -> Result<MemSink, AllocError> {
-    let piece = piece.max(1);
-    Ok(MemSink::new(alloc, piece, vec![in alloc; failing]?))
 }
 
 #[test]

@@ -33,11 +33,15 @@ unfoldable pub selected : Option Theme → Value → List Value → Result (List
 selected None v cells = Ok (scan_of v cells)
 selected (Some t) v cells = tested v cells (rows_of t v)
 
--- Ok with the rows, and else the row whose cell isn't the value; of memory nothing is said
+-- the row whose cell isn't the value; of memory nothing is said
+abbrev pub Refuses : SelectError → Result (List ℕ) ℕ → Type 0
+Refuses (errors.Disagrees row) rows = rows ≡ Err row
+Refuses errors.NoMemory rows = Unit {0}
+
+-- Ok with the rows, and else the row whose cell isn't the value
 abbrev pub Selects : {V : Type 0} → (V → List ℕ) → Result V SelectError → Result (List ℕ) ℕ → Type 0
 Selects view (Ok v) rows = rows ≡ Ok (view v)
-Selects view (Err (errors.Disagrees row)) rows = rows ≡ Err row
-Selects view (Err errors.NoMemory) rows = Unit {0}
+Selects view (Err error) rows = Refuses error rows
 
 -- an index that is given is one of this column of the table
 abbrev pub IsOwn : Option Theme → Grid → ℕ → Type 0
@@ -58,3 +62,12 @@ most_looks (Some t) v grid = length (rows_of t v)
 abbrev pub Compares : Option Theme → ℕ → ℕ → Type 0
 Compares None old new = new ≡ old
 Compares (Some t) old new = (old ≤ new) × (t.sorted ≡ true → 2 ^ (new - old) ≤ 2 * length t.entries + 1) × (t.sorted ≡ false → new ≤ old + length t.entries)
+
+-- a row that is refused is one of so many
+abbrev pub IsRefused : ℕ → SelectError → Type 0
+IsRefused n (errors.Disagrees row) = (1 ≤ row) × (row ≤ n)
+IsRefused n errors.NoMemory = Unit {0}
+
+abbrev pub RefusesRow : {V : Type 0} → ℕ → Result V SelectError → Type 0
+RefusesRow n (Ok v) = Unit {0}
+RefusesRow n (Err error) = IsRefused n error

@@ -5,7 +5,7 @@ ghost use Rattle.std.specs.Option.{option_copied};
 ghost use Rattle.vpf_value.specs.Values.{view};
 ghost use Rattle.vpf_theme.specs.Findings.{cells_of};
 ghost use Rattle.vpf_theme.specs.Views.{AreRows};
-ghost use Rattle.vpf_select.specs.Selecting.{Compares, FitsColumn, IsOwn, Selects, most_looks, selected, tested};
+ghost use Rattle.vpf_select.specs.Selecting.{Compares, FitsColumn, IsOwn, RefusesRow, Selects, most_looks, selected, tested};
 
 use crate::scanning::{Test, scan};
 use std::alloc::{AllocError, AllocFailed, Global};
@@ -60,6 +60,7 @@ fn tested<L: Ledger>(
     requires column { test.now.column < length table.now.head.columns }
     requires rows { AreRows (length table.now.rows) hits.left }
     ensures value { Selects (λ v. v.items) result (tested (view test.now.value) (cells_of table.now test.now.column) hits.entry.left) }
+    ensures refused { RefusesRow (length table.now.rows) result }
     ensures more { steps.old ≤ steps.new }
     ensures cost { steps.new ≤ steps.old + length hits.entry.left }
 {
@@ -91,6 +92,8 @@ pub fn select<L: Ledger, M: Ledger>(
     requires own { IsOwn (option_copied theme) table.now test.now.column }
     requires fits { FitsColumn table.now test.now.column (view test.now.value) }
     ensures value { Selects (λ v. v.items) result (selected (option_copied theme.entry) (view test.now.value) (cells_of table.now test.now.column)) }
+    // A row that is refused is a row of the table.
+    ensures refused { RefusesRow (length table.now.rows) result }
     ensures more { steps.old ≤ steps.new }
     ensures cost { steps.new ≤ steps.old + most_looks (option_copied theme.entry) (view test.now.value) table.now }
     ensures compared { Compares (option_copied theme.entry) entries.old entries.new }

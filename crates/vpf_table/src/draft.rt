@@ -144,8 +144,8 @@ impl Draft {
     pub fn finish(self, alloc: Global, header: &Header<'_>) -> Result<Written, AllocError>
         requires short { length (canonical_text header.now) ≤ longest_text }
         requires few { length (progress self).spans < 2 ^ 32 }
-        ensures table { IfOk result (λ made. made.table ≡ self.table.items) }
-        ensures index { IfOk result (λ made. made.index ≡ (if self.varies then Some (row_index header.now.order (length (canonical_text header.now)) self.spans.items) else None)) }
+        ensures table { IfOk result (λ made. made.table ≡ (progress self).table) }
+        ensures index { IfOk result (λ made. made.index ≡ (if (progress self).varies then Some (row_index header.now.order (length (canonical_text header.now)) (progress self).spans) else None)) }
     {
         if !self.varies {
             return Ok(Written {

@@ -1,5 +1,5 @@
-use Rattle.vpf.proofs.Answering.{usage_makes_none}
+use Rattle.vpf.proofs.IndexedAnswers.{words_answered}
 use Rattle.vpf.proofs.running.run.Goals as goal
 
-pub returns-in-Ok-clause-usage : goal.returns-in-Ok-clause-usage
-returns-in-Ok-clause-usage g c none = c.carry_out.ensures.makes_none (usage_makes_none _ _ _ none c.in-Ok.ensures.told)
+pub returns-clause-indexed : goal.returns-clause-indexed
+returns-clause-indexed g c files request answer e f agrees plain = c.do_words.ensures.answer answer (words_answered c.plain_answers.ensures _ _ files request answer e f agrees plain)

@@ -1,0 +1,34 @@
+#!/usr/bin/env bash
+# `index` and `rows` over 1,000,000 rows: a column of 10,000 values and one of 100, beside awk over the same rows as text in the same run.
+# (Bitmaps of 10,000 values would be longer than a file may be.)
+. "$(dirname "$0")/common.sh"
+python3 "$here/make_rows.py" "$work/half.tab" "$work/half.txt" 500000
+python3 "$here/make_rows.py" "$work/rows.tab" "$work/rows.txt" 1000000
+cd "$work"
+measure "index list, 500,000 rows" "$vpf" index half.tab v list half.lti
+half=$seconds
+measure "index list, 1,000,000 rows" "$vpf" index rows.tab v list made.lti
+ratio "twice the rows" "$seconds" "$half"
+measure "index bitmap, 1,000,000 rows" "$vpf" index rows.tab g bitmap made.lti
+
+# select COLUMN VALUE FIELD KIND..: rows without an index, and with one of each kind
+select_by() {
+  column=$1 value=$2 field=$3
+  shift 3
+  rm -f "$column.lti"
+  measure "awk, column $column" awk "\$$field == $value { print \$1 }" rows.txt
+  awk=$seconds
+  measure "rows $column, plain scan" "$vpf" rows rows.tab "$column" "$value"
+  scan=$seconds
+  ratio "scan to awk" "$scan" "$awk"
+  "$vpf" rows rows.tab "$column" "$value" > scanned
+  for kind in "$@"; do
+    "$vpf" index rows.tab "$column" "$kind" "$column.lti" > made
+    measure "rows $column, $kind" "$vpf" rows rows.tab "$column" "$value"
+    ratio "$kind to scan" "$seconds" "$scan"
+    ratio "$kind to awk" "$seconds" "$awk"
+    "$vpf" rows rows.tab "$column" "$value" | cmp - scanned
+  done
+}
+select_by v 1234 2 list
+select_by g 34 3 list bitmap

@@ -1,0 +1,592 @@
+//! `index` and `rows` over tables in memory.
+
+use crate::running::run;
+use crate::status::Status;
+use crate::testing::{sink, words_of};
+use std::alloc::{AllocError, Global};
+use std::test::Fail;
+use vpf_source::MemTree;
+
+/// Nine rows: `id` holds their numbers, and `c` is `b` in row 2 and `a` elsewhere.
+const TABLE: &[u8] =
+    b"\x2e\0\0\0L;T;-;id=I,1,P,i,-,-,-,:c=T,1,N,d,-,t.lti,-,:;\x01\0\0\0a\x02\0\0\0b\x03\0\0\0a\x04\0\0\0a\x05\0\0\0a\x06\0\0\0a\x07\0\0\0a\x08\0\0\0a\x09\0\0\0a";
+
+/// The index of `c` as lists of rows.
+const LIST: &[u8] =
+    b"N\0\0\0\x02\0\0\0\x09\0\0\0TT\x01\0\0\0St.tab       c                        S\0\0\0aN\0\0\0\x08\0\0\0b\x02\0\0\0\0\0\0\0\x01\0\x03\0\x04\0\x05\0\x06\0\x07\0\x08\0\x09\0";
+
+/// The same as bitmaps.
+const BITMAP: &[u8] =
+    b"N\0\0\0\x02\0\0\0\x09\0\0\0BT\x01\0\0\0St.tab       c                        S\0\0\0aN\0\0\0\x02\0\0\0bP\0\0\0\x02\0\0\0\xfd\x01\x02\0";
+
+/// The index of `id`, nine lists of one row.
+const IDS: &[u8] =
+    b"\xa8\0\0\0\x09\0\0\0\x09\0\0\0TI\x01\0\0\0St.tab       id                       S\0\0\0\x01\0\0\0\x01\0\0\0\0\0\0\0\x02\0\0\0\x02\0\0\0\0\0\0\0\x03\0\0\0\x03\0\0\0\0\0\0\0\x04\0\0\0\x04\0\0\0\0\0\0\0\x05\0\0\0\x05\0\0\0\0\0\0\0\x06\0\0\0\x06\0\0\0\0\0\0\0\x07\0\0\0\x07\0\0\0\0\0\0\0\x08\0\0\0\x08\0\0\0\0\0\0\0\x09\0\0\0\x09\0\0\0\0\0\0\0";
+
+/// Three rows of a triplet id and a text of any count, `a`, `bb` and `a`, and where they lie.
+const VARYING: &[u8] =
+    b"\x2d\0\0\0L;T;-;k=K,1,N,d,-,-,-,:c=T,*,N,d,-,v.lti,-,:;\x40\x07\x01\0\0\0a\x40\x08\x02\0\0\0bb\0\x01\0\0\0a";
+
+const VARYING_INDEX: &[u8] =
+    b"\x03\0\0\0\x2d\0\0\0\x31\0\0\0\x07\0\0\0\x38\0\0\0\x08\0\0\0\x40\0\0\0\x06\0\0\0";
+
+/// Columns that can't be indexed, and one row of them.
+const OTHERS: &[u8] =
+    b"\x4b\0\0\0L;T;-;k=K,1,N,d,-,-,-,:v=T,*,N,d,-,-,-,:x=X,1,N,d,-,-,-,:c=C,1,N,d,-,-,-,:;\0\0\0\0\0\0\0\0\0\0\0\0\0";
+
+/// Words after `index`, what is printed, and the file that is made, with its bytes.
+const INDEXES: [([&str; 4], &str, Option<(&str, &[u8])>); 15] = [
+    (
+        ["t.tab", "c", "list", "t.lti"],
+        "made t.lti 94\nfiles 1\n",
+        Some(("t.lti", LIST)),
+    ),
+    (
+        ["./t.tab", "c", "bitmap", "a//b"],
+        "made a/b 82\nfiles 1\n",
+        Some(("a/b", BITMAP)),
+    ),
+    (
+        ["lib/t.tab", "C", "list", "x"],
+        "made x 94\nfiles 1\n",
+        Some(("x", LIST)),
+    ),
+    (
+        ["t.tab", "id", "list", "i.lti"],
+        "made i.lti 168\nfiles 1\n",
+        Some(("i.lti", IDS)),
+    ),
+    (
+        ["t.tab", "q", "list", "i.lti"],
+        "refused no-column q\n",
+        None,
+    ),
+    (["t.tab", "", "list", "i.lti"], "refused no-column \n", None),
+    (
+        ["others", "k", "list", "i.lti"],
+        "refused no-index k\n",
+        None,
+    ),
+    (
+        ["others", "V", "bitmap", "i.lti"],
+        "refused no-index V\n",
+        None,
+    ),
+    (
+        ["others", "x", "list", "i.lti"],
+        "refused no-index x\n",
+        None,
+    ),
+    (
+        ["others", "c", "list", "i.lti"],
+        "refused no-index c\n",
+        None,
+    ),
+    (
+        ["others", "a\\", "list", "i.lti"],
+        "refused no-column a\\5c\n",
+        None,
+    ),
+    (
+        ["none", "c", "list", "i.lti"],
+        "refused missing none\n",
+        None,
+    ),
+    (
+        ["cut", "q", "list", "i.lti"],
+        "refused cell-cut cut at 94\n",
+        None,
+    ),
+    (
+        ["many", "n", "list", "i.lti"],
+        "made i.lti 300060\nfiles 1\n",
+        None,
+    ),
+    (
+        ["many", "n", "bitmap", "i.lti"],
+        "limit file i.lti 112800060\n",
+        None,
+    ),
+];
+
+/// The file of a table and the column and value that are asked for, with what is printed where no index is there, or one that agrees.
+const ROWS: [([&str; 3], &str); 22] = [
+    (["t.tab", "c", "b"], "2\nfound 1\n"),
+    (["//t.tab", "c", "b"], "refused missing /t.tab\n"),
+    (["t.tab", "C", "a"], "1\n3\n4\n5\n6\n7\n8\n9\nfound 8\n"),
+    (["t.tab", "c", "z"], "found 0\n"),
+    (["t.tab", "c", ""], "found 0\n"),
+    (["t.tab", "c", "bb"], "refused bad-value c\n"),
+    (["t.tab", "q", "b"], "refused no-column q\n"),
+    (["t.tab", "id", "4"], "4\nfound 1\n"),
+    (["t.tab", "id", "0004"], "4\nfound 1\n"),
+    (["t.tab", "ID", "-4"], "found 0\n"),
+    (["t.tab", "id", "2147483648"], "refused bad-value id\n"),
+    (["t.tab", "id", "+4"], "refused bad-value id\n"),
+    (["lib/t.tab", "c", "b"], "2\nfound 1\n"),
+    (["v.tab", "c", "a"], "1\n3\nfound 2\n"),
+    (["v.tab", "c", "bb"], "2\nfound 1\n"),
+    (["v.tab", "c", "b"], "found 0\n"),
+    (["v.tab", "k", "7"], "refused bad-value k\n"),
+    (["others", "x", ""], "refused bad-value x\n"),
+    (["others", "c", "[]"], "refused bad-value c\n"),
+    (["none", "c", "b"], "refused missing none\n"),
+    (["cut", "q", "b"], "refused cell-cut cut at 94\n"),
+    (["many", "n", "29999"], "30000\nfound 1\n"),
+];
+
+/// A change to the bytes of an index: what stands at an offset, and how long the file is.
+#[derive(Clone, Copy)]
+struct Change {
+    of: &'static [u8],
+    at: usize,
+    bytes: &'static [u8],
+    len: usize,
+}
+
+/// Changes to the index of `c`, a value, and what is printed: each fault at its place, each disagreement on the index as a
+/// whole, and rows that the index lists wrongly.
+const CHANGES: [(Change, &str, &str); 24] = [
+    (
+        Change {
+            of: LIST,
+            at: 0,
+            bytes: b"",
+            len: 94,
+        },
+        "b",
+        "2\nfound 1\n",
+    ),
+    (
+        Change {
+            of: BITMAP,
+            at: 0,
+            bytes: b"",
+            len: 82,
+        },
+        "b",
+        "2\nfound 1\n",
+    ),
+    (
+        Change {
+            of: LIST,
+            at: 0,
+            bytes: b"",
+            len: 59,
+        },
+        "b",
+        "refused theme-cut t.lti at 0\n",
+    ),
+    (
+        Change {
+            of: LIST,
+            at: 12,
+            bytes: b"X",
+            len: 94,
+        },
+        "b",
+        "refused theme-form t.lti at 12\n",
+    ),
+    (
+        Change {
+            of: LIST,
+            at: 13,
+            bytes: b"K",
+            len: 94,
+        },
+        "b",
+        "refused theme-kind t.lti at 13\n",
+    ),
+    (
+        Change {
+            of: LIST,
+            at: 14,
+            bytes: b"\0",
+            len: 94,
+        },
+        "b",
+        "refused theme-count t.lti at 14\n",
+    ),
+    (
+        Change {
+            of: LIST,
+            at: 18,
+            bytes: b"X",
+            len: 94,
+        },
+        "b",
+        "refused theme-rowtype t.lti at 18\n",
+    ),
+    (
+        Change {
+            of: LIST,
+            at: 0,
+            bytes: b"O",
+            len: 94,
+        },
+        "b",
+        "refused theme-size t.lti at 0\n",
+    ),
+    (
+        Change {
+            of: LIST,
+            at: 0,
+            bytes: b"\x3c",
+            len: 94,
+        },
+        "b",
+        "2\nfound 1\n",
+    ),
+    (
+        Change {
+            of: LIST,
+            at: 61,
+            bytes: b"\x01\0\0\0\0\0\0\0",
+            len: 77,
+        },
+        "b",
+        "refused theme-cut t.lti at 69\n",
+    ),
+    (
+        Change {
+            of: LIST,
+            at: 60,
+            bytes: b"b",
+            len: 94,
+        },
+        "b",
+        "refused theme-sort t.lti at 69\n",
+    ),
+    (
+        Change {
+            of: LIST,
+            at: 61,
+            bytes: b"M",
+            len: 94,
+        },
+        "b",
+        "refused theme-span t.lti at 60\n",
+    ),
+    (
+        Change {
+            of: LIST,
+            at: 0,
+            bytes: b"",
+            len: 93,
+        },
+        "b",
+        "refused theme-span t.lti at 60\n",
+    ),
+    (
+        Change {
+            of: BITMAP,
+            at: 65,
+            bytes: b"\x03",
+            len: 82,
+        },
+        "b",
+        "refused theme-span t.lti at 60\n",
+    ),
+    (
+        Change {
+            of: LIST,
+            at: 78,
+            bytes: b"\0",
+            len: 94,
+        },
+        "b",
+        "refused theme-row t.lti at 78\n",
+    ),
+    (
+        Change {
+            of: LIST,
+            at: 92,
+            bytes: b"\x0a",
+            len: 94,
+        },
+        "b",
+        "refused theme-row t.lti at 92\n",
+    ),
+    (
+        Change {
+            of: LIST,
+            at: 70,
+            bytes: b"\x0a",
+            len: 94,
+        },
+        "b",
+        "refused theme-row t.lti at 69\n",
+    ),
+    (
+        Change {
+            of: BITMAP,
+            at: 79,
+            bytes: b"\x03",
+            len: 82,
+        },
+        "b",
+        "refused theme-pad t.lti at 79\n",
+    ),
+    (
+        Change {
+            of: LIST,
+            at: 13,
+            bytes: b"L",
+            len: 94,
+        },
+        "bb",
+        "disagree 1 t.lti row 0 c: L,1, T,1\n",
+    ),
+    (
+        Change {
+            of: LIST,
+            at: 8,
+            bytes: b"\x0a",
+            len: 94,
+        },
+        "bb",
+        "disagree 1 t.lti row 0 c: 10, 9\n",
+    ),
+    (
+        Change {
+            of: LIST,
+            at: 70,
+            bytes: b"\x03",
+            len: 94,
+        },
+        "b",
+        "refused index-disagrees t.lti row 3: \"a\", \"b\"\n",
+    ),
+    (
+        Change {
+            of: LIST,
+            at: 78,
+            bytes: b"\x02",
+            len: 94,
+        },
+        "a",
+        "refused index-disagrees t.lti row 2: \"b\", \"a\"\n",
+    ),
+    (
+        Change {
+            of: BITMAP,
+            at: 80,
+            bytes: b"\x06",
+            len: 82,
+        },
+        "b",
+        "refused index-disagrees t.lti row 3: \"a\", \"b\"\n",
+    ),
+    (
+        Change {
+            of: LIST,
+            at: 90,
+            bytes: b"\x08\0\x08",
+            len: 94,
+        },
+        "a",
+        "1\n3\n4\n5\n6\n7\n8\n8\nfound 8\n",
+    ),
+];
+
+/// What stands under the name of the variable-length index of `v.tab`, and what `rows v.tab c a` prints.
+const INDEXED: [(Option<&[u8]>, &str); 6] = [
+    (None, "1\n3\nfound 2\n"),
+    (Some(VARYING_INDEX), "1\n3\nfound 2\n"),
+    (Some(b""), "refused index-cut v.tax at 0\n"),
+    (
+        Some(b"\x01\0\0\0\x2d\0\0\0\x31\0\0\0"),
+        "refused index-cut v.tax at 8\n",
+    ),
+    (
+        Some(b"\0\0\0\0\x2d\0\0\0"),
+        "refused index-count v.tax at 0\n",
+    ),
+    (
+        Some(b"\x03\0\0\0\x2d\0\0\0\x31\0\0\0\x07\0\0\0\x38\0\0\0\x09\0\0\0\x40\0\0\0\x06\0\0\0"),
+        "refused index-row v.tax at 16\n",
+    ),
+];
+
+/// Words that are no command.
+const NO_COMMANDS: [&[&str]; 12] = [
+    &["rows"],
+    &["rows", "t.tab"],
+    &["rows", "t.tab", "c"],
+    &["rows", "t.tab", "c", "b", "b"],
+    &["rows", ".", "c", "b"],
+    &["index", "t.tab", "c", "list"],
+    &["index", "t.tab", "c", "List", "t.lti"],
+    &["index", "t.tab", "c", "", "t.lti"],
+    &["index", "t.tab", "c", "list", "./"],
+    &["index", "", "c", "list", "t.lti"],
+    &["index", "t.tab", "c", "list", ".//t.tab"],
+    &["index", "t.tab", "c", "list", "t.lti", "t.lti"],
+];
+
+/// A column of 30,000 numbers, each another.
+fn many(alloc: Global) -> Result<Vec<u8>, AllocError> {
+    let mut bytes = b"\x18\0\0\0L;T;-;n=S,1,N,d,-,-,-,:;".to_vec(alloc)?;
+    for number in 0..30_000_i16 {
+        bytes.extend_from_slice(&number.to_le_bytes())?;
+    }
+    Ok(bytes)
+}
+
+/// A tree of samples, read in pieces, where one call fails.
+fn samples(alloc: Global, piece: u32, failing: u64) -> Result<MemTree, AllocError> {
+    let piece = piece.max(1);
+    let mut tree = MemTree::new(alloc, piece, vec![in alloc; failing]?);
+    let numbers = many(alloc)?;
+    for (name, bytes) in [
+        ("t.tab", TABLE),
+        ("lib/t.tab", TABLE),
+        ("v.tab", VARYING),
+        ("others", OTHERS),
+        ("cut", &TABLE[..94]),
+        ("many", &numbers),
+    ] {
+        tree.put(name, bytes)?;
+    }
+    Ok(tree)
+}
+
+/// The status that goes with a text.
+fn status_of(text: &str) -> Status {
+    if text.starts_with("limit") {
+        return Status::Limit;
+    }
+    if text.starts_with("refused") || text.starts_with("disagree") {
+        return Status::Refused;
+    }
+    Status::Done
+}
+
+/// The bytes of a changed index.
+fn changed(alloc: Global, change: &Change) -> Result<Vec<u8>, AllocError> {
+    let mut bytes = Vec::new(alloc);
+    for (i, b) in change.of.iter().enumerate() {
+        let byte = match i.checked_sub(change.at) {
+            Some(k) if k < change.bytes.len() => change.bytes[k],
+            _ => *b,
+        };
+        bytes.push(byte)?;
+    }
+    bytes.truncate(change.len);
+    Ok(bytes)
+}
+
+#[test]
+fn writes_indexes(rt: HostRuntime) -> Result<(), Fail> {
+    let alloc = rt.alloc();
+    for ([file, column, kind, out], text, made) in INDEXES {
+        let mut tree = samples(alloc, 4096, 0)?;
+        let mut printed = sink(alloc, 4096, 0)?;
+        let words = words_of(alloc, &["index", file, column, kind, out])?;
+        let status = run(alloc, &words, &mut tree, &mut printed);
+        assert_eq!(rt; printed.bytes(), text.as_bytes(), "{file} {column} {out}");
+        assert_eq!(rt; status, status_of(text), "{file} {column} {out}");
+        if let Some((name, bytes)) = made {
+            assert_eq!(rt; tree.file(name), Some(bytes), "{file} {column} {out}");
+        }
+    }
+    Ok(())
+}
+
+/// Without an index, and again behind `index`, with its list and its bitmap.
+#[test]
+fn selects_rows(rt: HostRuntime) -> Result<(), Fail> {
+    let alloc = rt.alloc();
+    for kind in [None, Some("list"), Some("bitmap")] {
+        let mut tree = samples(alloc, 4096, 0)?;
+        if let Some(kind) = kind {
+            let mut printed = sink(alloc, 4096, 0)?;
+            let words = words_of(alloc, &["index", "t.tab", "c", kind, "t.lti"])?;
+            assert_eq!(rt; run(alloc, &words, &mut tree, &mut printed), Status::Done);
+        }
+        for ([file, column, value], text) in ROWS {
+            let mut printed = sink(alloc, 4096, 0)?;
+            let words = words_of(alloc, &["rows", file, column, value])?;
+            let status = run(alloc, &words, &mut tree, &mut printed);
+            assert_eq!(rt; printed.bytes(), text.as_bytes(), "{file} {column} {value}");
+            assert_eq!(rt; status, status_of(text), "{file} {column} {value}");
+        }
+    }
+    Ok(())
+}
+
+#[test]
+fn tells_what_is_wrong_with_an_index(rt: HostRuntime) -> Result<(), Fail> {
+    let alloc = rt.alloc();
+    for (change, value, text) in CHANGES {
+        let mut tree = samples(alloc, 4096, 0)?;
+        tree.put("t.lti", &changed(alloc, &change)?)?;
+        let mut printed = sink(alloc, 4096, 0)?;
+        let words = words_of(alloc, &["rows", "t.tab", "c", value])?;
+        let status = run(alloc, &words, &mut tree, &mut printed);
+        assert_eq!(rt; printed.bytes(), text.as_bytes());
+        assert_eq!(rt; status, status_of(text), "{text}");
+    }
+    for (index, text) in INDEXED {
+        let mut tree = samples(alloc, 4096, 0)?;
+        if let Some(bytes) = index {
+            tree.put("v.tax", bytes)?;
+        }
+        let mut printed = sink(alloc, 4096, 0)?;
+        let words = words_of(alloc, &["rows", "v.tab", "c", "a"])?;
+        let status = run(alloc, &words, &mut tree, &mut printed);
+        assert_eq!(rt; printed.bytes(), text.as_bytes());
+        assert_eq!(rt; status, status_of(text), "{text}");
+    }
+    Ok(())
+}
+
+#[test]
+fn tells_what_is_no_selection(rt: HostRuntime) -> Result<(), Fail> {
+    let alloc = rt.alloc();
+    for words in NO_COMMANDS {
+        let mut tree = samples(alloc, 1, 1)?;
+        let mut printed = sink(alloc, 1, 0)?;
+        let owned = words_of(alloc, words)?;
+        let status = run(alloc, &owned, &mut tree, &mut printed);
+        assert_eq!(rt; printed.bytes(), b"usage\n".as_slice(), "{words:?}");
+        assert_eq!(rt; status, Status::Usage, "{words:?}");
+        assert_eq!(rt; tree.file("t.lti"), None, "{words:?}");
+    }
+    Ok(())
+}
+
+/// Each call of the tree fails in turn: size and bytes of the table, of its index, and of the index of the column.
+#[test]
+fn stops_at_each_call(rt: HostRuntime) -> Result<(), Fail> {
+    let alloc = rt.alloc();
+    for failing in 1..=7 {
+        let mut tree = samples(alloc, 4096, failing)?;
+        tree.put("v.tax", VARYING_INDEX)?;
+        tree.put("v.lti", LIST)?;
+        let mut printed = sink(alloc, 4096, 0)?;
+        let words = words_of(alloc, &["rows", "v.tab", "c", "a"])?;
+        let status = run(alloc, &words, &mut tree, &mut printed);
+        let (want, text) = if failing <= 6 {
+            (Status::TreeFault, "")
+        } else {
+            (Status::Refused, "disagree 1 v.lti row 0 c: T,1, T,*\n")
+        };
+        assert_eq!(rt; status, want, "{failing}");
+        assert_eq!(rt; printed.bytes(), text.as_bytes(), "{failing}");
+    }
+    for failing in 1..=4 {
+        let mut tree = samples(alloc, 4096, failing)?;
+        let mut printed = sink(alloc, 4096, 0)?;
+        let words = words_of(alloc, &["index", "t.tab", "c", "list", "t.lti"])?;
+        let status = run(alloc, &words, &mut tree, &mut printed);
+        let (want, made) = match failing {
+            1 | 2 => (Status::TreeFault, None),
+            3 => (Status::TreeFault, Some(&LIST[..47])),
+            _ => (Status::Done, Some(LIST)),
+        };
+        assert_eq!(rt; status, want, "{failing}");
+        assert_eq!(rt; tree.file("t.lti"), made, "{failing}");
+    }
+    Ok(())
+}

@@ -1,0 +1,5 @@
+pub mod AgreeingAnswers
+pub mod CellOfRow
+pub mod ColumnPlaces
+pub mod Lines
+pub mod Selections

@@ -1,0 +1,14 @@
+pub mod Texts
+pub mod Answer
+pub mod Tables
+pub mod Columns
+pub mod Show
+pub mod Check
+pub mod Disagreeing
+pub mod Cycling
+pub mod Making
+pub mod Swapping
+pub mod SwapPlans
+pub mod Indexing
+pub mod Selecting
+pub mod Laws

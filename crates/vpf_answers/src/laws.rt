@@ -1,0 +1,14 @@
+//! Laws of the answers.
+
+ghost use Rattle.vpf_answers.specs.Laws.{IndexAnswersAsTheScan};
+
+use vpf_select::laws::indexed_selection_is_the_scan;
+use vpf_theme::laws::agreement_is_no_finding;
+
+/// Where the index of a column agrees with it, the answer by the index is that by the plain scan.
+pub fn index_answers_as_the_scan()
+    ensures { IndexAnswersAsTheScan }
+{
+    indexed_selection_is_the_scan();
+    agreement_is_no_finding();
+}

@@ -1,0 +1,4 @@
+pub mod Filtering
+pub mod LastLetters
+pub mod Padding
+pub mod Pieces

@@ -1,0 +1,4 @@
+pub mod Naming
+pub mod Indexes
+pub mod Folders
+pub mod Items

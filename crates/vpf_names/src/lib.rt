@@ -1,0 +1,14 @@
+//! Names of files: those that words and headers give, and those of indexes (MIL-STD-2407, 5.2, names of files).
+#![tactic(auto)]
+
+mod folders;
+mod indexes;
+mod items;
+mod naming;
+#[cfg(test)]
+mod tests;
+
+pub use folders::last_part;
+pub use indexes::{ends_in_x, index_name};
+pub use items::file_beside;
+pub use naming::file_name;
