@@ -7,15 +7,18 @@ work=$(mktemp -d)
 trap 'rm -rf "$work"' EXIT
 
 # measure NAME COMMAND..: runs the command three times, prints the best time and the peak memory, and leaves the time in $seconds.
-# The peak is never told below that of the process that measures, about 14 MiB.
+# The peak is never told below that of the process that measures, about 14 MiB. The files that $makes names are removed before each run,
+# so that each run makes new ones: to empty a large file that is still being written to the disk takes longer than to copy it.
 measure() {
   name=$1
   shift
-  python3 - "$work/seconds" "$name" "$@" <<'PY'
-import resource, subprocess, sys, time
-out, name, command = sys.argv[1], sys.argv[2], sys.argv[3:]
-best = min_memory = None
+  python3 - "$work/seconds" "${makes:-}" "$name" "$@" <<'PY'
+import os, resource, subprocess, sys, time
+out, makes, name, command = sys.argv[1], sys.argv[2].split(), sys.argv[3], sys.argv[4:]
+best = None
 for _ in range(3):
+    for made in filter(os.path.exists, makes):
+        os.remove(made)
     start = time.perf_counter()
     subprocess.run(command, stdout=subprocess.DEVNULL, check=True)
     spent = time.perf_counter() - start

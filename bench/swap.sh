@@ -8,8 +8,10 @@ for kind in fixed varying; do
   made=$(awk '/^made/ { sum += $3 } END { print sum }' made)
   read=$(wc -c < $kind.tab)
   echo "$kind rows: $read bytes read, $made bytes made"
+  makes="$kind.out $kind.oux"
   measure "vpf swap" "$vpf" swap $kind.tab $kind.out
   swap=$seconds
+  makes=copied
   measure "cp" cp $kind.tab copied
   ratio "swap to cp" "$swap" "$seconds"
   measure "dd conv=swab" dd if=$kind.tab of=copied conv=swab bs=1M status=none

@@ -14,7 +14,7 @@ use Rattle.vpf_theme.specs.Reading.{theme_of}
 use Rattle.vpf_names.specs.Indexes.{index_name}
 use Rattle.vpf_answers.specs.declared.requests.RowsRequest.{RowsRequest}
 use Rattle.vpf_answers.specs.Answer.{Answer}
-use Rattle.vpf_answers.specs.Columns.{on_column, on_found, on_place}
+use Rattle.vpf_answers.specs.Columns.{on_found, on_place}
 use Rattle.vpf_answers.specs.Laws.{IndexAnswersAsTheScan}
 use Rattle.vpf_answers.specs.Selecting.{fitting_answer, on_theme, scan_answer}
 use Rattle.vpf_answers.specs.Tables.{on_table}

@@ -8,8 +8,6 @@ use Rattle.vpf.specs.declared.command.Command.{Command}
 use Rattle.vpf.specs.declared.command.Command.TheVariants.{Show, Table, Cycles, Swap, Index, Rows}
 use Rattle.vpf_theme.specs.declared.layout.Form.{Form}
 use Rattle.vpf_theme.specs.declared.layout.Form.TheVariants as forms
-use Rattle.vpf_answers.specs.declared.requests.IndexRequest.{IndexRequest}
-use Rattle.vpf_answers.specs.declared.requests.RowsRequest.{RowsRequest}
 use Rattle.vpf_answers.specs.declared.texts.Refusal.TheVariants.{Missing}
 use Rattle.vpf_answers.specs.Answer.{Answer, refused, usage_answer}
 use Rattle.vpf_names.specs.Naming.{file_name}

@@ -2,12 +2,13 @@
 use Rattle.std.specs.Prelude.{◌≡◌, ℕ, List, Option, None, Some, Result, Ok, Err, slice_get}
 use Rattle.vpf_source.specs.Files.{Files}
 use Rattle.vpf_source.specs.Loading.{load_answer}
+use Rattle.vpf_triplet.specs.Numbers.{IsBytes}
 use Rattle.vpf_head.specs.Head.{Col, place_of}
 use Rattle.vpf_table.specs.Grid.{Grid}
 use Rattle.vpf_table.specs.Opening.{opened_of}
-use Rattle.vpf_theme.specs.Agreeing.{AgreesAt}
-use Rattle.vpf_theme.specs.Entries.{Theme}
-use Rattle.vpf_theme.specs.Reading.{theme_of}
+use Rattle.vpf_table.specs.Reading.{table_of}
+use Rattle.vpf_theme.specs.Agreeing.{ServesColumn}
+use Rattle.vpf_answers.specs.declared.requests.IndexRequest.{IndexRequest}
 use Rattle.vpf_answers.specs.declared.requests.RowsRequest.{RowsRequest}
 use Rattle.vpf_answers.specs.Answer.{Answer}
 use Rattle.vpf.specs.declared.command.Command.TheVariants.{Rows}
@@ -17,7 +18,7 @@ use Rattle.vpf.specs.Commands.{IsFileAnswer, IsAnswerTo}
 
 -- a file that is loaded so is a thematic index that agrees with the column at this position; an absent one is none
 abbrev pub AgreesIfThere : Grid → ℕ → Result (Option (List ℕ)) ℕ → Type 0
-AgreesIfThere g c (Ok (Some bytes)) = (t : Theme) × (theme_of g.head.order bytes ≡ Ok t) × AgreesAt t g c
+AgreesIfThere g c (Ok (Some bytes)) = ServesColumn g c bytes
 AgreesIfThere g c (Ok None) = Unit {0}
 AgreesIfThere g c (Err size) = ⊥
 
@@ -38,3 +39,19 @@ IsPlainAnswer files request answer = IsFileAnswer (λ bytes plain. plain ≡ pla
 -- where the index agrees, the answer by a plain scan is the answer
 abbrev pub PlainAnswers : Type 0
 PlainAnswers = (files : Files) (request : RowsRequest) (answer : Answer) → IndexAgrees files request → IsPlainAnswer files request answer → IsAnswerTo (Rows request) files answer
+
+-- Rows are asked for of the column of a table that is indexed, and the table's header names the index that is made as that
+-- of the column. The table's file holds bytes.
+pub record AsksForIndexed (files : Files) (request : IndexRequest) (asked : RowsRequest) : Type 0 where
+  pub same_file : asked.file ≡ request.file
+  pub same_column : asked.column ≡ request.column
+  pub bytes : List ℕ
+  pub held : files request.file ≡ Some bytes
+  pub are : IsBytes bytes
+  pub grid : Grid
+  pub read : table_of bytes ≡ Ok grid
+  pub place : ℕ
+  pub found : place_of request.column grid.head.columns ≡ Some place
+  pub column : Col
+  pub there : slice_get grid.head.columns place ≡ Some column
+  pub named : theme_file asked column ≡ Some request.out

@@ -1,5 +1,5 @@
 -- `rows` over the files of a tree: the table, its variable-length index where rows vary, and the thematic index of the column.
-use Rattle.std.specs.Prelude.{ℕ, List, Option, None, Some, option_and_then, Result, if◌then◌else◌}
+use Rattle.std.specs.Prelude.{ℕ, List, Option, None, Some, option_and_then, if◌then◌else◌}
 use Rattle.vpf_source.specs.Files.{Files}
 use Rattle.vpf_source.specs.Loading.{load_answer}
 use Rattle.vpf_head.specs.Head.{Col, varies_in}

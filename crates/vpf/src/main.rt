@@ -1,4 +1,4 @@
-//! Shows, checks and lists tables of Vector Product Format libraries (MIL-STD-2407).
+//! Shows, checks, lists and writes tables of Vector Product Format libraries (MIL-STD-2407), and selects their rows.
 #![tactic(auto)]
 
 mod command;
@@ -17,6 +17,8 @@ mod tests_of_cycles;
 mod tests_of_rows;
 #[cfg(test)]
 mod tests_of_swaps;
+#[cfg(test)]
+mod tests_of_varying_rows;
 
 use running::run;
 use std::io::ErrorKind;

@@ -7,9 +7,10 @@ ghost use Rattle.vpf_source.specs.Writing.{TellsAsBefore};
 ghost use Rattle.vpf_answers.specs.Answer.{Answer};
 ghost use Rattle.vpf.specs.Commands.{command_of, AnswersOver, IsAnswerTo, IsAnswer};
 ghost use Rattle.vpf_source.specs.Files.{Files};
+ghost use Rattle.vpf_answers.specs.declared.requests.IndexRequest.{IndexRequest};
 ghost use Rattle.vpf_answers.specs.declared.requests.RowsRequest.{RowsRequest};
-ghost use Rattle.vpf.specs.declared.command.Command.TheVariants.{Rows};
-ghost use Rattle.vpf.specs.Indexed.{IndexAgrees, IsPlainAnswer};
+ghost use Rattle.vpf.specs.declared.command.Command.TheVariants.{Index, Rows};
+ghost use Rattle.vpf.specs.Indexed.{AsksForIndexed, IndexAgrees, IsPlainAnswer};
 ghost use Rattle.vpf.specs.Run.{Carries, IsCompleted, Prints};
 
 use crate::command::{Command, read_command};
@@ -18,8 +19,10 @@ use crate::loading::{Loaded, load_file};
 use crate::selecting::rows;
 use crate::status::{Status, Stop};
 use std::alloc::Global;
+use vpf_answers::laws::made_indexes_serve;
 use vpf_answers::{Reply, check, cycles, index, show, swap, usage};
 use vpf_source::{DeviceError, Sink, Tree, make_all, put_all};
+use vpf_table::laws::opened_is_read;
 
 /// The reply of a command over the bytes of its file, with the other files of the tree.
 fn reply_over<T: Tree>(
@@ -140,6 +143,10 @@ pub fn run<T: Tree, O: Sink>(alloc: Global, words: &[String], tree: &mut T, out:
     ensures indexed { (files : Files) (request : RowsRequest) (answer : Answer) → command_of (map string_bytes words.now) ≡ Some (Rows request) → T.files tree.old ≡ Some files → IndexAgrees files request → IsPlainAnswer files request answer
         → Carries answer result (record { files = T.files tree.old; written = O.written out.old }) (record { files = T.files tree.new; written = O.written out.new }) }
 
+    // Where the run has made an index of a column, that index agrees with it: `rows` then does what a plain scan does.
+    ensures built { (files : Files) (request : IndexRequest) (asked : RowsRequest) → command_of (map string_bytes words.now) ≡ Some (Index request) → T.files tree.old ≡ Some files → AsksForIndexed files request asked → result ≡ Status.Done
+        → IfSome (T.files tree.new) (λ after. IndexAgrees after asked) }
+
     // A fault is answered only where its count rose in this call; where neither rose, the run is completed.
     ensures tree_fault { result ≡ Status.TreeFault → Rose (T.faults tree.old) (T.faults tree.new) }
     ensures sink_fault { result ≡ Status.SinkFault → Rose (O.faults out.old) (O.faults out.new) }
@@ -155,5 +162,8 @@ pub fn run<T: Tree, O: Sink>(alloc: Global, words: &[String], tree: &mut T, out:
     ensures sink_later { O.faults out.old ≤ O.faults out.new }
 {
     plain_answers();
+    one_answer();
+    made_indexes_serve();
+    opened_is_read();
     do_words(alloc, words, tree, out)
 }

@@ -11,7 +11,7 @@ use crate::loading::{Found, find_file};
 use crate::status::Stop;
 use std::alloc::{AllocError, Global};
 use vpf_answers::{
-    Refusal, Reply, RowsRequest, fault, place_of, refuse, rows_by_index, rows_by_scan,
+    Refusal, Reply, RowAccess, RowsRequest, fault, place_of, refuse, rows_by_index, rows_by_scan,
 };
 use vpf_head::Column;
 use vpf_names::{file_beside, index_name};
@@ -38,6 +38,7 @@ fn by_theme<T: Tree>(
     alloc: Global,
     request: &RowsRequest,
     table: &TableView<'_>,
+    access: RowAccess,
     c: usize,
     name: &Name,
     tree: &mut T,
@@ -50,7 +51,10 @@ fn by_theme<T: Tree>(
     ensures files { T.files tree.new ≡ T.files tree.old }
 {
     match find_file(alloc, tree, name.as_str())? {
-        Found::Bytes(bytes) => Ok(rows_by_index(alloc, request, table, c, name, &bytes)?),
+        Found::Bytes(bytes) => {
+            let reply = rows_by_index(alloc, request, table, access, c, name, &bytes)?;
+            Ok(reply)
+        }
         Found::Absent => Ok(rows_by_scan(alloc, request, table, c)?),
         Found::Answered(reply) => Ok(reply),
     }
@@ -61,6 +65,7 @@ fn rows_of_column<T: Tree>(
     alloc: Global,
     request: &RowsRequest,
     table: &TableView<'_>,
+    access: RowAccess,
     c: usize,
     tree: &mut T,
 ) -> Result<Reply, Stop>
@@ -72,16 +77,17 @@ fn rows_of_column<T: Tree>(
     ensures files { T.files tree.new ≡ T.files tree.old }
 {
     match theme_file(alloc, request, table.header().at(c))? {
-        Some(name) => by_theme(alloc, request, table, c, &name, tree),
+        Some(name) => by_theme(alloc, request, table, access, c, &name, tree),
         None => Ok(rows_by_scan(alloc, request, table, c)?),
     }
 }
 
-/// The reply over a table.
+/// The reply over a table, which finds its rows so.
 fn rows_of_table<T: Tree>(
     alloc: Global,
     request: &RowsRequest,
     table: &TableView<'_>,
+    access: RowAccess,
     tree: &mut T,
 ) -> Result<Reply, Stop>
     ensures told { IfSome (T.files tree.old) (λ files. IfOk result (λ reply. reply ≡ grid_answer (column_answer files request.now) request.now table.now)) }
@@ -90,7 +96,7 @@ fn rows_of_table<T: Tree>(
     ensures files { T.files tree.new ≡ T.files tree.old }
 {
     match place_of(table.header(), request.column.as_str()) {
-        Some(c) => rows_of_column(alloc, request, table, c, tree),
+        Some(c) => rows_of_column(alloc, request, table, access, c, tree),
         None => Ok(refuse(alloc, Refusal::NoColumn, request.column.as_str())?),
     }
 }
@@ -111,7 +117,7 @@ fn rows_with_index<T: Tree>(
     ensures files { T.files tree.new ≡ T.files tree.old }
 {
     match TableView::open(alloc, bytes, Some(index)) {
-        Ok(table) => rows_of_table(alloc, request, &table, tree),
+        Ok(table) => rows_of_table(alloc, request, &table, RowAccess::Direct, tree),
         Err(PlaceError::Place(place)) => Ok(fault(alloc, name, place)?),
         Err(PlaceError::NoMemory) => Err(Stop::NoMemory),
     }
@@ -135,7 +141,7 @@ fn rows_of_varying<T: Tree>(
         Found::Bytes(index) => {
             rows_with_index(alloc, request, bytes, name.as_str(), &index, tree)
         }
-        Found::Absent => rows_of_table(alloc, request, table, tree),
+        Found::Absent => rows_of_table(alloc, request, table, RowAccess::Walk, tree),
         Found::Answered(reply) => Ok(reply),
     }
 }
@@ -157,7 +163,7 @@ pub fn rows<T: Tree>(
         Ok(table) if table.header().varies() => {
             rows_of_varying(alloc, request, bytes, &table, tree)
         }
-        Ok(table) => rows_of_table(alloc, request, &table, tree),
+        Ok(table) => rows_of_table(alloc, request, &table, RowAccess::Direct, tree),
         Err(PlaceError::Place(place)) => Ok(fault(alloc, request.file.as_str(), place)?),
         Err(PlaceError::NoMemory) => Err(Stop::NoMemory),
     }

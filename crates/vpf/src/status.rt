@@ -26,8 +26,11 @@ impl From<AllocError> for Stop {
 /// How a run ends.
 #[derive(Clone, Copy, Debug, PartialEq, Eq)]
 pub enum Status {
+    /// What was asked for is done.
     Done,
+    /// What was asked for is refused.
     Refused,
+    /// The words are no command.
     Usage,
     /// A call on the tree failed.
     TreeFault,
@@ -35,6 +38,7 @@ pub enum Status {
     SinkFault,
     /// Memory ran out.
     NoMemory,
+    /// A bound is passed.
     Limit,
 }
 

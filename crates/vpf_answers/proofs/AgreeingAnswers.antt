@@ -1,6 +1,5 @@
 -- An index that agrees with its column answers as a plain scan.
-use Rattle.std.proofs.Common.{◌≡◌, ◌∙◌, ℕ, ◌<◌, List, Option, None, Some, Result, Ok, length, map, refl, sym, ap}
-use Rattle.std.specs.Prelude.{slice_get}
+use Rattle.std.proofs.Common.{◌≡◌, ◌∙◌, ℕ, ◌<◌, List, Option, None, Some, Ok, length, refl, ap}
 use Rattle.std.specs.Option.{option_or}
 use Rattle.std.proofs.lemmas.List.{length-map}
 use Rattle.vpf_value.specs.Values.{Value}
@@ -15,7 +14,7 @@ use Rattle.vpf_select.specs.Words.{value_in}
 use Rattle.vpf_answers.specs.declared.requests.RowsRequest.{RowsRequest}
 use Rattle.vpf_answers.specs.Answer.{Answer, done}
 use Rattle.vpf_answers.specs.Laws.{IndexAnswersAsTheScan}
-use Rattle.vpf_answers.specs.Selecting.{found_text, fitting_answer, listed_answer, on_selected, on_value, scan_answer, unless_finding}
+use Rattle.vpf_answers.specs.Selecting.{found_text, listed_answer, on_selected, on_value, unless_finding}
 
 -- what no law says first, its first part doesn't say
 first_none : (a b : Option Disagreement) → option_or a b ≡ None → a ≡ None

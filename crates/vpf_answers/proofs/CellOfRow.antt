@@ -1,5 +1,5 @@
 -- The cell of a row in a column.
-use Rattle.std.proofs.Common.{◌≡◌, ℕ, ◌-◌, List, Some, map, ap, ◌∙◌}
+use Rattle.std.proofs.Common.{◌≡◌, ℕ, ◌-◌, Some, ap, ◌∙◌}
 use Rattle.std.specs.Prelude.{slice_get, slice_index_or}
 use Rattle.std.proofs.lemmas.List.{get_or-map}
 use Rattle.std.proofs.lemmas.Option.{slice_get_within, get_or_from_slice_get}

@@ -7,12 +7,12 @@ use Rattle.std.specs.Prelude.{IfSome, slice_get}
 use Rattle.vpf_head.specs.Head.{Col, names, place_of}
 use Rattle.vpf_head.specs.Folding.{same_name}
 use Rattle.vpf_answers.specs.Answer.{Answer}
-use Rattle.vpf_answers.specs.Columns.{IsAt, on_column, on_found, on_place}
+use Rattle.vpf_answers.specs.Columns.{IsAt, on_column, on_found}
 
 there : (over : ℕ → Col → Answer) (name : List ℕ) (columns : List Col) (c : ℕ) (column : Col) (place : Option ℕ) → place ≡ Some c → slice_get columns c ≡ Some column → on_found over name columns place ≡ over c column
 there over name columns c column place e f = rw (e, f) refl
 
-column_there : (over : ℕ → Col → Answer) (name : List ℕ) (columns : List Col) (c : ℕ) (column : Col) → Some c ≡ place_of name columns → slice_get columns c ≡ Some column → on_column over name columns ≡ over c column
+pub column_there : (over : ℕ → Col → Answer) (name : List ℕ) (columns : List Col) (c : ℕ) (column : Col) → Some c ≡ place_of name columns → slice_get columns c ≡ Some column → on_column over name columns ≡ over c column
 column_there over name columns c column e f = there over name columns c column (place_of name columns) (sym e) f
 
 column_or_past : (columns : List Col) (c : ℕ) → c < length columns → ((column : Col) × (c < length columns) × (slice_get columns c ≡ Some column) × (get_or columns c column ≡ column)) ⊎ ((length columns ≤ c) × (slice_get columns c ≡ None)) → (column : Col) × (slice_get columns c ≡ Some column)

@@ -3,3 +3,4 @@ pub mod CellOfRow
 pub mod ColumnPlaces
 pub mod Lines
 pub mod Selections
+pub mod MadeIndexes

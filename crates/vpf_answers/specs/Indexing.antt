@@ -1,6 +1,5 @@
 -- `index`: a thematic index of a column.
 use Rattle.std.specs.Prelude.{ℕ, List, [], ◌∷◌, Result, Ok, Err, codes}
-use Rattle.vpf_source.specs.declared.file.File.{File}
 use Rattle.vpf_head.specs.Head.{Col}
 use Rattle.vpf_table.specs.Grid.{Grid}
 use Rattle.vpf_table.specs.Reading.{table_of}

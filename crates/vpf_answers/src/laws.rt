@@ -1,9 +1,10 @@
 //! Laws of the answers.
 
-ghost use Rattle.vpf_answers.specs.Laws.{IndexAnswersAsTheScan};
+ghost use Rattle.vpf_answers.specs.Laws.{IndexAnswersAsTheScan, MadeIndexesServe};
 
 use vpf_select::laws::indexed_selection_is_the_scan;
 use vpf_theme::laws::agreement_is_no_finding;
+use vpf_theme_build::laws::built_indexes_serve;
 
 /// Where the index of a column agrees with it, the answer by the index is that by the plain scan.
 pub fn index_answers_as_the_scan()
@@ -11,4 +12,11 @@ pub fn index_answers_as_the_scan()
 {
     indexed_selection_is_the_scan();
     agreement_is_no_finding();
+}
+
+/// Where `index` is done, the file that it makes is a thematic index that agrees with the column.
+pub fn made_indexes_serve()
+    ensures { MadeIndexesServe }
+{
+    built_indexes_serve();
 }

@@ -20,7 +20,7 @@ pub use cycling::cycles;
 pub use indexing::index;
 pub use reply::Reply;
 pub use requests::{IndexRequest, RowsRequest, Word};
-pub use selecting::{rows_by_index, rows_by_scan};
+pub use selecting::{RowAccess, rows_by_index, rows_by_scan};
 pub use showing::{check, show};
 pub use swapping::swap;
 pub use texts::{Refusal, fault, limit, refuse, usage};

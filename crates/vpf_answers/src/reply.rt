@@ -49,12 +49,14 @@ impl Reply {
         }
     }
 
+    /// How the run ends, where nothing stops it.
     pub fn verdict(&self) -> Verdict
         ensures { result ≡ self.now.verdict }
     {
         self.verdict
     }
 
+    /// All that is printed.
     pub fn text(&self) -> &str
         ensures { result.now ≡ self.now.text }
     {

@@ -5,7 +5,7 @@ ghost use Rattle.std.specs.List.{flat_map};
 ghost use Rattle.vpf_value.specs.Values.{view};
 ghost use Rattle.vpf_head.specs.Head.{Col};
 ghost use Rattle.vpf_theme.specs.Findings.{cell_of, cells_of};
-ghost use Rattle.vpf_select.specs.Selecting.{FitsColumn, IsOwn, IsRefused, Refuses, RefusesRow, Selects};
+ghost use Rattle.vpf_select.specs.Selecting.{FitsColumn, IsOwn, IsRefused, Refuses, RefusesRow, Selects, selected};
 ghost use Rattle.vpf_select.specs.Words.{value_in};
 ghost use Rattle.vpf_answers.specs.Answer.{done, refused};
 ghost use Rattle.vpf_answers.specs.Selecting.{fitting_answer, found_line, found_text, listed_answer, on_selected, scan_answer, theme_answer, both_text, wrong_place_text, wrong_row_text};
@@ -18,13 +18,24 @@ use crate::verdict::Verdict;
 use std::alloc::{AllocError, Global};
 use std::marker::Brand;
 use std::sync::ledger::{Blank, Ledger};
-use vpf_select::{SelectError, Test, Value, ValueError, scan, select, value_of};
+use vpf_select::{
+    SelectError, Test, Value, ValueError, scan, select, select_in_one_pass, value_of,
+};
 use vpf_source::{Name, Steps};
 use vpf_table::TableView;
 use vpf_text::{put_cell, put_printed};
 use vpf_theme::{ThemeView, fits_table};
 use vpf_triplet::Kind;
 use vpf_value::Cell;
+
+/// How a row of a table is found by its number.
+#[derive(Clone, Copy, Debug, PartialEq, Eq)]
+pub enum RowAccess {
+    /// At once: rows have one width, or the table was opened with their index.
+    Direct,
+    /// By a walk from the first row.
+    Walk,
+}
 
 /// A line for each row.
 fn put_found(text: &mut String, rows: &[u32]) -> Result<(), AllocError>
@@ -215,6 +226,28 @@ fn selected<L: Ledger>(
     }
 }
 
+/// What an index selects. Where rows are found by a walk they are passed once, however many the index lists.
+fn select_by<L: Ledger, M: Ledger>(
+    access: RowAccess,
+    alloc: Global,
+    table: &TableView<'_>,
+    theme: &ThemeView<'_>,
+    test: &Test<'_>,
+    entries: &mut Steps<M>,
+    steps: &mut Steps<L>,
+) -> Result<Vec<u32>, SelectError>
+    requires column { test.now.column < length table.now.head.columns }
+    requires own { IsOwn (Some theme.now) table.now test.now.column }
+    requires fits { FitsColumn table.now test.now.column (view test.now.value) }
+    ensures value { Selects (λ v. v.items) result (selected (Some theme.now) (view test.now.value) (cells_of table.now test.now.column)) }
+    ensures refused { RefusesRow (length table.now.rows) result }
+{
+    match access {
+        RowAccess::Direct => select(alloc, table, Some(theme), test, entries, steps),
+        RowAccess::Walk => select_in_one_pass(alloc, table, theme, test, entries, steps),
+    }
+}
+
 /// The reply by an index that is of the column, with counters of the rows that are looked at and of the entries that are
 /// compared.
 fn listed<L: Ledger, M: Ledger>(
@@ -223,6 +256,7 @@ fn listed<L: Ledger, M: Ledger>(
     alloc: Global,
     request: &RowsRequest,
     table: &TableView<'_>,
+    access: RowAccess,
     c: usize,
     name: &Name,
     theme: &ThemeView<'_>,
@@ -246,7 +280,7 @@ fn listed<L: Ledger, M: Ledger>(
     };
     let mut steps = Steps::<L>::new(looks);
     let mut entries = Steps::<M>::new(compared);
-    let rows = select(alloc, table, Some(theme), &test, &mut entries, &mut steps);
+    let rows = select_by(access, alloc, table, theme, &test, &mut entries, &mut steps);
     selected(alloc, name.as_str(), table, &test, rows, &mut steps)
 }
 
@@ -255,6 +289,7 @@ fn fitting(
     alloc: Global,
     request: &RowsRequest,
     table: &TableView<'_>,
+    access: RowAccess,
     c: usize,
     name: &Name,
     theme: &ThemeView<'_>,
@@ -267,14 +302,18 @@ fn fitting(
     }
     let looks = Blank::new(1);
     let compared = Blank::new(1);
-    listed::<Brand, Brand>(looks, compared, alloc, request, table, c, name, theme)
+    listed::<Brand, Brand>(
+        looks, compared, alloc, request, table, access, c, name, theme,
+    )
 }
 
-/// The reply by the thematic index in the bytes of a file, for the column at this position, from 0.
+/// The reply by the thematic index in the bytes of a file, for the column at this position, from 0. `access` tells how the
+/// table finds its rows, which the answer doesn't depend on.
 pub fn rows_by_index(
     alloc: Global,
     request: &RowsRequest,
     table: &TableView<'_>,
+    access: RowAccess,
     c: usize,
     name: &Name,
     bytes: &[u8],
@@ -283,7 +322,7 @@ pub fn rows_by_index(
     ensures { (column : Col) → slice_get table.now.head.columns c ≡ Some column → IfOk result (λ reply. reply ≡ theme_answer request.now table.now c column name.now bytes.now) }
 {
     match ThemeView::open(bytes, table.header().order()) {
-        Ok(theme) => fitting(alloc, request, table, c, name, &theme),
+        Ok(theme) => fitting(alloc, request, table, access, c, name, &theme),
         Err(place) => fault(alloc, name.as_str(), place),
     }
 }

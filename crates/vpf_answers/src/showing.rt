@@ -1,10 +1,10 @@
 //! `show` and `table`: a table as text, and whether a file is one.
 
-ghost use Rattle.std.specs.Prelude.{◌≡◌, ◌++◌, All, IfOk, OnOk, length, string_bytes};
+ghost use Rattle.std.specs.Prelude.{◌≡◌, ◌++◌, IfOk, OnOk, length, string_bytes};
 ghost use Rattle.std.specs.Option.{option_copied};
 ghost use Rattle.vpf_head.specs.Views.{col};
 ghost use Rattle.vpf_answers.specs.Show.{name_text, order_line, description_line, narrative_line, type_text, files_text, definition_text, column_line, column_lines, cells_text, row_line, row_lines, show_text, show_answer};
-ghost use Rattle.vpf_answers.specs.Check.{accepted_text, table_answer};
+ghost use Rattle.vpf_answers.specs.Check.{table_answer};
 
 use crate::reply::Reply;
 use crate::texts::fault;

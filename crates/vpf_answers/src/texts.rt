@@ -1,6 +1,6 @@
 //! The printed lines of what isn't done.
 
-ghost use Rattle.std.specs.Prelude.{◌≡◌, IfOk, string_bytes};
+ghost use Rattle.std.specs.Prelude.{◌≡◌, IfOk};
 ghost use Rattle.vpf_table.specs.Limits.{bound_text};
 ghost use Rattle.vpf_answers.specs.Answer.{refused, limited, usage_answer};
 ghost use Rattle.vpf_answers.specs.Texts.{refusal_text, refused_text, limit_text};

@@ -20,11 +20,18 @@ impl<'a> Model for RoleColumn<'a> {
 /// The columns of an edge table that hold the numbers of each edge.
 #[derive(Drop)]
 pub struct EdgeColumns<'a> {
+    /// The number of the edge.
     pub id: RoleColumn<'a>,
+    /// The node where it begins.
     pub start_node: RoleColumn<'a>,
+    /// The node where it ends.
     pub end_node: RoleColumn<'a>,
+    /// The face on its right.
     pub right_face: RoleColumn<'a>,
+    /// The face on its left.
     pub left_face: RoleColumn<'a>,
+    /// The wing about its end node.
     pub right_edge: RoleColumn<'a>,
+    /// The wing about its start node.
     pub left_edge: RoleColumn<'a>,
 }

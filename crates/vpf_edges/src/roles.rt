@@ -6,12 +6,19 @@ use vpf_triplet::Kind;
 /// The role of a column of an edge table, in the order in which columns are looked at.
 #[derive(Clone, Copy)]
 pub enum Role {
+    /// The number of the edge.
     Id,
+    /// The node where it begins.
     StartNode,
+    /// The node where it ends.
     EndNode,
+    /// The face on its right.
     RightFace,
+    /// The face on its left.
     LeftFace,
+    /// The wing about its end node: the edge that follows it round its right face.
     RightEdge,
+    /// The wing about its start node: the edge that follows it, run back, round its left face.
     LeftEdge,
     /// Whether the edge lies on a line between tiles.
     TileLine,

@@ -20,11 +20,17 @@ const MOST: u32 = 2_147_483_647;
 /// An edge of a table: its nodes, its faces and its wings.
 #[derive(Clone, Copy)]
 pub struct Edge {
+    /// The node where it begins.
     pub start_node: u32,
+    /// The node where it ends.
     pub end_node: u32,
+    /// The face on its right.
     pub right_face: u32,
+    /// The face on its left.
     pub left_face: u32,
+    /// The edge that follows it round its right face.
     pub right_edge: u32,
+    /// The edge that follows it, run back, round its left face.
     pub left_edge: u32,
 }
 

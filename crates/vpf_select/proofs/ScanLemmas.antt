@@ -1,5 +1,5 @@
 -- The rows that are looked at, one after another.
-use Rattle.std.proofs.Common.{◌≡◌, ℕ, zero, suc, ◌+◌, ◌-◌, ◌≤◌, Bool, true, false, List, [], ◌∷◌, ◌++◌, map, get_or, Option, Some, None, append_assoc, sym, ap, subst, ◌∙◌, arith}
+use Rattle.std.proofs.Common.{◌≡◌, ℕ, zero, suc, ◌+◌, ◌-◌, ◌<◌, ◌≤◌, Bool, true, false, List, [], ◌∷◌, ◌++◌, map, length, get_or, Option, Some, None, append_assoc, refl, sym, ap, subst, ◌∙◌, arith}
 use Rattle.std.specs.Prelude.{find, slice_get, slice_index_or}
 use Rattle.std.proofs.lemmas.List.{append-nil}
 use Rattle.std.proofs.lemmas.List.Elements.{All-rest}
@@ -11,6 +11,8 @@ use Rattle.vpf_theme.specs.Findings.{cell_of, cells_of}
 use Rattle.vpf_theme.specs.Agreeing.{scan_from}
 use Rattle.vpf_theme.specs.KeyLaws.{same_yes, same_no}
 use Rattle.vpf_theme.specs.Views.{AreRows}
+use Rattle.vpf_select.specs.Passing.{first_unmet, met_by}
+use Rattle.vpf_select.specs.Selecting.{first_other}
 
 -- the cell of a row at the position of a column
 abbrev pub cell_in : ℕ → Row → Value
@@ -33,6 +35,19 @@ scan_miss v c k found whole row cell rows rest steps at other done =
 
 pub scan_done : (v : Value) (c k : ℕ) (found whole : List ℕ) (rows : List Row) → rows ≡ [] → found ++ scan_from (k + 1) v (map (cell_in c) rows) ≡ whole → found ≡ whole
 scan_done v c k found whole rows end done = let d = rw end at done in sym (append-nil found) ∙ d
+
+-- ---- which rows meet the test
+
+pub same_bit : (v u : Value) (same : Bool) → (same ≡ true → v ≡ u) → (v ≡ u → same ≡ true) → same_value v u ≡ same
+same_bit v u true told back = same_yes v u (told refl)
+same_bit v u false told back = same_no v u (λ e. cc (back e))
+
+pub met_more : (v : Value) (c : ℕ) (met more whole : List Bool) (bit : Bool) (row : Row) (cell : Value) (rows rest : List Row) → rows ≡ row ∷ rest → slice_get row c ≡ Some cell → same_value cell v ≡ bit → more ≡ met ++ bit ∷ [] → met ++ met_by v (map (cell_in c) rows) ≡ whole → more ++ met_by v (map (cell_in c) rest) ≡ whole
+met_more v c met more whole bit row cell rows rest steps at is pushed done =
+    let t : same_value (cell_in c row) v ≡ bit = ap (λ (x : Value). same_value x v) (get_or_from_slice_get row c cell Nothing at) ∙ is in
+    let d = rw steps at done in
+    let e = rw t at d in
+    rw (pushed, append_assoc) e
 
 -- ---- the rows of an entry
 
@@ -62,3 +77,18 @@ find_stop p row rows rest whole e h q = let k = rw e at h in let m = rw q at k i
 
 pub find_end : (p : ℕ → Bool) (rows : List ℕ) (whole : Option ℕ) → rows ≡ [] → find p rows ≡ whole → whole ≡ None
 find_end p rows whole e h = let k = rw e at h in sym k
+
+-- ---- the rows that meet the test, and those that are listed
+
+-- a row of the table meets the test where its cell has the value
+met_at : (v : Value) (cells : List Value) (k : ℕ) → k < length cells → slice_index_or (met_by v cells) k false ≡ same_value (slice_index_or cells k Nothing) v
+met_at v [] k h = absurd (omega arith)
+met_at v (cell ∷ cells) zero h = refl
+met_at v (cell ∷ cells) (suc k) h = met_at v cells k (omega arith)
+
+pub unmet_other : (v : Value) (cells : List Value) (rows : List ℕ) → AreRows (length cells) rows → first_unmet (met_by v cells) rows ≡ first_other v cells rows
+unmet_other v cells [] h = refl
+unmet_other v cells (row ∷ rows) h =
+    let first = row_first (length cells) row (row ∷ rows) rows refl h in
+    let same : slice_index_or (met_by v cells) (row - 1) false ≡ same_value (cell_of cells row) v = met_at v cells (row - 1) (omega (arith, first.0, first.1)) in
+    rw (same, unmet_other v cells rows (rows_rest (length cells) row (row ∷ rows) rows refl h)) refl

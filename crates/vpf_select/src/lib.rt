@@ -3,6 +3,7 @@
 
 mod digits;
 pub mod laws;
+mod passing;
 mod scanning;
 mod selecting;
 #[cfg(test)]
@@ -10,6 +11,7 @@ mod tests;
 mod value;
 mod words;
 
+pub use passing::select_in_one_pass;
 pub use scanning::{Test, scan};
 pub use selecting::{SelectError, select};
 pub use value::{Value, ValueError};

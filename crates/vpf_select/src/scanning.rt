@@ -11,10 +11,12 @@ use vpf_source::Steps;
 use vpf_table::TableView;
 use vpf_value::{Cell, same};
 
-/// A row meets the test where its cell in this column, counted from 0, has the value.
+/// A row meets the test where its cell in this column has the value.
 #[derive(Clone, Copy, Debug)]
 pub struct Test<'a> {
+    /// The position of the column, counted from 0.
     pub column: usize,
+    /// The value, which fits the column.
     pub value: Cell<'a>,
 }
 

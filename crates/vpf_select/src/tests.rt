@@ -2,7 +2,7 @@
 
 ghost use Rattle.std.specs.Prelude.{◌≡◌, ◌<◌};
 
-use crate::{SelectError, Test, ValueError, scan, select, value_of};
+use crate::{SelectError, Test, ValueError, scan, select, select_in_one_pass, value_of};
 use std::alloc::{AllocError, Global};
 use std::marker::Brand;
 use std::sync::ledger::{Blank, Ledger};
@@ -183,6 +183,7 @@ fn selected_by<L: Ledger, M: Ledger>(
     table: &TableView<'_>,
     theme: Option<&ThemeView<'_>>,
     value: Cell<'_>,
+    one_pass: bool,
 ) -> Option<Result<Vec<u32>, SelectError>>
     requires name { looks.name ≡ L.name }
     requires parts { looks.parts ≡ L.parts }
@@ -207,6 +208,9 @@ fn selected_by<L: Ledger, M: Ledger>(
     if fits_table(theme, table, 0).is_some() {
         return None;
     }
+    if one_pass {
+        return Some(select_in_one_pass(alloc, table, theme, &test, &mut entries, &mut steps));
+    }
     Some(select(alloc, table, Some(theme), &test, &mut entries, &mut steps))
 }
 
@@ -215,8 +219,28 @@ fn selected(
     table: &TableView<'_>,
     theme: Option<&ThemeView<'_>>,
     value: Cell<'_>,
+    one_pass: bool,
 ) -> Option<Result<Vec<u32>, SelectError>> {
-    selected_by::<Brand, Brand>(Blank::new(1), Blank::new(1), alloc, table, theme, value)
+    let looks = Blank::new(1);
+    let compared = Blank::new(1);
+    selected_by::<Brand, Brand>(looks, compared, alloc, table, theme, value, one_pass)
+}
+
+/// The rows that an index selects, one by one and in one pass, where both come to the same.
+fn selected_twice(
+    alloc: Global,
+    table: &TableView<'_>,
+    theme: &ThemeView<'_>,
+    value: Cell<'_>,
+) -> Option<Result<Vec<u32>, SelectError>> {
+    let rows = selected(alloc, table, Some(theme), value, false)?;
+    let again = selected(alloc, table, Some(theme), value, true)?;
+    let same = match (&rows, &again) {
+        (Ok(rows), Ok(again)) => rows.as_slice() == again.as_slice(),
+        (Err(error), Err(again)) => error == again,
+        _ => false,
+    };
+    same.then_some(rows)
 }
 
 #[test]
@@ -235,9 +259,9 @@ fn selects_by_an_index(rt: HostRuntime) -> Result<(), Fail> {
         (SHORT, b"a", Ok([9].as_slice())),
     ] {
         let theme = ThemeView::open(file, Order::Little)?;
-        let rows = selected(alloc, &table, Some(&theme), Cell::Text(value));
+        let rows = selected_twice(alloc, &table, &theme, Cell::Text(value));
         let Some(rows) = rows else {
-            return Err(Fail::new("not of the column"));
+            return Err(Fail::new("not of the column, or otherwise in one pass"));
         };
         match rows {
             Ok(rows) => assert_eq!(rt; Ok(rows.as_slice()), want),
@@ -256,7 +280,7 @@ fn selects_without_an_index(rt: HostRuntime) -> Result<(), Fail> {
         (VARYING, b"a", [1, 4].as_slice()),
     ] {
         let table = TableView::open(alloc, file, None)?;
-        let Some(rows) = selected(alloc, &table, None, Cell::Text(value)) else {
+        let Some(rows) = selected(alloc, &table, None, Cell::Text(value), false) else {
             return Err(Fail::new("not of the column"));
         };
         assert_eq!(rt; rows?.as_slice(), want);

@@ -58,6 +58,7 @@ impl Value {
     ghost use Rattle.vpf_value.specs.Values.{view};
     ghost use Rattle.vpf_select.specs.Values.{said};
 
+    /// The value that is kept so.
     pub(crate) fn new(owned: Owned) -> Value
         ensures { result ≡ said owned }
     {

@@ -23,6 +23,7 @@ impl Model for CallLog {
 }
 
 impl CallLog {
+    /// No call yet. `fail` has the numbers of the calls that are to fail, counted from 1.
     pub fn new(fail: Vec<u64>) -> Self
         ensures { result ≡ no_calls fail.items }
     {

@@ -63,6 +63,8 @@ impl Bytes {
 /// A file under its name.
 #[derive(Debug, Drop)]
 pub struct File {
+    /// The name.
     pub name: Name,
+    /// All that the file holds.
     pub bytes: Bytes,
 }

@@ -164,6 +164,15 @@ opened_takes laws ix bytes (Some index) g fits fits2 e =
     let i : IsRowIndex h.head.order (row_spans bytes h) index = ix.index_is_spelled h.head.order (row_spans bytes h) index fits2 (b.1 ∙ ap (λ (es : List (ℕ × ℕ)). Ok es) c.1) in
     subst (λ (x : Grid). IsIndexed x bytes index) c.0 (indexed_by laws bytes index h fits a.1 i)
 
+-- what is opened is read, whatever index is given with it
+pub opened_is_read : (bytes : List ℕ) (index : Option (List ℕ)) (g : Grid) → opened_of bytes index ≡ Ok g → table_of bytes ≡ Ok g
+opened_is_read bytes None g e = e
+opened_is_read bytes (Some index) g e =
+    let a = bind_ok (table_of bytes) (λ h. index_at h.head.order index >>= λ es. owned h es (row_spans bytes h)) g e in
+    let b = bind_ok (index_at a.0.head.order index) (λ es. owned a.0 es (row_spans bytes a.0)) g a.2 in
+    let c = owned_is a.0 g b.0 (row_spans bytes a.0) b.2 in
+    subst (λ (x : Grid). table_of bytes ≡ Ok x) c.0 a.1
+
 -- ---- one or the other
 
 either_of : CellAndHeaderLaws → IndexLaws → (bytes : List ℕ) (index : Option (List ℕ)) (r : Result Grid Place) → IsBytes bytes → IfSome index IsBytes → opened_of bytes index ≡ r

@@ -19,7 +19,7 @@ pub record Decides (bytes : List ℕ) (index : Option (List ℕ)) : Type 0 where
   pub one_table : (g h : Grid) → IsOpened g bytes index → IsOpened h bytes index → g ≡ h
   pub one_fault : (p q : Place) → FirstFault bytes index p → FirstFault bytes index q → p ≡ q
 
--- Where a row is refused: the cells before are spelled up to the place, and no spelling of the next cell begins there.
+-- Where a row is refused: the cells before are read up to the place, and the next cell is refused there.
 pub record Stops (o : Order) (cs : List Col) (bytes : List ℕ) (at : ℕ) (place : Place) : Type 0 where
   pub before : List Col
   pub next : Col

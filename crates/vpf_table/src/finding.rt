@@ -64,6 +64,7 @@ pub enum SeenWord {
 /// What is seen or wanted in a place.
 #[derive(Clone, Copy, Debug)]
 pub enum Seen<'a> {
+    /// A number.
     Number(i64),
     /// A cell as it stands in its table.
     Cell(Cell<'a>),
@@ -73,6 +74,7 @@ pub enum Seen<'a> {
     Range(u32, u32),
     /// The dart of a tile (0 where the coverage is untiled) and an edge, and whether it is the edge's `-`.
     Dart(u32, u32, bool),
+    /// A word for what is there, or ought to be.
     Word(SeenWord),
 }
 
@@ -108,12 +110,16 @@ pub struct Finding<'a> {
     pub rule: u8,
     /// The tile, 0 where the coverage is untiled.
     pub tile: u32,
+    /// The table.
     pub table: TableName,
     /// The position of the table's file in the list of files that were read, from 0.
     pub file: u32,
     /// The row, from 1, or 0 for the table as a whole.
     pub row: u32,
+    /// The column.
     pub column: ColumnAt<'a>,
+    /// What stands there.
     pub found: Seen<'a>,
+    /// What ought to stand there.
     pub wanted: Seen<'a>,
 }

@@ -127,6 +127,11 @@ pub fn opened_is_spelled()
     laws_of_indexes();
 }
 
+/// What is opened as a table, with an index or without, is read as that table.
+pub fn opened_is_read()
+    ensures { (bytes : List ℕ) (index : Option (List ℕ)) (g : Grid) → opened_of bytes index ≡ Ok g → table_of bytes ≡ Ok g }
+{}
+
 /// Each row of a table has an offset and a length, and the bytes that lie there spell it.
 pub fn rows_lie_at_their_spans()
     ensures each { (bytes : List ℕ) (g : Grid) → length (row_spans bytes g) ≡ length g.rows }

@@ -44,7 +44,9 @@ impl fmt::Display for Bound {
 /// A bound that is passed, and the number that passed it.
 #[derive(Clone, Copy, Debug, PartialEq, Eq)]
 pub struct Limit {
+    /// The bound.
     pub what: Bound,
+    /// The number.
     pub found: u64,
 }
 

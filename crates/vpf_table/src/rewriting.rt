@@ -1,6 +1,6 @@
 //! Writing a table anew from its view, without a list of its cells.
 
-ghost use Rattle.std.specs.Prelude.{◌≡◌, ◌≤◌, ◌+◌, ◌-◌, ◌^◌, ◌<◌, ℕ, All, false, min, OnOk, IsOk, Some, length};
+ghost use Rattle.std.specs.Prelude.{◌≡◌, ◌≤◌, ◌+◌, ◌-◌, ◌^◌, ◌<◌, All, false, min, OnOk, IsOk, Some, length};
 ghost use Rattle.vpf_triplet.specs.declared.orders.Order.{Order};
 ghost use Rattle.vpf_head.specs.Canonical.{canonical_header};
 ghost use Rattle.vpf_head.specs.Head.{varies_in};

@@ -21,14 +21,18 @@ const BLOCK_BYTES: usize = 2048;
 /// A field of rows that have one width: its words, and how many bytes they take.
 #[derive(Clone, Copy)]
 pub struct Field {
+    /// The size of its words.
     pub word: WordSize,
+    /// How many bytes it takes.
     pub width: usize,
 }
 
 /// Rows that have one width, as they lie in their file.
 #[derive(Clone, Copy)]
 pub struct FixedRows<'a> {
+    /// How many bytes each row has.
     pub width: usize,
+    /// All rows, one after another.
     pub bytes: &'a [u8],
 }
 

@@ -1,13 +1,13 @@
 //! Writing a table from its header and its cells.
 
-ghost use Rattle.std.specs.Prelude.{◌≡◌, ◌≤◌, ◌<◌, ◌+◌, ◌-◌, ◌%◌, ◌^◌, min, OnOk, Bool, Some, length, map, All, vec_len};
+ghost use Rattle.std.specs.Prelude.{◌≡◌, ◌≤◌, ◌<◌, ◌+◌, ◌-◌, ◌%◌, ◌^◌, min, OnOk, Some, length, map, All};
 ghost use Rattle.vpf_value.specs.Values.{view};
 ghost use Rattle.vpf_head.specs.Canonical.{canonical_text, canonical_header};
 ghost use Rattle.vpf_head.specs.Head.{varies_in};
 ghost use Rattle.vpf_table.specs.declared.writing.WriteError.TheVariants.{NoMemory};
 ghost use Rattle.vpf_table.specs.Canonical.{FitsRow, row_text, rows_text, cut, grid_of_cells};
 ghost use Rattle.vpf_table.specs.Drafts.{progress, with_rows};
-ghost use Rattle.vpf_table.specs.Writing.{most_bytes, past, index_size, limit_by, Writes};
+ghost use Rattle.vpf_table.specs.Writing.{most_bytes, past, limit_by, Writes};
 
 use crate::cell_list::CellList;
 use crate::draft::Draft;

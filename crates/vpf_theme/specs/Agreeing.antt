@@ -1,5 +1,5 @@
 -- A thematic index agrees with a column.
-use Rattle.std.specs.Prelude.{◌≡◌, ◌≢◌, ℕ, ◌+◌, ◌<◌, ◌≤◌, List, [], ◌∷◌, length, slice_get, if◌then◌else◌, Contains, Option, Some, None}
+use Rattle.std.specs.Prelude.{◌≡◌, ◌≢◌, ℕ, ◌+◌, ◌<◌, ◌≤◌, List, [], ◌∷◌, length, slice_get, if◌then◌else◌, Contains, Option, Some, None, Ok}
 use Rattle.std.specs.List.Sorted.{IsStrictlyIncreasing}
 use Rattle.vpf_triplet.specs.declared.kinds.Count.TheVariants.{Fixed}
 use Rattle.vpf_value.specs.Values.{Value}
@@ -8,6 +8,7 @@ use Rattle.vpf_table.specs.Grid.{Grid}
 use Rattle.vpf_theme.specs.Ordering.{same_value}
 use Rattle.vpf_theme.specs.Entries.{Theme}
 use Rattle.vpf_theme.specs.Findings.{cell_of, cells_of, entry_at}
+use Rattle.vpf_theme.specs.Reading.{theme_of}
 use Rattle.vpf_theme.specs.Views.{AreRows}
 
 -- the index is one of this column: each row stands in the entry of its cell's value and in no other, whose rows rise
@@ -44,3 +45,7 @@ HaveRows t = (i : ℕ) → i < length t.entries → AreRows t.rows (entry_at t.e
 -- the index agrees with the column at this position of a table
 abbrev pub AgreesAt : Theme → Grid → ℕ → Type 0
 AgreesAt t grid c = (column : Col) → slice_get grid.head.columns c ≡ Some column → AgreesWithColumn t column (cells_of grid c)
+
+-- the bytes of a file are an index that agrees with the column at this position
+abbrev pub ServesColumn : Grid → ℕ → List ℕ → Type 0
+ServesColumn grid c bytes = (t : Theme) × (theme_of grid.head.order bytes ≡ Ok t) × AgreesAt t grid c

@@ -168,7 +168,8 @@ fn check_column<'a>(
 
 /// The index agrees with a column: its kind, count and number of rows are the table's, each row stands in the entry of its
 /// cell's value and in no other, and the rows of each entry rise. The first place where that fails is the finding: the
-/// index as a whole, and then entry by entry. The table and the index are passed once.
+/// index as a whole, and then entry by entry. The table is passed once and the rows of each entry three
+/// times; the values of the entries are kept in a map.
 pub fn agrees<'a>(
     alloc: Global,
     theme: &ThemeView<'a>,

@@ -10,11 +10,12 @@ use vpf_triplet::Count;
 use vpf_value::laws::fixed_cells;
 use vpf_value::{Cell, cell_at};
 
-/// Where the rows of an entry lie: the offset of their data in bytes, and how many numbers or bytes they are. Where a
-/// list has a count of 0, the offset is itself the one row.
+/// Where the rows of an entry lie. Where a list has a count of 0, the offset is itself the one row.
 #[derive(Clone, Copy)]
 pub struct Extent {
+    /// Where their data begin, in bytes from the start of the file.
     pub offset: u32,
+    /// How many numbers a list has, or how many bytes a bitmap.
     pub count: u32,
 }
 

@@ -2,7 +2,6 @@
 
 ghost use Rattle.std.specs.Prelude.{◌≡◌, ◌<◌, ◌≤◌, ◌+◌, ◌/◌, ◌*◌, length};
 ghost use Rattle.vpf_theme.specs.declared.layout.Form.{Form};
-ghost use Rattle.vpf_theme.specs.Layouts.{row_bytes};
 ghost use Rattle.vpf_theme.specs.Entries.{marked_rows, rows_by};
 ghost use Rattle.vpf_theme.specs.Views.{HasData, StepsRow};
 

@@ -11,6 +11,7 @@ use vpf_value::{Cell, same};
 /// The value of a cell as a key: two keys are equal where the cells have the same value.
 #[derive(Clone, Copy)]
 pub struct ValueKey<'a> {
+    /// The cell.
     pub cell: Cell<'a>,
 }
 

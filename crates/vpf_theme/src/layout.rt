@@ -1,13 +1,33 @@
 //! What the header of a thematic index says, and where its entries stand.
 
 ghost use Rattle.std.specs.Prelude.{◌≡◌, ◌+◌, ◌≤◌, ◌<◌, length, IfOk};
-ghost use Rattle.vpf_theme.specs.Layouts.{HasValues, count_of, fields_of, form_of, kind_of, row_bytes, row_size_of, u32_at};
+ghost use Rattle.vpf_theme.specs.Layouts.{HasValues, count_of, fields_of, form_of, header_bytes, kind_of, row_bytes, row_size_of, u32_at};
 
 use vpf_triplet::{Code, Count, Kind, Order, Place};
 use vpf_value::cell_width;
 
 /// The bytes of the header.
 pub const HEADER_BYTES: usize = 60;
+
+/// Where the fields of the header stand, in bytes from its start.
+const SIZE_AT: usize = 0;
+
+const ENTRIES_AT: usize = 4;
+
+const ROWS_AT: usize = 8;
+
+const FORM_AT: usize = 12;
+
+const KIND_AT: usize = 13;
+
+const COUNT_AT: usize = 14;
+
+const ROW_SIZE_AT: usize = 18;
+
+const SORTED_AT: usize = 56;
+
+/// The bytes of an entry behind its value: an offset and a count.
+const EXTENT_BYTES: usize = 8;
 
 /// The largest count of a column.
 const MOST_VALUES: u32 = 67_108_864;
@@ -47,13 +67,21 @@ impl RowSize {
 /// What the header of a thematic index says, but for the names that it repeats.
 #[derive(Clone, Copy)]
 pub struct Layout {
+    /// The order of all numbers of the file, which is the table's.
     pub order: Order,
+    /// How the rows of a value are listed.
     pub form: Form,
+    /// The kind of the column.
     pub kind: Kind,
+    /// The count of the column.
     pub count: u32,
+    /// The size of row numbers in lists.
     pub row_size: RowSize,
+    /// How many rows the table has.
     pub rows: u32,
+    /// How many entries the directory has.
     pub entries: u32,
+    /// Whether the directory is marked as sorted.
     pub sorted: bool,
 }
 
@@ -115,26 +143,29 @@ pub fn u32_at(order: Order, bytes: &[u8], at: usize) -> u32
 /// What the fields of a header say, or the first that says nothing. The first field is looked at after them.
 #[tactic(auto, unfolding(crate::specs::Layouts::fields_of))]
 fn fields_of(order: Order, bytes: &[u8]) -> Result<Layout, Place>
-    requires { 60 ≤ length bytes.now }
+    requires { header_bytes ≤ length bytes.now }
     ensures exact { result ≡ fields_of order bytes.now }
     ensures values { IfOk result HasValues }
 {
-    let form = form_of(bytes[12]).ok_or(Place::in_theme(12, Code::ThemeForm))?;
-    let kind = kind_of(bytes[13]).ok_or(Place::in_theme(13, Code::ThemeKind))?;
-    let count = count_of(kind, u32_at(order, bytes, 14)).ok_or(Place::in_theme(
-        14,
+    let form = form_of(bytes[FORM_AT]).ok_or(Place::in_theme(FORM_AT, Code::ThemeForm))?;
+    let kind = kind_of(bytes[KIND_AT]).ok_or(Place::in_theme(KIND_AT, Code::ThemeKind))?;
+    let count = count_of(kind, u32_at(order, bytes, COUNT_AT)).ok_or(Place::in_theme(
+        COUNT_AT,
         Code::ThemeCount,
     ))?;
-    let row_size = row_size_of(bytes[18]).ok_or(Place::in_theme(18, Code::ThemeRowtype))?;
+    let row_size = row_size_of(bytes[ROW_SIZE_AT]).ok_or(Place::in_theme(
+        ROW_SIZE_AT,
+        Code::ThemeRowtype,
+    ))?;
     Ok(Layout {
         order,
         form,
         kind,
         count,
         row_size,
-        rows: u32_at(order, bytes, 8),
-        entries: u32_at(order, bytes, 4),
-        sorted: bytes[56] == b'S',
+        rows: u32_at(order, bytes, ROWS_AT),
+        entries: u32_at(order, bytes, ENTRIES_AT),
+        sorted: bytes[SORTED_AT] == b'S',
     })
 }
 
@@ -153,7 +184,7 @@ impl Layout {
             return Err(Place::in_theme(0, Code::ThemeCut));
         }
         let layout = fields_of(order, bytes)?;
-        let size = u32_at(order, bytes, 0) as usize;
+        let size = u32_at(order, bytes, SIZE_AT) as usize;
         if size != HEADER_BYTES && size != layout.directory_end() {
             return Err(Place::in_theme(0, Code::ThemeSize));
         }
@@ -176,7 +207,7 @@ impl Layout {
         ensures value { result ≡ entry_bytes self.now }
         ensures small { result < 2 ^ 31 + 8 }
     {
-        self.value_bytes() + 8
+        self.value_bytes() + EXTENT_BYTES
     }
 
     /// Where entry `i`, counted from 0, begins.

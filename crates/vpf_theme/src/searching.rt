@@ -18,7 +18,7 @@ use vpf_source::Steps;
 use vpf_value::laws::fixed_cells;
 use vpf_value::{Cell, same};
 
-/// The value of entry `i` of a directory without faults, counted from 0. It is compared once for each tick.
+/// The value of entry `i` of a directory without faults, counted from 0.
 pub fn sure_value<'a>(layout: &Layout, bytes: &'a [u8], i: u32) -> Cell<'a>
     requires values { HasValues layout.now }
     requires faultless { entries_line layout.now bytes.now ≡ None }

@@ -32,6 +32,23 @@ const BIG: &[u8] =
 const ONES: &[u8] =
     b"<\0\0\0\x02\0\0\0\x02\0\0\0TT\x01\0\0\0St.tab       c                        S\0\0\0a\x02\0\0\0\0\0\0\0b\x01\0\0\0\0\0\0\0";
 
+/// An index of words of 4 bytes, in their order without a sign: the largest that is positive as a number, and the least that
+/// isn't.
+const WORDS: &[u8] =
+    b"T\0\0\0\x02\0\0\0\x02\0\0\0TF\x01\0\0\0St.tab       w                        S\0\0\0\xff\xff\xff\x7f\x01\0\0\0\0\0\0\0\0\0\0\x80\x02\0\0\0\0\0\0\0";
+
+/// The same of words of 8 bytes.
+const LONG_WORDS: &[u8] =
+    b"\\\0\0\0\x02\0\0\0\x02\0\0\0TR\x01\0\0\0St.tab       w                        S\0\0\0\xff\xff\xff\xff\xff\xff\xff\x7f\x01\0\0\0\0\0\0\0\0\0\0\0\0\0\0\x80\x02\0\0\0\0\0\0\0";
+
+/// A bitmap of a table without rows: its one entry has no bytes, at the end of the file.
+const EMPTY: &[u8] =
+    b"E\0\0\0\x01\0\0\0\0\0\0\0BT\x01\0\0\0St.tab       c                        S\0\0\0aE\0\0\0\0\0\0\0";
+
+/// The list of `c`, where the entry of `a` lists row 9 twice.
+const TWICE: &[u8] =
+    b"N\0\0\0\x02\0\0\0\x09\0\0\0TT\x01\0\0\0St.tab       c                        S\0\0\0aN\0\0\0\x09\0\0\0b\x02\0\0\0\0\0\0\0\x01\0\x03\0\x04\0\x05\0\x06\0\x07\0\x08\0\x09\0\x09\0";
+
 /// The file with some of its bytes written over.
 fn patched(alloc: Global, file: &[u8], at: usize, patch: &[u8]) -> Result<Vec<u8>, AllocError> {
     let mut bytes = Vec::with_capacity(alloc, file.len())?;
@@ -55,6 +72,10 @@ fn refuses_files_at_their_first_fault(rt: HostRuntime) -> Result<(), Fail> {
         (LIST, 14, b"\0", Some((14, Code::ThemeCount))),
         (LIST, 14, b"\x01\0\0\x04", Some((14, Code::ThemeCount))),
         (LIST, 13, b"F\x02", Some((14, Code::ThemeCount))),
+        (LIST, 13, b"R\x02", Some((14, Code::ThemeCount))),
+        (LIST, 13, b"S\x02", Some((14, Code::ThemeCount))),
+        (LIST, 13, b"I\x02", Some((14, Code::ThemeCount))),
+        (LIST, 13, b"D\x02", Some((14, Code::ThemeCount))),
         (LIST, 18, b"T", Some((18, Code::ThemeRowtype))),
         (LIST, 0, b"\x4d", Some((0, Code::ThemeSize))),
         (LIST, 4, b"\xff\xff\xff\xff", Some((0, Code::ThemeSize))),
@@ -63,6 +84,16 @@ fn refuses_files_at_their_first_fault(rt: HostRuntime) -> Result<(), Fail> {
         (&LIST[..77], 0, b"", Some((60, Code::ThemeSpan))),
         (LIST, 69, b"a", Some((69, Code::ThemeSort))),
         (BIG, 72, b"\xff\xff\xff\xfe", Some((72, Code::ThemeSort))),
+        (WORDS, 60, b"\x01\0\0\x80", Some((72, Code::ThemeSort))),
+        (
+            LONG_WORDS,
+            60,
+            b"\0\0\0\0\0\0\0\x80",
+            Some((76, Code::ThemeSort)),
+        ),
+        (EMPTY, 0, b"", None),
+        (EMPTY, 61, b"\x44", Some((60, Code::ThemeSpan))),
+        (EMPTY, 61, b"\x46", Some((60, Code::ThemeSpan))),
         (LIST, 61, b"\x4d", Some((60, Code::ThemeSpan))),
         (LIST, 61, b"\x4f", Some((60, Code::ThemeSpan))),
         (BITMAP, 65, b"\x01", Some((60, Code::ThemeSpan))),
@@ -138,6 +169,7 @@ fn found(alloc: Global, theme: &ThemeView<'_>, value: &Cell<'_>) -> Result<Vec<u
 fn finds_the_rows_of_values(rt: HostRuntime) -> Result<(), Fail> {
     let alloc = rt.alloc();
     let unsorted = patched(alloc, LIST, 56, b" ")?;
+    let doubled = patched(alloc, &unsorted, 69, b"a")?;
     for (file, order, value, want) in [
         (
             LIST,
@@ -164,6 +196,24 @@ fn finds_the_rows_of_values(rt: HostRuntime) -> Result<(), Fail> {
         (BIG, Order::Big, Cell::Long(-2), [1, 70_000, 2].as_slice()),
         (BIG, Order::Big, Cell::Short(3), [65_536, 1].as_slice()),
         (BIG, Order::Big, Cell::Long(0), [].as_slice()),
+        (
+            WORDS,
+            Order::Little,
+            Cell::Word4(0x8000_0000),
+            [2, 1].as_slice(),
+        ),
+        (
+            LONG_WORDS,
+            Order::Little,
+            Cell::Word8(0x7fff_ffff_ffff_ffff),
+            [1, 1].as_slice(),
+        ),
+        (
+            &doubled,
+            Order::Little,
+            Cell::Text(b"a"),
+            [1, 3, 4, 5, 6, 7, 8, 9, 8].as_slice(),
+        ),
     ] {
         let theme = ThemeView::open(file, order)?;
         assert_eq!(rt; found(alloc, &theme, &value)?.as_slice(), want);
@@ -228,7 +278,7 @@ fn agrees_or_tells_the_first_finding(rt: HostRuntime) -> Result<(), Fail> {
             "1 1 c: Cell(Text([97])), Cell(Text([98]))",
         ),
         (LIST, 78, b"\x03\0\x01", "1 1 c: Number(1), Number(3)"),
-        (LIST, 92, b"\x09\0", "agrees true"),
+        (TWICE, 0, b"", "1 1 c: Number(9), Number(9)"),
     ] {
         let bytes = patched(alloc, file, at, patch)?;
         assert_eq!(rt;

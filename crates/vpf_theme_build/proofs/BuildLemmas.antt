@@ -77,7 +77,7 @@ ok_is : (x y : List ℕ) → done x ≡ done y → x ≡ y
 ok_is x y e = cc
 
 -- bytes that are not too many
-limited_ok : (b : Bool) (size : ℕ) (text out : List ℕ) → nat_le size most_bytes ≡ b → (if b then Ok text else Err (errors.Limit size)) ≡ Ok out → (size ≤ most_bytes) × (text ≡ out)
+pub limited_ok : (b : Bool) (size : ℕ) (text out : List ℕ) → nat_le size most_bytes ≡ b → (if b then Ok text else Err (errors.Limit size)) ≡ Ok out → (size ≤ most_bytes) × (text ≡ out)
 limited_ok true size text out t e = (leb-true size most_bytes t, ok_is text out e)
 limited_ok false size text out t e = absurd (cc e)
 

@@ -20,7 +20,7 @@ use Rattle.vpf_theme_build.specs.Building.{CanIndex, index_for, layout_for, most
 use Rattle.vpf_theme_build.specs.Grouping.{entries_for, entry_for, values_of}
 use Rattle.vpf_theme_build.specs.Text.{index_len, index_text, row_size_for}
 use Rattle.vpf_theme_build.proofs.FieldLemmas.{scan_inside, scan_rises, values_len}
-use Rattle.vpf_theme_build.proofs.SpelledLemmas.{AreSpelled, EachEntry, HaveWidths, index_stands}
+use Rattle.vpf_theme_build.proofs.SpelledLemmas.{AreSpelled, EachEntry, HaveWidths, IsWritten, index_long, index_stands}
 use Rattle.vpf_theme_build.proofs.ValueLists.{Each, HasCell, cells_have, entries_for_rising, scan_some, values_each}
 
 -- ---- the entries
@@ -44,22 +44,37 @@ count_few kind n h = grind (arith, nat_tests)
 with_entries : Layout → ℕ → Layout
 with_entries l n = record l { entries = n }
 
-pub built_stands : AreSpelled → HaveWidths → IsTotalOrder value_cmp → (order : Order) (form : Form) (column : Col) (count : ℕ) (cells : List Value) (table : List ℕ) → CanIndex order form column count cells → IsThematicIndex order (index_for form column count cells) (index_text (layout_for order form column count cells) table column.name (entries_for cells))
+same_layout : (order : Order) (form : Form) (column : Col) (count : ℕ) (cells : List Value) → layout_from order (row_size_for (length cells)) (index_for form column count cells) ≡ layout_for order form column count cells
 unfolding with_entries
-built_stands spelled wide o order form column count cells table can =
-    let t = index_for form column count cells in
-    let size = row_size_for (length cells) in
-    let l = layout_from order size t in
+same_layout order form column count cells = ap (with_entries (layout_from order (row_size_for (length cells)) (index_for form column count cells))) (length-map (values_of cells) (entry_for cells))
+
+-- what is known of the index of a column that can be built
+built_written : IsTotalOrder value_cmp → (order : Order) (form : Form) (column : Col) (count : ℕ) (cells : List Value) → CanIndex order form column count cells → IsWritten order (row_size_for (length cells)) (index_for form column count cells)
+built_written o order form column count cells can =
+    let l = layout_from order (row_size_for (length cells)) (index_for form column count cells) in
     let es = entries_for cells in
-    let same : l ≡ layout_for order form column count cells = ap (with_entries l) (length-map (values_of cells) (entry_for cells)) in
     let fits = rw can.fixed at can.fits in
     let len = length-map (values_of cells) (entry_for cells) in
-    let small = subst (λ (k : Layout). index_len k es ≤ most_bytes) (sym same) can.small in
-    let is = index_stands spelled wide order size t table column.name (record {
+    let small = subst (λ (k : Layout). index_len k es ≤ most_bytes) (sym (same_layout order form column count cells)) can.small in
+    record {
       values = (can.indexed, can.counted);
       stored = record { sorted = refl; rows = omega (arith, can.few); entries = omega (arith, values_len cells, can.few, len); size = omega (arith, small); count = omega (arith, count_few column.kind count can.counted) };
       each = entries_are l cells refl refl can.few fits;
       rise = entries_for_rising o cells;
       small = omega (arith, small);
-    }) in
-    subst (λ (k : Layout). IsThematicIndex order t (index_text k table column.name es)) same is
+    }
+
+pub built_stands : AreSpelled → HaveWidths → IsTotalOrder value_cmp → (order : Order) (form : Form) (column : Col) (count : ℕ) (cells : List Value) (table : List ℕ) → CanIndex order form column count cells → IsThematicIndex order (index_for form column count cells) (index_text (layout_for order form column count cells) table column.name (entries_for cells))
+built_stands spelled wide o order form column count cells table can =
+    let t = index_for form column count cells in
+    let size = row_size_for (length cells) in
+    let is = index_stands spelled wide order size t table column.name (built_written o order form column count cells can) in
+    subst (λ (k : Layout). IsThematicIndex order t (index_text k table column.name (entries_for cells))) (same_layout order form column count cells) is
+
+-- it has so many bytes as are counted before it is written
+pub built_long : HaveWidths → IsTotalOrder value_cmp → (order : Order) (form : Form) (column : Col) (count : ℕ) (cells : List Value) (table : List ℕ) → CanIndex order form column count cells → length (index_text (layout_for order form column count cells) table column.name (entries_for cells)) ≡ index_len (layout_for order form column count cells) (entries_for cells)
+built_long wide o order form column count cells table can =
+    let t = index_for form column count cells in
+    let size = row_size_for (length cells) in
+    let is = index_long wide order size t table column.name (built_written o order form column count cells can) in
+    subst (λ (k : Layout). length (index_text k table column.name (entries_for cells)) ≡ index_len k (entries_for cells)) (same_layout order form column count cells) is

@@ -14,3 +14,4 @@ mod MarkLemmas
 mod ListedLemmas
 mod SpelledLemmas
 mod ColumnLemmas
+mod ServingLemmas

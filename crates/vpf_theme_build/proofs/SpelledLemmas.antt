@@ -131,6 +131,17 @@ pub record IsWritten (o : Order) (size : RowSize) (t : Theme) : Type 0 where
   pub rise : Rising t.entries
   pub small : directory_end (layout_from o size t) + length (all_data (layout_from o size t) t.entries) < 2 ^ 32
 
+-- it has the bytes of its header, its directory and its data
+pub index_long : HaveWidths → (o : Order) (size : RowSize) (t : Theme) (table column : List ℕ) → IsWritten o size t → length (index_text (layout_from o size t) table column t.entries) ≡ directory_end (layout_from o size t) + length (all_data (layout_from o size t) t.entries)
+index_long wide o size t table column w =
+    let l = layout_from o size t in
+    let es = t.entries in
+    let bytes = index_text l table column es in
+    let d = directory_text l (directory_end l) es in
+    let front = front_stands l bytes table column (d ++ all_data l es) w.stored (append_assoc (header_text l table column) d (all_data l es)) in
+    let len = length-directory wide l (directory_end l) es w.values w.each in
+    omega (arith, length-drop 60 bytes, ap length front.directory, length-append d (all_data l es), len, front.header.long)
+
 pub index_stands : AreSpelled → HaveWidths → (o : Order) (size : RowSize) (t : Theme) (table column : List ℕ) → IsWritten o size t → IsThematicIndex o t (index_text (layout_from o size t) table column t.entries)
 index_stands cells wide o size t table column w =
     let l = layout_from o size t in
@@ -141,7 +152,7 @@ index_stands cells wide o size t table column w =
     let start : entry_start l 0 ≡ 60 = omega arith in
     let len = length-directory wide l (directory_end l) es w.values w.each in
     let stored = after bytes d (all_data l es) 60 (length es * entry_bytes l) len front.directory in
-    let long : length bytes ≡ directory_end l + length (all_data l es) = omega (arith, length-drop 60 bytes, ap length front.directory, length-append d (all_data l es), len, front.header.long) in
+    let long = index_long wide o size t table column w in
     let h : Hold l bytes 0 (directory_end l) es (all_data l es) = record {
       directory = ap (λ (n : ℕ). drop n bytes) start ∙ front.directory;
       stored = stored;

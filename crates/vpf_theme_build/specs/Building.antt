@@ -3,16 +3,18 @@ use Rattle.std.specs.Prelude.{◌≡◌, ◌<◌, ◌≤◌, ◌^◌, ℕ, All, 
 use Rattle.vpf_triplet.specs.declared.orders.Order.{Order}
 use Rattle.vpf_triplet.specs.declared.kinds.Count.{Count}
 use Rattle.vpf_triplet.specs.declared.kinds.Count.TheVariants.{Fixed, Star}
+use Rattle.vpf_triplet.specs.Numbers.{IsBytes}
 use Rattle.vpf_value.specs.Values.{Value}
 use Rattle.vpf_value.specs.Fitting.{FitsCell}
 use Rattle.vpf_head.specs.Head.{Col}
 use Rattle.vpf_table.specs.Grid.{Grid}
+use Rattle.vpf_table.specs.Reading.{table_of}
 use Rattle.vpf_theme.specs.declared.layout.Form.{Form}
 use Rattle.vpf_theme.specs.declared.layout.Layout.{Layout}
 use Rattle.vpf_theme.specs.Layouts.{is_count, is_indexed}
 use Rattle.vpf_theme.specs.Entries.{Theme}
 use Rattle.vpf_theme.specs.Findings.{cells_of}
-use Rattle.vpf_theme.specs.Agreeing.{AgreesAt}
+use Rattle.vpf_theme.specs.Agreeing.{AgreesAt, ServesColumn}
 use Rattle.vpf_theme.specs.Reading.{theme_of}
 use Rattle.vpf_theme_build.specs.declared.errors.BuildError.{BuildError}
 use Rattle.vpf_theme_build.specs.declared.errors.BuildError.TheVariants as errors
@@ -70,3 +72,8 @@ AreRead grid c form bytes = (column : Col) (count : ℕ) → slice_get grid.head
 -- an index that the bytes are read as agrees with the column at this position
 abbrev pub AgreeAt : Grid → ℕ → List ℕ → Type 0
 AgreeAt grid c bytes = (t : Theme) → theme_of grid.head.order bytes ≡ Ok t → AgreesAt t grid c
+
+-- Of each column of a table, the index that is built agrees with it, and is no larger than a file.
+abbrev pub BuiltIndexesServe : Type 0
+BuiltIndexesServe = (bytes : List ℕ) (grid : Grid) (c : ℕ) (column : Col) (form : Form) (table index : List ℕ) → IsBytes bytes → table_of bytes ≡ Ok grid → slice_get grid.head.columns c ≡ Some column
+    → built_by grid.head.order table form column (cells_of grid c) column.count ≡ Ok index → ServesColumn grid c index × (length index ≤ most_bytes)

@@ -8,7 +8,7 @@ ghost use Rattle.vpf_theme.specs.Findings.{cells_of};
 ghost use Rattle.vpf_theme_build.specs.Grouping.{IsGroup, entry_in};
 ghost use Rattle.vpf_theme_build.specs.Text.{all_data, directory_text, index_len, index_text};
 ghost use Rattle.vpf_theme_build.specs.Writing.{AreEntries, FitsSpot};
-ghost use Rattle.vpf_theme_build.specs.Building.{AgreeAt, AreRead, Builds, CanBuild, built_by, limited};
+ghost use Rattle.vpf_theme_build.specs.Building.{AgreeAt, AreRead, Builds, CanBuild, built_by, limited, most_bytes};
 
 use crate::errors::BuildError;
 use crate::grouping::{Group, Spot, groups_of, sorted_spots};
@@ -89,9 +89,10 @@ fn put_all_data(
     Ok(())
 }
 
-/// The bytes of an index.
+/// The bytes of an index, of which there are so many.
 fn write_index(
     alloc: Global,
+    size: usize,
     layout: &Layout,
     table: &[u8],
     column: &[u8],
@@ -103,10 +104,10 @@ fn write_index(
     requires fits { All (FitsSpot layout.now) spots.now }
     requires spots { length spots.now < 2 ^ 24 }
     requires rows { AreEntries layout.now spots.now groups.now }
-    requires small { index_len layout.now (map (entry_in spots.now) groups.now) ≤ 67108864 }
+    requires small { index_len layout.now (map (entry_in spots.now) groups.now) ≤ most_bytes }
     ensures { IfOk result (λ out. out.items ≡ index_text layout.now table.now column.now (map (entry_in spots.now) groups.now)) }
 {
-    let mut out = Vec::new(alloc);
+    let mut out = Vec::with_capacity(alloc, size)?;
     put_header(layout, table, column, &mut out)?;
     put_directory(
         layout,
@@ -141,7 +142,8 @@ fn finish(
     if size > MOST_BYTES {
         return Err(BuildError::Limit { size });
     }
-    Ok(write_index(alloc, layout, table, column, spots, groups)?)
+    let size = size as usize;
+    Ok(write_index(alloc, size, layout, table, column, spots, groups)?)
 }
 
 /// The index of a column that can be indexed.

@@ -13,14 +13,18 @@ use vpf_value::{Cell, same};
 /// A cell of a column and the number of its row.
 #[derive(Clone, Copy)]
 pub struct Spot<'a> {
+    /// The cell.
     pub cell: Cell<'a>,
+    /// The number of its row, from 1.
     pub row: u32,
 }
 
 /// Cells that stand side by side, from one position up to another.
 #[derive(Clone, Copy)]
 pub struct Group {
+    /// The position of the first, from 0.
     pub start: usize,
+    /// The position behind the last.
     pub end: usize,
 }
 

@@ -11,10 +11,11 @@ ghost use Rattle.vpf_theme.specs.Layouts.{is_indexed};
 ghost use Rattle.vpf_theme.specs.Reading.{theme_of};
 ghost use Rattle.vpf_theme.specs.Spelling.{IsThematicIndex};
 ghost use Rattle.vpf_theme.specs.Agreeing.{AgreesWithColumn};
-ghost use Rattle.vpf_theme_build.specs.Building.{CanIndex, index_for, layout_for};
+ghost use Rattle.vpf_theme_build.specs.Building.{BuiltIndexesServe, CanIndex, index_for, layout_for};
 ghost use Rattle.vpf_theme_build.specs.Grouping.{entries_for};
 ghost use Rattle.vpf_theme_build.specs.Text.{index_text};
 
+use vpf_table::laws as tables;
 use vpf_theme::laws::{spelled_is_read, values_are_ordered};
 use vpf_value::laws::fitting_is_written;
 
@@ -40,4 +41,16 @@ pub fn built_indexes_are_read()
 {
     built_indexes_are_spelled();
     spelled_is_read();
+}
+
+/// The index that is built of a column of a table agrees with it, and is no larger than a file.
+pub fn built_indexes_serve()
+    ensures { BuiltIndexesServe }
+{
+    fitting_is_written();
+    values_are_ordered();
+    built_indexes_agree();
+    built_indexes_are_read();
+    tables::read_is_spelled();
+    tables::read_is_writable();
 }

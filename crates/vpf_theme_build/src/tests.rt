@@ -25,6 +25,22 @@ const NUMBERS: &[u8] =
 const NUMBERS_LIST: &[u8] =
     b"\0\0\0`\0\0\0\x03\0\0\0\x04TI\0\0\0\x01Snumbers-of-tn                        S\0\0\0\xff\xff\xff\xfe\0\0\0\x03\0\0\0\0\0\0\0\0\0\0\0`\0\0\0\x02\0\x01\x11p\0\0\0\x04\0\0\0\0\0\x01\0\x02";
 
+/// The same as bitmaps.
+const NUMBERS_BITMAP: &[u8] =
+    b"\0\0\0`\0\0\0\x03\0\0\0\x04BI\0\0\0\x01Snumbers-of-tn                        S\0\0\0\xff\xff\xff\xfe\0\0\0`\0\0\0\x01\0\0\0\0\0\0\0a\0\0\0\x01\0\x01\x11p\0\0\0b\0\0\0\x01\x04\x03\x08";
+
+/// A column `w` of words of 4 bytes, and its index: words are ordered without a sign.
+const WORDS: &[u8] = b"\x18\0\0\0L;T;-;w=F,1,N,d,-,-,-,:;\0\0\0\x80\xff\xff\xff\x7f";
+
+const WORDS_LIST: &[u8] =
+    b"T\0\0\0\x02\0\0\0\x02\0\0\0TF\x01\0\0\0Sw           w                        S\0\0\0\xff\xff\xff\x7f\x02\0\0\0\0\0\0\0\0\0\0\x80\x01\0\0\0\0\0\0\0";
+
+/// A column `d` of one date, and its index.
+const DATES: &[u8] = b"\x18\0\0\0L;T;-;d=D,1,N,d,-,-,-,:;19960628120000.00000";
+
+const DATES_LIST: &[u8] =
+    b"\x58\0\0\0\x01\0\0\0\x01\0\0\0TD\x01\0\0\0Sd           d                        S\0\0\x0019960628120000.00000\x01\0\0\0\0\0\0\0";
+
 /// Columns that can't be indexed: of triplet ids, and of texts of any length.
 const OTHERS: &[u8] = b")\0\0\0L;T;-;n=K,1,N,d,-,-,-,:v=T,*,N,d,-,-,-,:;";
 
@@ -35,6 +51,14 @@ fn builds_indexes(rt: HostRuntime) -> Result<(), Fail> {
         (TABLE, b"t.tab".as_slice(), Form::List, LIST),
         (TABLE, b"t.tab", Form::Bitmap, BITMAP),
         (NUMBERS, b"numbers-of-the-table", Form::List, NUMBERS_LIST),
+        (
+            NUMBERS,
+            b"numbers-of-the-table",
+            Form::Bitmap,
+            NUMBERS_BITMAP,
+        ),
+        (WORDS, b"w", Form::List, WORDS_LIST),
+        (DATES, b"d", Form::List, DATES_LIST),
     ] {
         let table = TableView::open(alloc, bytes, None)?;
         assert!(rt; table.header().len() > 0);
@@ -72,5 +96,21 @@ fn refuses_columns(rt: HostRuntime) -> Result<(), Fail> {
     let index = build(alloc, &many, b"t", 0, Form::Bitmap);
     let size = 60 + 30_000 * (2 + 8 + 3_750);
     assert_eq!(rt; index.err(), Some(BuildError::Limit { size }));
+    Ok(())
+}
+
+/// Row numbers have 2 bytes up to 32,767 rows, and then 4.
+#[test]
+fn sizes_row_numbers(rt: HostRuntime) -> Result<(), Fail> {
+    let alloc = rt.alloc();
+    for (rows, letter, bytes) in [(32_767, b'S', 2), (32_768, b'I', 4)] {
+        let mut file = b"\x18\0\0\0L;T;-;c=T,1,N,d,-,-,-,:;".to_vec(alloc)?;
+        file.resize(28 + rows, b'a')?;
+        let table = TableView::open(alloc, &file, None)?;
+        assert!(rt; table.header().len() > 0);
+        let index = build(alloc, &table, b"t", 0, Form::List)?;
+        assert_eq!(rt; index.get(18), Some(&letter));
+        assert_eq!(rt; index.len(), 69 + rows * bytes);
+    }
     Ok(())
 }

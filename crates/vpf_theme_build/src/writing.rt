@@ -15,11 +15,14 @@ use vpf_theme::{Form, Layout, RowSize};
 use vpf_triplet::Count;
 use vpf_value::put_cell;
 
+/// The most rows of a table whose row numbers have 2 bytes.
+const MOST_SHORT_ROWS: u32 = 32_767;
+
 /// The type of the row numbers of a table of so many rows.
 pub fn row_size_for(rows: u32) -> RowSize
     ensures { result ≡ row_size_for rows }
 {
-    if rows <= 32_767 {
+    if rows <= MOST_SHORT_ROWS {
         RowSize::Short
     } else {
         RowSize::Long
