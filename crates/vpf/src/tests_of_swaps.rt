@@ -44,7 +44,7 @@ const NO_ROWS_INDEX: &[u8] = b"\0\0\0\0\0\0\0\x18";
 type Held<'a> = (&'a str, Option<&'a [u8]>);
 
 /// A file, a name for its table, what is printed, and two names with what their files hold afterwards.
-const SWAPS: [(&str, &str, &str, [Held<'static>; 2]); 9] = [
+const SWAPS: [(&str, &str, &str, [Held<'static>; 2]); 10] = [
     (
         "little",
         "u.tab",
@@ -88,6 +88,12 @@ const SWAPS: [(&str, &str, &str, [Held<'static>; 2]); 9] = [
         [("little", Some(TEXT_BIG)), ("littlx", Some(TEXT_INDEX))],
     ),
     (
+        "edx",
+        "edg",
+        "made edg 35\nmade edx 16\nfiles 2\n",
+        [("edg", Some(TEXT_BIG)), ("edx", Some(TEXT_INDEX))],
+    ),
+    (
         "absent",
         "u.tab",
         "refused missing absent\n",
@@ -113,6 +119,14 @@ const NO_SWAPS: [&[&str]; 8] = [
     &["swap", "little", "."],
 ];
 
+/// A header text of 65,536 bytes without its mark and with a definition that ends early: in canonical form it has 5 more.
+fn growing(alloc: Global) -> Result<Vec<u8>, AllocError> {
+    let mut bytes = b"\0\0\x01\0T;-;id=I,1,P,".to_vec(alloc)?;
+    bytes.resize(65_534, b'd')?;
+    bytes.extend_from_slice(b",-,-:;")?;
+    Ok(bytes)
+}
+
 /// A tree of samples, read in pieces, where one call fails.
 fn samples(alloc: Global, piece: u32, failing: u64) -> Result<MemTree, AllocError> {
     let piece = piece.max(1);
@@ -124,6 +138,7 @@ fn samples(alloc: Global, piece: u32, failing: u64) -> Result<MemTree, AllocErro
         ("text", TEXT),
         ("wide", WIDE),
         ("none", NO_ROWS),
+        ("edx", TEXT),
         ("cut", &TEXT[..34]),
     ] {
         tree.put(name, bytes)?;
@@ -150,6 +165,22 @@ fn writes_tables_in_the_other_order(rt: HostRuntime) -> Result<(), Fail> {
             assert_eq!(rt; tree.file(name), bytes, "{file} {out} {name}");
         }
     }
+    Ok(())
+}
+
+/// A bound that the canonical table would pass is told under its name, and nothing is made.
+#[test]
+fn tells_what_would_be_too_large(rt: HostRuntime) -> Result<(), Fail> {
+    let alloc = rt.alloc();
+    let mut tree = MemTree::new(alloc, 4096, Vec::new(alloc));
+    tree.put("t.tab", &growing(alloc)?)?;
+    let mut printed = sink(alloc, 4096, 0)?;
+    let words = words_of(alloc, &["swap", "t.tab", "u.tab"])?;
+    let status = run(alloc, &words, &mut tree, &mut printed);
+    assert_eq!(rt; printed.bytes(), b"limit header u.tab 65541\n".as_slice());
+    assert_eq!(rt; status, Status::Limit);
+    assert_eq!(rt; tree.file("u.tab"), None);
+    assert_eq!(rt; tree.file("u.tax"), None);
     Ok(())
 }
 

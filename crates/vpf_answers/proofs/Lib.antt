@@ -4,3 +4,4 @@ pub mod ColumnPlaces
 pub mod Lines
 pub mod Selections
 pub mod MadeIndexes
+pub mod SwappedTables

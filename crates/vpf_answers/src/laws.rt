@@ -1,8 +1,9 @@
 //! Laws of the answers.
 
-ghost use Rattle.vpf_answers.specs.Laws.{IndexAnswersAsTheScan, MadeIndexesServe};
+ghost use Rattle.vpf_answers.specs.Laws.{IndexAnswersAsTheScan, MadeIndexesServe, SwappedTwiceIsCanonical};
 
 use vpf_select::laws::indexed_selection_is_the_scan;
+use vpf_table::laws::{read_is_writable, written_is_read, written_twice_is_canonical};
 use vpf_theme::laws::agreement_is_no_finding;
 use vpf_theme_build::laws::built_indexes_serve;
 
@@ -19,4 +20,13 @@ pub fn made_indexes_serve()
     ensures { MadeIndexesServe }
 {
     built_indexes_serve();
+}
+
+/// A table that is swapped twice gives its canonical bytes and its index.
+pub fn swapped_twice_is_canonical()
+    ensures { SwappedTwiceIsCanonical }
+{
+    read_is_writable();
+    written_is_read();
+    written_twice_is_canonical();
 }
