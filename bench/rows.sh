@@ -1,9 +1,10 @@
 #!/usr/bin/env bash
-# `index` and `rows` over 1,000,000 rows: a column of 10,000 values and one of 100, beside awk over the same rows as text in the same run.
+# `index` and `rows` over 1,000,000 rows: a column of 10,000 values and one of 100, beside awk over the same rows as text in the same run;
+# and over as many rows that vary, with their variable-length index and without.
 # (Bitmaps of 10,000 values would be longer than a file may be.)
 . "$(dirname "$0")/common.sh"
-python3 "$here/make_rows.py" "$work/half.tab" "$work/half.txt" 500000
-python3 "$here/make_rows.py" "$work/rows.tab" "$work/rows.txt" 1000000
+python3 "$here/make_rows.py" "$work/half.tab" "$work/half.txt" "$work/half_ids.tab" 500000
+python3 "$here/make_rows.py" "$work/rows.tab" "$work/rows.txt" "$work/ids.tab" 1000000
 cd "$work"
 measure "index list, 500,000 rows" "$vpf" index half.tab v list half.lti
 half=$seconds
@@ -32,3 +33,18 @@ select_by() {
 }
 select_by v 1234 2 list
 select_by g 34 3 list bitmap
+
+# Swapped twice, the table has its index beside it.
+"$vpf" swap ids.tab turned.tab > made
+"$vpf" swap turned.tab w.tab > made
+measure "rows that vary, scan" "$vpf" rows w.tab g 34
+scan=$seconds
+"$vpf" rows w.tab g 34 > scanned
+"$vpf" index w.tab g list w.lti > made
+measure "rows that vary, list" "$vpf" rows w.tab g 34
+ratio "list to scan" "$seconds" "$scan"
+"$vpf" rows w.tab g 34 | cmp - scanned
+rm w.tax
+measure "rows that vary, list alone" "$vpf" rows w.tab g 34
+ratio "list alone to scan" "$seconds" "$scan"
+"$vpf" rows w.tab g 34 | cmp - scanned
