@@ -266,6 +266,8 @@ fn makes_the_folders(rt: HostRuntime) -> Result<(), Fail> {
     let neighbour = format!(in alloc; "{root}/lib/cov/edx")?;
     let behind = format!(in alloc; "{root}/lib/cov/edg/t1/edg")?;
     let folder = format!(in alloc; "{root}/lib")?;
+    // A run that was cut off may have left them.
+    let _left = fs::remove_dir_all(&rt, root);
     let mut tree = FolderTree::new(&rt);
     assert_eq!(rt; tree.size(&name), Ok(None));
     for (name, bytes, want) in [
