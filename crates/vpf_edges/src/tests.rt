@@ -14,11 +14,61 @@ const NUMBERS: &str =
 /// The marks of lines between tiles.
 const MARKS: &str = "tile_line=S,1,N,Line,-,-,-,:";
 
-/// Two triangles on one edge: nodes 1 and 2, faces 1 to 3.
-const ROWS: [[i32; 7]; 3] = [
-    [1, 1, 2, 2, 1, 3, 2],
-    [2, 2, 1, 3, 1, 3, 1],
-    [3, 1, 2, 3, 2, 2, 1],
+/// The first of three edges between nodes 1 and 2, with faces 1 to 3.
+const FIRST: [i32; 7] = [1, 1, 2, 2, 1, 3, 2];
+
+const SECOND: [i32; 7] = [2, 2, 1, 3, 1, 3, 1];
+
+const THIRD: [i32; 7] = [3, 1, 2, 3, 2, 2, 1];
+
+/// The first row with a wing edge that has no dart to come next.
+const WRONG_WING: [i32; 7] = [1, 1, 2, 2, 1, 2, 2];
+
+/// The second row, where its id isn't its number.
+const WRONG_ID: [i32; 7] = [5, 2, 1, 3, 1, 3, 1];
+
+/// The first row with a node and an edge that can't be.
+const NO_NODE: [i32; 7] = [1, 1, 0, 2, 1, 3, 9];
+
+/// The third row with a face that can't be.
+const NO_FACE: [i32; 7] = [3, 1, 2, 3, -1, 2, 1];
+
+/// The first row with an edge behind the last.
+const NO_EDGE: [i32; 7] = [1, 1, 2, 2, 1, 4, 2];
+
+/// Rows, and the cycles that they have or what is found first.
+const CASES: [(&[[i32; 7]], &str); 10] = [
+    (&[FIRST, SECOND, THIRD], "1+ 3- ; 1- 2- ; 2+ 3+ ; "),
+    (&[], ""),
+    (
+        &[WRONG_WING, SECOND, THIRD],
+        "3 1 right_edge: Cell(Long(2)), Word(Dart)",
+    ),
+    (&[FIRST, WRONG_ID, THIRD], "1 2 id: Number(5), Number(2)"),
+    (
+        &[WRONG_WING, WRONG_ID, THIRD],
+        "1 2 id: Number(5), Number(2)",
+    ),
+    (
+        &[NO_NODE, WRONG_ID, THIRD],
+        "1 1 end_node: Cell(Long(0)), Range(1, 2147483647)",
+    ),
+    (
+        &[FIRST, SECOND, NO_FACE],
+        "1 3 left_face: Cell(Long(-1)), Range(1, 2147483647)",
+    ),
+    (
+        &[NO_EDGE, SECOND, THIRD],
+        "1 1 right_edge: Cell(Long(4)), Range(1, 3)",
+    ),
+    (
+        &[[1, 1, 1, 5, 6, 2, 1], [2, 1, 1, 5, 7, 2, 2]],
+        "3 2 right_edge: Dart(0, 2, false), Dart(0, 1, false)",
+    ),
+    (
+        &[[1, 1, 1, 5, 5, 1, 1]],
+        "3 1 right_edge: Cell(Long(1)), Word(Dart)",
+    ),
 ];
 
 /// The bytes of a table of these columns and rows, each with a mark of 0.
@@ -74,56 +124,7 @@ fn answer(alloc: Global, columns: &str, rows: &[[i32; 7]]) -> Result<String, Fai
 fn lists_cycles_or_tells_the_first_finding(rt: HostRuntime) -> Result<(), Fail> {
     let alloc = rt.alloc();
     let columns = format!(in alloc; "{NUMBERS}{MARKS}")?;
-    let [first, second, third] = ROWS;
-    let mut one_wing = first;
-    one_wing[5] = 2;
-    let mut other_id = second;
-    other_id[0] = 5;
-    let mut no_node = first;
-    no_node[2] = 0;
-    no_node[6] = 9;
-    let mut no_face = third;
-    no_face[4] = -1;
-    let mut no_edge = first;
-    no_edge[5] = 4;
-    let loops = [[1, 1, 1, 5, 6, 2, 1], [2, 1, 1, 5, 7, 2, 2]];
-    let both_fit = [[1, 1, 1, 5, 5, 1, 1]];
-    for (rows, want) in [
-        (ROWS.as_slice(), "1+ 3- ; 1- 2- ; 2+ 3+ ; "),
-        ([].as_slice(), ""),
-        (
-            [one_wing, second, third].as_slice(),
-            "3 1 right_edge: Cell(Long(2)), Word(Dart)",
-        ),
-        (
-            [first, other_id, third].as_slice(),
-            "1 2 id: Number(5), Number(2)",
-        ),
-        (
-            [one_wing, other_id, third].as_slice(),
-            "1 2 id: Number(5), Number(2)",
-        ),
-        (
-            [no_node, other_id, third].as_slice(),
-            "1 1 end_node: Cell(Long(0)), Range(1, 2147483647)",
-        ),
-        (
-            [first, second, no_face].as_slice(),
-            "1 3 left_face: Cell(Long(-1)), Range(1, 2147483647)",
-        ),
-        (
-            [no_edge, second, third].as_slice(),
-            "1 1 right_edge: Cell(Long(4)), Range(1, 3)",
-        ),
-        (
-            loops.as_slice(),
-            "3 2 right_edge: Dart(0, 2, false), Dart(0, 1, false)",
-        ),
-        (
-            both_fit.as_slice(),
-            "3 1 right_edge: Cell(Long(1)), Word(Dart)",
-        ),
-    ] {
+    for (rows, want) in CASES {
         assert_eq!(rt; answer(alloc, &columns, rows)?.as_str(), want);
     }
     Ok(())

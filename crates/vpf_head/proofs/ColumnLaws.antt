@@ -47,7 +47,7 @@ stop_stops bare = refl
 stop_stops (narrated w) = refl
 stop_stops (narrated_comma w) = refl
 
-head_get : (text : List ℕ) (n x : ℕ) (rest : List ℕ) → drop n text ≡ x ∷ rest → slice_get text n ≡ Some x
+pub head_get : (text : List ℕ) (n x : ℕ) (rest : List ℕ) → drop n text ≡ x ∷ rest → slice_get text n ≡ Some x
 head_get [] zero x rest e = absurd cc
 head_get [] (suc n) x rest e = absurd cc
 head_get (y ∷ text) zero x rest e = let k : y ≡ x = cc in ap (λ (z : ℕ). Some z) k
@@ -347,24 +347,24 @@ column_takes before text at c past e =
 name_opens : (w : List ℕ) → 0 < length w → nat_eq (length w) 0 ≡ false
 name_opens w h = ne_eqb (length w) 0 (λ e. omega arith)
 
-fresh_again : (before : List Col) (text : List ℕ) (at : ℕ) (w rest : List ℕ) → IsName Name w → 0 < length w → place_of w before ≡ None → drop at text ≡ w ++ equals ∷ rest → fresh_name_at before text at ≡ Ok (w, at + length w + 1)
+pub fresh_again : (before : List Col) (text : List ℕ) (at : ℕ) (w rest : List ℕ) → IsName Name w → 0 < length w → place_of w before ≡ None → drop at text ≡ w ++ equals ∷ rest → fresh_name_at before text at ≡ Ok (w, at + length w + 1)
 unfolding fresh_name_at
 fresh_again before text at w rest n some new split =
     rw (name_again Name equals text at w rest refl refl n split, name_opens w some, ap is_some new) refl
 
-kind_at_again : (text : List ℕ) (at : ℕ) (k : Kind) (rest : List ℕ) → drop at text ≡ kind_text k ++ comma ∷ rest → kind_at text at ≡ Ok (k, at + length (kind_text k) + 1)
+pub kind_at_again : (text : List ℕ) (at : ℕ) (k : Kind) (rest : List ℕ) → drop at text ≡ kind_text k ++ comma ∷ rest → kind_at text at ≡ Ok (k, at + length (kind_text k) + 1)
 unfolding kind_at
 kind_at_again text at k rest split =
     let a = kind_again k in
     rw (text_again Field comma text at (kind_text k) rest refl refl a.0 split, a.1) refl
 
-count_at_again : (k : Kind) (text : List ℕ) (at : ℕ) (c : Count) (item rest : List ℕ) → IsCount c item → allows k c ≡ true → drop at text ≡ item ++ comma ∷ rest → count_at k text at ≡ Ok (c, at + length item + 1)
+pub count_at_again : (k : Kind) (text : List ℕ) (at : ℕ) (c : Count) (item rest : List ℕ) → IsCount c item → allows k c ≡ true → drop at text ≡ item ++ comma ∷ rest → count_at k text at ≡ Ok (c, at + length item + 1)
 unfolding count_at
 count_at_again k text at c item rest is may split =
     let a = count_again c item is in
     rw (text_again Field comma text at item rest refl refl a.0 split, a.1, may) refl
 
-key_at_again : (text : List ℕ) (at : ℕ) (k : Key) (letter : ℕ) (rest : List ℕ) → letter_key letter ≡ Some k → drop at text ≡ letter ∷ comma ∷ rest → key_at text at ≡ Ok (k, at + 1 + 1)
+pub key_at_again : (text : List ℕ) (at : ℕ) (k : Key) (letter : ℕ) (rest : List ℕ) → letter_key letter ≡ Some k → drop at text ≡ letter ∷ comma ∷ rest → key_at text at ≡ Ok (k, at + 1 + 1)
 unfolding key_at
 key_at_again text at k letter rest is split = rw (text_again Field comma text at (letter ∷ []) rest refl refl (key_again letter k is) split, is) refl
 

@@ -30,7 +30,7 @@ not_closing text at (b ∷ name) rest n h e =
     let k : nat_eq semicolon b ≡ false = ne_eqb semicolon b (λ z. absurd (let q = subst (λ (x : ℕ). list_any (is_stop Name) (x ∷ name) ≡ false) (sym z) n.text.open_ended in cc)) in
     rw (e, k) refl
 
-column_opens : (before : List Col) (c : Col) (bytes text : List ℕ) (at : ℕ) (rest : List ℕ) → IsColumn before c bytes → drop at text ≡ bytes ++ rest → closes text at ≡ false
+pub column_opens : (before : List Col) (c : Col) (bytes text : List ℕ) (at : ℕ) (rest : List ℕ) → IsColumn before c bytes → drop at text ≡ bytes ++ rest → closes text at ≡ false
 column_opens before c bytes text at rest s e =
     let more = equals ∷ (kind_text c.kind ++ comma ∷ (s.count ++ comma ∷ (s.letter ∷ comma ∷ (c.description ++ comma ∷ (s.values ++ comma ∷ (s.theme ++ ending_text s.ending)))))) in
     not_closing text at c.name (more ++ rest) s.name_name s.name_some (e ∙ ap (λ (b : List ℕ). b ++ rest) s.spelled ∙ append_assoc c.name more rest)
@@ -126,7 +126,7 @@ passes_nowhere p (x ∷ xs) e =
     let k = passes_nowhere p xs t.1 in
     rw (t.0, k) (omega arith)
 
-all_blank : (xs : List ℕ) → list_all is_blank xs ≡ true → list_any (λ b. not (is_blank b)) xs ≡ false
+pub all_blank : (xs : List ℕ) → list_all is_blank xs ≡ true → list_any (λ b. not (is_blank b)) xs ≡ false
 all_blank [] e = refl
 all_blank (x ∷ xs) e = let t = both (is_blank x) (list_all is_blank xs) e in rw (t.0, all_blank xs t.1) refl
 

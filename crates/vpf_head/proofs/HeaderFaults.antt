@@ -107,9 +107,9 @@ not_true : (b : Bool) → not b ≡ true → b ≡ false
 not_true true e = absurd cc
 not_true false e = refl
 
-end_faults : (before : List Col) (text : List ℕ) (at : ℕ) (o : Option ℕ) (p : Place) → closes text at ≡ true → list_any holds_data before ≡ true → position (λ b. not (is_blank b)) (drop (at + 1) text) ≡ o → end_by text (at + 1) o ≡ Err p → (here : ℕ) × (code : Code) × NextFault before text at here code × (p ≡ fault here code)
-end_faults before text at None p q d f e = absurd (no_ok (length text) p e)
-end_faults before text at (Some n) p q d f e =
+end_faults : (before : List Col) (text : List ℕ) (at : ℕ) (o : Option ℕ) (p : Place) → length before ≤ most_columns → closes text at ≡ true → list_any holds_data before ≡ true → position (λ b. not (is_blank b)) (drop (at + 1) text) ≡ o → end_by text (at + 1) o ≡ Err p → (here : ℕ) × (code : Code) × NextFault before text at here code × (p ≡ fault here code)
+end_faults before text at None p few q d f e = absurd (no_ok (length text) p e)
+end_faults before text at (Some n) p few q d f e =
     let rest = drop (at + 1) text in
     let k = position-Some (λ b. not (is_blank b)) rest n 0 f in
     let blanks = take n rest in
@@ -118,14 +118,14 @@ end_faults before text at (Some n) p q d f e =
     closing_split text at q ∙ ap (λ (x : List ℕ). semicolon ∷ x) (sym (take-append-drop n rest) ∙ ap (λ (x : List ℕ). blanks ++ x) (drop_more rest n 0 k.0)) in
     let blank = blank_all blanks (all_before is_blank rest n (omega (arith, k.0)) (λ j lt. k.2 j lt)) in
     let here : at + 1 + length blanks ≡ at + 1 + n = ap (λ (x : ℕ). at + 1 + x) len in
-    (at + 1 + length blanks, codes.AfterHeader, faults.after_columns blanks (get_or rest n 0) (drop (n + 1) rest) split d blank (not_true (is_blank (get_or rest n 0)) k.1), sym (err_is e) ∙ ap (λ (x : ℕ). fault x codes.AfterHeader) (sym here))
+    (at + 1 + length blanks, codes.AfterHeader, faults.after_columns blanks (get_or rest n 0) (drop (n + 1) rest) few split d blank (not_true (is_blank (get_or rest n 0)) k.1), sym (err_is e) ∙ ap (λ (x : ℕ). fault x codes.AfterHeader) (sym here))
 
-close_faults : (before : List Col) (text : List ℕ) (at : ℕ) (p : Place) → closes text at ≡ true → close_at before text at ≡ Err p → (here : ℕ) × (code : Code) × NextFault before text at here code × (p ≡ fault here code)
-close_faults before text at p q e = by (list_any holds_data before) refl e
+close_faults : (before : List Col) (text : List ℕ) (at : ℕ) (p : Place) → length before ≤ most_columns → closes text at ≡ true → close_at before text at ≡ Err p → (here : ℕ) × (code : Code) × NextFault before text at here code × (p ≡ fault here code)
+close_faults before text at p few q e = by (list_any holds_data before) refl e
   where
     by : (t : Bool) → list_any holds_data before ≡ t → cond t (end_at text (at + 1)) (Err (fault at codes.NoData)) ≡ failed {A = ℕ} p → (here : ℕ) × (code : Code) × NextFault before text at here code × (p ≡ fault here code)
-    by true d f = end_faults before text at (position (λ b. not (is_blank b)) (drop (at + 1) text)) p q d refl f
-    by false d f = (at, codes.NoData, faults.no_data (drop (at + 1) text) (closing_split text at q) d, sym (err_is f))
+    by true d f = end_faults before text at (position (λ b. not (is_blank b)) (drop (at + 1) text)) p few q d refl f
+    by false d f = (at, codes.NoData, faults.no_data (drop (at + 1) text) few (closing_split text at q) d, sym (err_is f))
 
 -- ---- the text
 
@@ -175,7 +175,8 @@ head_faults order text p e =
     let c = columns_take most_columns [] text narrative.past cols.0 cols.1 is3 in
     next_ok (close_at cols.0 text cols.1) _ p (InText text p) e3
     (λ f.
-    let k = close_faults cols.0 text cols.1 p c.closed f in
+    let few : length cols.0 ≤ most_columns = omega (arith, c.few, ap length c.is) in
+    let k = close_faults cols.0 text cols.1 p few c.closed f in
     let spelled = subst (λ (x : List Col). IsColumns [] x c.span.bytes) (sym c.is) c.span.is in
     after_columns text p at narrative.past description.text narrative.text refl d.0 n.0 description.past l m
     (record { before = cols.0; bytes = c.span.bytes; at = cols.1; here = k.0; code = k.1; columns = spelled; lies = record { split = c.span.split; size = c.span.past_is }; next = k.2; is = k.3 }))

@@ -22,13 +22,13 @@ place_is p (b ∷ w) rest x h e =
     let t = neither (p b) (list_any p w) h in
     rw (t.0, place_is p w rest x t.1 e) (omega arith)
 
-position_is : (p : ℕ → Bool) (w rest : List ℕ) (x : ℕ) → list_any p w ≡ false → p x ≡ true → position p (w ++ x ∷ rest) ≡ Some (length w)
+pub position_is : (p : ℕ → Bool) (w rest : List ℕ) (x : ℕ) → list_any p w ≡ false → p x ≡ true → position p (w ++ x ∷ rest) ≡ Some (length w)
 position_is p w rest x h e =
     let k = place_is p w rest x h e in
     let lt : ltb (length w) (length (w ++ x ∷ rest)) ≡ true = lt-ltb _ _ (omega (arith, length-append w (x ∷ rest))) in
     rw (k, lt) refl
 
-get_at : (w rest : List ℕ) (x : ℕ) → get_or (w ++ x ∷ rest) (length w) 0 ≡ x
+pub get_at : (w rest : List ℕ) (x : ℕ) → get_or (w ++ x ∷ rest) (length w) 0 ≡ x
 get_at [] rest x = refl
 get_at (b ∷ w) rest x = get_at w rest x
 
@@ -36,7 +36,7 @@ get_at (b ∷ w) rest x = get_at w rest x
 abbrev pub made : List ℕ → ℕ → ℕ → Item
 made w x at = record { text = w; stop = x; past = at + length w + 1 }
 
-item_again : (form : Form) (x : ℕ) (text : List ℕ) (at : ℕ) (w rest : List ℕ) → is_stop form x ≡ true → is_separator form x ≡ true → IsOpen form w → drop at text ≡ w ++ x ∷ rest → item_at form text at ≡ Ok (made w x at)
+pub item_again : (form : Form) (x : ℕ) (text : List ℕ) (at : ℕ) (w rest : List ℕ) → is_stop form x ≡ true → is_separator form x ≡ true → IsOpen form w → drop at text ≡ w ++ x ∷ rest → item_at form text at ≡ Ok (made w x at)
 unfolding item_at
 item_again form x text at w rest stops may is split =
     let found : position (is_stop form) (drop at text) ≡ Some (length w) = ap (position (is_stop form)) split ∙ position_is (is_stop form) w rest x is stops in

@@ -15,3 +15,5 @@ pub mod Decided
 pub mod FaultLaws
 pub mod ColumnFaults
 pub mod HeaderFaults
+pub mod ColumnRefusals
+pub mod HeaderRefusals

@@ -115,8 +115,8 @@ IsFurther bytes = (rest : List ℕ) → bytes ≢ semicolon ∷ rest
 pub data NextFault (before : List Col) (text : List ℕ) (at : ℕ) : ℕ → Code → Type 0 where
   too_many : length before ≡ most_columns → IsFurther (drop at text) → NextFault before text at at (codes.LimitColumns (most_columns + 1))
   in_column : (next : Next) (bytes : List ℕ) (here : ℕ) (code : Code) → length before < most_columns → IsFurther (drop at text) → IsBeginning before next bytes → Lies text at here bytes → Refuses before (drop here text) next code → NextFault before text at here code
-  no_data : (rest : List ℕ) → drop at text ≡ semicolon ∷ rest → list_any holds_data before ≡ false → NextFault before text at at codes.NoData
-  after_columns : (blanks : List ℕ) (b : ℕ) (rest : List ℕ) → drop at text ≡ semicolon ∷ (blanks ++ b ∷ rest) → list_any holds_data before ≡ true → list_all is_blank blanks ≡ true → is_blank b ≡ false → NextFault before text at (at + 1 + length blanks) codes.AfterHeader
+  no_data : (rest : List ℕ) → length before ≤ most_columns → drop at text ≡ semicolon ∷ rest → list_any holds_data before ≡ false → NextFault before text at at codes.NoData
+  after_columns : (blanks : List ℕ) (b : ℕ) (rest : List ℕ) → length before ≤ most_columns → drop at text ≡ semicolon ∷ (blanks ++ b ∷ rest) → list_any holds_data before ≡ true → list_all is_blank blanks ≡ true → is_blank b ≡ false → NextFault before text at (at + 1 + length blanks) codes.AfterHeader
 
 -- a header text is refused at this offset, after its mark or none
 pub data TextFault (text : List ℕ) : ℕ → Code → Type 0 where

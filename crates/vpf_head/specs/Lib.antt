@@ -10,6 +10,6 @@ pub mod Spelling
 pub mod Canonical
 pub mod Soundness
 pub mod Making
-pub mod Deciding
 pub mod Faults
+pub mod Deciding
 pub mod Views

@@ -222,12 +222,13 @@ fn set_kind(columns: &mut Columns<'_>, c: usize, kind: Kind)
 }
 
 impl<'a> Header<'a> {
-    ghost use Rattle.std.specs.Prelude.{◌≡◌, ◌<◌, ◌≤◌, ◌++◌, ℕ, List, IfOk, IfSome, IsTrue, OnOk, OnErr, slice_get, length, take, Some, Ok};
+    ghost use Rattle.std.specs.Prelude.{◌≡◌, ◌<◌, ◌≤◌, ◌++◌, ℕ, List, IfOk, IfErr, IfSome, IsTrue, OnOk, OnErr, slice_get, length, take, Some, Ok};
     ghost use Rattle.std.specs.Option.{option_copied};
     ghost use Rattle.vpf_triplet.specs.declared.kinds.Count.TheVariants.{Fixed};
-    ghost use Rattle.vpf_triplet.specs.Places.{Answers};
+    ghost use Rattle.vpf_triplet.specs.Places.{Answers, ForPlace};
     ghost use Rattle.vpf_head.specs.Canonical.{canonical_header, canonical_text};
     ghost use Rattle.vpf_head.specs.Deciding.{Begins};
+    ghost use Rattle.vpf_head.specs.Faults.{FirstFault};
     ghost use Rattle.vpf_head.specs.Head.{Head, names_rows, place_of, varies_in, with_kind};
     ghost use Rattle.vpf_head.specs.Making.{new_of};
     ghost use Rattle.vpf_head.specs.Reading.{header_of};
@@ -246,6 +247,8 @@ impl<'a> Header<'a> {
         ensures only { (h : Head) (text rest : List ℕ) → Begins bytes.now h text rest → Answers (λ r. r) result (Ok (h, length text)) }
         // The header and where it ends, or the first fault.
         ensures exact { Answers (λ r. r) result (header_of bytes.now) }
+        // What is refused has this first fault.
+        ensures refused { IfErr result (ForPlace (FirstFault bytes.now)) }
         // The first row begins inside the file or at its end.
         ensures inside { IfOk result (λ r. r.1 ≤ length bytes.now) }
     {

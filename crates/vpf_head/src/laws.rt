@@ -1,13 +1,13 @@
 //! Laws about the definitions of headers alone.
 
-ghost use Rattle.std.specs.Prelude.{◌≡◌, ◌≤◌, ◌++◌, ℕ, List, length, slice_get, take, IfSome, IsTrue, Ok};
+ghost use Rattle.std.specs.Prelude.{◌≡◌, ◌≤◌, ◌++◌, ℕ, List, length, slice_get, take, IfSome, IsTrue, Ok, Err};
 ghost use Rattle.vpf_triplet.specs.Numbers.{IsBytes};
 ghost use Rattle.vpf_triplet.specs.declared.kinds.Count.TheVariants.{Fixed};
 ghost use Rattle.vpf_triplet.specs.declared.kinds.Kind.{Kind};
 ghost use Rattle.vpf_triplet.specs.declared.orders.Order.{Order};
 ghost use Rattle.vpf_triplet.specs.declared.places.Place.{Place};
 ghost use Rattle.vpf_head.specs.Canonical.{canonical_header, canonical_text};
-ghost use Rattle.vpf_head.specs.Deciding.{Begins, Decides, IsRefused};
+ghost use Rattle.vpf_head.specs.Deciding.{Begins, Decides};
 ghost use Rattle.vpf_head.specs.Faults.{FirstFault};
 ghost use Rattle.vpf_head.specs.Head.{Head, names_rows, with_kind};
 ghost use Rattle.vpf_head.specs.Making.{new_of};
@@ -16,8 +16,8 @@ ghost use Rattle.vpf_head.specs.Soundness.{IsSound};
 ghost use Rattle.vpf_head.specs.Spelling.{IsHeader};
 ghost use Rattle.vpf_head.specs.Texts.{longest_text};
 
-/// Each list of bytes begins with the spelling of exactly one header, or is refused at exactly one place with one code,
-/// and never both. So no spelling is a proper beginning of another.
+/// Each list of bytes begins with the spelling of exactly one header, or has exactly one first
+/// fault, and never both. So no spelling is a proper beginning of another.
 pub fn headers_decide()
     ensures { (bytes : List ℕ) → IsBytes bytes → Decides bytes }
 {}
@@ -54,10 +54,11 @@ pub fn canonical_is_read()
     ensures as_long { (h : Head) (order : Order) → length (canonical_text (record h { order = order })) ≡ length (canonical_text h) }
 {}
 
-/// The place where bytes are refused is their first fault: the parts before it are spelled, and the next part is refused
-/// there by the first of its rules that applies.
+/// The place where bytes are refused is their first fault, and only that one: the parts before it are spelled, and the next
+/// part is refused there by the first of its rules that applies.
 pub fn refusals_are_first_faults()
-    ensures { (bytes : List ℕ) (place : Place) → IsRefused bytes place → FirstFault bytes place }
+    ensures only { (bytes : List ℕ) (place : Place) → header_of bytes ≡ Err place → FirstFault bytes place }
+    ensures each { (bytes : List ℕ) (place : Place) → FirstFault bytes place → header_of bytes ≡ Err place }
 {}
 
 /// Parts make a header exactly where the file of their canonical text spells them, and then it has these parts. So sound parts

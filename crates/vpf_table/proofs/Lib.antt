@@ -12,6 +12,9 @@ pub mod RowsFew
 pub mod SpanLemmas
 pub mod Owning
 pub mod SpanLaws
+pub mod FaultLaws
+pub mod RefusalLaws
+pub mod Decided
 pub mod RowTexts
 pub mod WriteLimits
 pub mod Cutting

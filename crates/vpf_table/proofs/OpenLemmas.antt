@@ -1,10 +1,11 @@
 use Rattle.std.proofs.Common.{◌≡◌, ℕ, ◌+◌, List, length, Option, Result, Ok, Err, refl, ap, subst, arith}
-use Rattle.std.specs.Prelude.{IfOk}
+use Rattle.std.specs.Prelude.{IfOk, IfErr}
 use Rattle.vpf_triplet.specs.declared.places.Place.{Place}
 use Rattle.vpf_triplet.specs.declared.places.PlaceError.{PlaceError}
 use Rattle.vpf_triplet.specs.declared.places.PlaceError.TheVariants as errors
 use Rattle.vpf_head.specs.Head.{Head}
-use Rattle.vpf_triplet.specs.Places.{Answers, Fails}
+use Rattle.vpf_triplet.specs.Places.{Answers, Fails, ForPlace}
+use Rattle.vpf_table.specs.Faults.{FirstFault}
 use Rattle.vpf_table.specs.Opening.{opened_of}
 use Rattle.vpf_table.specs.Spans.{IsOpened}
 use Rattle.vpf_head.specs.Reading.{header_of}
@@ -46,3 +47,8 @@ opened_is_spelled (Err error) bytes index spelled e = tt
 
 pub spelled_is_opened : (r : Result Grid PlaceError) (bytes : List ℕ) (index : Option (List ℕ)) (g : Grid) → opened_of bytes index ≡ Ok g → Answers whole r (opened_of bytes index) → Answers whole r (Ok g)
 spelled_is_opened r bytes index g is e = let P : Result Grid Place → Type 0 = λ (x : Result Grid Place). Answers whole r x in subst P is e
+
+pub refused_is_faulty : (r : Result Grid PlaceError) (bytes : List ℕ) (index : Option (List ℕ)) → ((p : Place) → opened_of bytes index ≡ Err p → FirstFault bytes index p) → Answers whole r (opened_of bytes index) → IfErr r (ForPlace (FirstFault bytes index))
+refused_is_faulty (Ok g) bytes index faulty e = tt
+refused_is_faulty (Err errors.NoMemory) bytes index faulty e = tt
+refused_is_faulty (Err (errors.Place p)) bytes index faulty e = faulty p e

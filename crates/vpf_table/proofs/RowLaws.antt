@@ -1,22 +1,18 @@
 -- What is read is spelled so, and what is spelled so is read: rows.
-use Rattle.std.proofs.Common.{◌≡◌, ℕ, zero, suc, ◌+◌, ◌-◌, ◌<◌, ◌≤◌, leb, List, [], ◌∷◌, ◌++◌, length, drop, Result, Ok, Err, refl, sym, ap, subst, ◌∙◌, append_assoc, arith, take-add, inl, inr}
+use Rattle.std.proofs.Common.{◌≡◌, ℕ, zero, suc, ◌+◌, ◌-◌, ◌<◌, ◌≤◌, leb, List, [], ◌∷◌, ◌++◌, length, drop, Ok, Err, refl, sym, ap, subst, ◌∙◌, append_assoc, arith, take-add, inl, inr}
 use Rattle.std.specs.Prelude.{slice_range}
 use Rattle.std.proofs.lemmas.Bool.{lt-leb, le-leb, leb-true}
 use Rattle.std.proofs.lemmas.List.{drop_at, drop-drop, take-append-drop, length-append, length-drop, get_or-drop, drop_all}
 use Rattle.vpf_triplet.specs.declared.orders.Order.{Order}
-use Rattle.vpf_triplet.specs.declared.places.Place.{Place}
-use Rattle.vpf_triplet.specs.declared.places.Code.{Code}
 use Rattle.vpf_triplet.specs.declared.places.Code.TheVariants as codes
 use Rattle.vpf_triplet.specs.Numbers.{IsBytes}
 use Rattle.vpf_triplet.specs.Places.{◌>>=◌, fault}
-use Rattle.vpf_value.specs.Values.{Value}
 use Rattle.vpf_value.specs.Reading.{cell_from}
 use Rattle.vpf_value.specs.Spelling.{IsCell}
 use Rattle.vpf_head.specs.Head.{Col}
 use Rattle.vpf_table.specs.Grid.{Row}
-use Rattle.vpf_table.specs.Reading.{most_rows, lifted, cell_in, row_at, rows_at}
+use Rattle.vpf_table.specs.Reading.{most_rows, cell_in, row_at, rows_at}
 use Rattle.vpf_table.specs.Spelling.{IsRow, IsRows}
-use Rattle.vpf_table.specs.Deciding.{Stops}
 use Rattle.vpf_table.specs.Lower.{CellAndHeaderLaws}
 use Rattle.vpf_table.proofs.WalkLemmas.{ok_is}
 use Rattle.vpf_table.proofs.Parts.{bind_ok, lifted_ok, rows, tested}
@@ -25,7 +21,7 @@ use Rattle.vpf_table.proofs.Parts.{bind_ok, lifted_ok, rows, tested}
 abbrev pub HasRoom : Order → List Col → Type 0
 HasRoom o cs = (r : Row) (x : List ℕ) → IsRow o cs r x → 0 < length x
 
-IsBytes-drop : (n : ℕ) (bytes : List ℕ) → IsBytes bytes → IsBytes (drop n bytes)
+pub IsBytes-drop : (n : ℕ) (bytes : List ℕ) → IsBytes bytes → IsBytes (drop n bytes)
 IsBytes-drop n bytes h i = rw get_or-drop (h (n + i))
 
 -- a range of the bytes in two parts
@@ -112,37 +108,3 @@ rows_take laws (suc m) o cs bytes at rs fits h e =
           subst (λ (x : List Row). (length x ≤ suc m) × IsRows o cs x (drop at bytes)) (ok_is (a.0.0 ∷ b.0) rs b.2)
           (omega (arith, others.0), (slice_range bytes at a.0.1, drop a.0.1 bytes, split, row.2, others.1))
     ]
-
--- ---- where reading stops
-
-cell_place : (at : ℕ) (r : Result (Value × ℕ) Code) (p : Place) → lifted at r ≡ Err p → p.at ≡ at
-cell_place at (Ok x) p e = absurd cc
-cell_place at (Err c) p e = let k : fault at c ≡ p = cc in sym (ap (λ (q : Place). q.at) k)
-
-abbrev wrap : Value → Result (Row × ℕ) Place → Result (Row × ℕ) Place
-wrap x s = s >>= λ others. Ok (x ∷ others.0, others.1)
-
-last_bind : (x : Value) (s : Result (Row × ℕ) Place) (p : Place) → wrap x s ≡ Err p → s ≡ Err p
-last_bind x (Ok r) p e = absurd cc
-last_bind x (Err q) p e = let k : q ≡ p = cc in ap (λ (y : Place). Err y) k
-
-abbrev then_row : Order → List Col → List ℕ → Result (Value × ℕ) Place → Result (Row × ℕ) Place
-then_row o cs bytes r = r >>= λ first. row_at o cs bytes first.1 >>= λ others. Ok (first.0 ∷ others.0, others.1)
-
-stops_by : (o : Order) (c : Col) (cs : List Col) (bytes : List ℕ) (at : ℕ) (p : Place) (r : Result (Value × ℕ) Place) → ((n : ℕ) → row_at o cs bytes n ≡ Err p → Stops o cs bytes n p)
-    → cell_in o c bytes at ≡ r → then_row o cs bytes r ≡ Err p → Stops o (c ∷ cs) bytes at p
-unfolding row_at
-stops_by o c cs bytes at p (Ok x) more is f =
-    let s = more x.1 (last_bind x.0 (row_at o cs bytes x.1) p f) in
-    record { before = c ∷ s.before; next = s.next; after = s.after; cells = x.0 ∷ s.cells; parts = ap (λ (y : List Col). c ∷ y) s.parts; spelled = rw (is, s.spelled) refl; fault = s.fault }
-stops_by o c cs bytes at p (Err q) more is f =
-    let k : q ≡ p = cc in
-    let cell : cell_in o c bytes at ≡ Err p = is ∙ ap (λ (y : Place). Err y) k in
-    let here : p.at ≡ at = cell_place at (cell_from o c.kind c.count (drop at bytes)) p cell in
-    record { before = []; next = c; after = cs; cells = []; parts = refl; spelled = rw here refl; fault = ap (λ (n : ℕ). cell_in o c bytes n) here ∙ cell }
-
--- a row is refused at the place of its first cell that has no spelling
-pub row_stops : (o : Order) (cs : List Col) (bytes : List ℕ) (at : ℕ) (p : Place) → row_at o cs bytes at ≡ Err p → Stops o cs bytes at p
-unfolding row_at
-row_stops o [] bytes at p e = absurd cc
-row_stops o (c ∷ cs) bytes at p e = stops_by o c cs bytes at p (cell_in o c bytes at) (λ n h. row_stops o cs bytes n p h) refl e

@@ -1,11 +1,10 @@
 -- What is opened with its index is spelled so, and what is spelled so is opened.
-use Rattle.std.proofs.Common.{Result, ◌≡◌, ℕ, zero, suc, ◌+◌, ◌-◌, ◌<◌, ◌≤◌, ◌^◌, leb, List, [], ◌∷◌, ◌++◌, length, take, drop, Option, Some, None, Ok, Err, refl, sym, ap, subst, ◌∙◌, arith, inl, inr, ◌⊎◌}
+use Rattle.std.proofs.Common.{◌≡◌, ℕ, zero, suc, ◌+◌, ◌-◌, ◌<◌, ◌≤◌, ◌^◌, leb, List, [], ◌∷◌, ◌++◌, length, take, drop, Option, Some, None, Ok, Err, refl, sym, ap, subst, ◌∙◌, arith, inl, inr}
 use Rattle.std.specs.Prelude.{All, IfSome, slice_get, slice_range}
 use Rattle.std.proofs.lemmas.List.{drop_at, take_at, drop-drop, take-append-drop, length-append, length-drop, length-take-le, drop_all}
 use Rattle.std.proofs.lemmas.List.Elements.{All-nil, All-cons}
 use Rattle.std.proofs.lemmas.Bool.{leb-true}
 use Rattle.vpf_triplet.specs.declared.orders.Order.{Order}
-use Rattle.vpf_triplet.specs.declared.places.Place.{Place}
 use Rattle.vpf_triplet.specs.declared.places.Code.TheVariants as codes
 use Rattle.vpf_triplet.specs.Numbers.{IsBytes}
 use Rattle.vpf_triplet.specs.Places.{◌>>=◌, fault}
@@ -17,8 +16,7 @@ use Rattle.vpf_table.specs.Grid.{Row, Grid}
 use Rattle.vpf_table.specs.Reading.{most_rows, row_at, rows_at, table_of}
 use Rattle.vpf_table.specs.Spelling.{IsRow, IsRows, IsTable}
 use Rattle.vpf_table.specs.Opening.{spans_at, start_of, row_spans, owned, opened_of}
-use Rattle.vpf_table.specs.Spans.{AreSpans, IsIndexed, IsOpened}
-use Rattle.vpf_table.specs.Deciding.{FirstFault, Decides}
+use Rattle.vpf_table.specs.Spans.{AreSpans, LieAt, IsIndexed, IsOpened}
 use Rattle.vpf_table.specs.Lower.{CellAndHeaderLaws, IndexLaws}
 use Rattle.vpf_table.proofs.WalkLemmas.{ok_is}
 use Rattle.vpf_table.proofs.Parts.{bind_ok, rows, tested}
@@ -88,18 +86,25 @@ spans_take laws (suc m) o cs bytes at rs fits h e =
 
 -- ---- tables
 
+pub lying_is_table : (g : Grid) (bytes : List ℕ) (spans : List (ℕ × ℕ)) → LieAt g bytes spans → IsTable g bytes
+lying_is_table g bytes spans i = record { front = i.front; rest = i.rest; parts = i.parts; header = i.header; rows = spans_are_rows g.head.order g.head.columns g.rows (length i.front) i.rest spans i.rows; most = i.most }
+
 pub indexed_is_table : (g : Grid) (bytes index : List ℕ) → IsIndexed g bytes index → IsTable g bytes
-indexed_is_table g bytes index i = record { front = i.front; rest = i.rest; parts = i.parts; header = i.header; rows = spans_are_rows g.head.order g.head.columns g.rows (length i.front) i.rest i.spans i.rows; most = i.most }
+indexed_is_table g bytes index i = lying_is_table g bytes i.spans i.lie
+
+-- rows lie where they are read
+pub lying_again : CellAndHeaderLaws → (bytes : List ℕ) (g : Grid) (spans : List (ℕ × ℕ)) → LieAt g bytes spans → row_spans bytes g ≡ spans
+lying_again laws bytes g spans l =
+    let head = laws.header_is_read bytes g.head l.front l.rest (record { parts = l.parts; spelled = l.header }) in
+    let start : start_of (header_of bytes) ≡ length l.front = ap start_of head in
+    let left : drop (length l.front) bytes ≡ l.rest = ap (drop (length l.front)) l.parts ∙ drop_at l.front l.rest (length l.front) refl in
+    ap (spans_at (length g.rows) g.head.order g.head.columns bytes) start ∙ spans_again laws g.head.order g.head.columns g.rows bytes (length l.front) l.rest spans left l.rows
 
 pub opened_again : CellAndHeaderLaws → IndexLaws → (bytes : List ℕ) (index : Option (List ℕ)) (g : Grid) → IsOpened g bytes index → opened_of bytes index ≡ Ok g
 opened_again laws ix bytes None g i = table_again laws g bytes i
 opened_again laws ix bytes (Some index) g i =
     let table = table_again laws g bytes (indexed_is_table g bytes index i) in
-    let head = laws.header_is_read bytes g.head i.front i.rest (record { parts = i.parts; spelled = i.header }) in
-    let start : start_of (header_of bytes) ≡ length i.front = ap start_of head in
-    let left : drop (length i.front) bytes ≡ i.rest = ap (drop (length i.front)) i.parts ∙ drop_at i.front i.rest (length i.front) refl in
-    let spans : row_spans bytes g ≡ i.spans = ap (spans_at (length g.rows) g.head.order g.head.columns bytes) start ∙ spans_again laws g.head.order g.head.columns g.rows bytes (length i.front) i.rest i.spans left i.rows in
-    rw (table, ix.index_is_read g.head.order i.spans index i.entries, spans) (owned_self g i.spans)
+    rw (table, ix.index_is_read g.head.order i.spans index i.entries, lying_again laws bytes g i.spans i.lie) (owned_self g i.spans)
 
 -- the parts of a table that is read
 record Parts (g : Grid) (bytes : List ℕ) : Type 0 where
@@ -138,21 +143,23 @@ lies laws bytes g fits e =
     let there : AreSpans h.order h.columns p.rows p.start (drop p.start bytes) (row_spans bytes made) = subst (λ (n : ℕ). AreSpans h.order h.columns p.rows p.start (drop p.start bytes) (spans_at (length p.rows) h.order h.columns bytes n)) start rows in
     subst (λ (x : Grid). Lies x bytes) p.is (record { start = p.start; inside = inside; header = p.header; rows = there; most = few })
 
-indexed_by : CellAndHeaderLaws → (bytes index : List ℕ) (g : Grid) → IsBytes bytes → table_of bytes ≡ Ok g → IsRowIndex g.head.order (row_spans bytes g) index → IsIndexed g bytes index
-indexed_by laws bytes index g fits e i =
+-- .. apart from reading
+pub lying : CellAndHeaderLaws → (bytes : List ℕ) (g : Grid) → IsBytes bytes → table_of bytes ≡ Ok g → LieAt g bytes (row_spans bytes g)
+lying laws bytes g fits e =
     let l = lies laws bytes g fits e in
     let head = laws.header_is_spelled bytes g.head l.start fits l.header in
     let len : l.start ≡ length (take l.start bytes) = sym (length-take-le l.start bytes l.inside) in
     record {
       front = take l.start bytes;
       rest = drop l.start bytes;
-      spans = row_spans bytes g;
       parts = sym (take-append-drop l.start bytes);
       header = head.1;
       rows = subst (λ (n : ℕ). AreSpans g.head.order g.head.columns g.rows n (drop l.start bytes) (row_spans bytes g)) len l.rows;
       most = l.most;
-      entries = i;
     }
+
+indexed_by : CellAndHeaderLaws → (bytes index : List ℕ) (g : Grid) → IsBytes bytes → table_of bytes ≡ Ok g → IsRowIndex g.head.order (row_spans bytes g) index → IsIndexed g bytes index
+indexed_by laws bytes index g fits e i = record { spans = row_spans bytes g; lie = lying laws bytes g fits e; entries = i }
 
 pub opened_takes : CellAndHeaderLaws → IndexLaws → (bytes : List ℕ) (index : Option (List ℕ)) (g : Grid) → IsBytes bytes → IfSome index IsBytes → opened_of bytes index ≡ Ok g → IsOpened g bytes index
 opened_takes laws ix bytes None g fits fits2 e = table_takes laws bytes g fits e
@@ -172,27 +179,6 @@ opened_is_read bytes (Some index) g e =
     let b = bind_ok (index_at a.0.head.order index) (λ es. owned a.0 es (row_spans bytes a.0)) g a.2 in
     let c = owned_is a.0 g b.0 (row_spans bytes a.0) b.2 in
     subst (λ (x : Grid). table_of bytes ≡ Ok x) c.0 a.1
-
--- ---- one or the other
-
-either_of : CellAndHeaderLaws → IndexLaws → (bytes : List ℕ) (index : Option (List ℕ)) (r : Result Grid Place) → IsBytes bytes → IfSome index IsBytes → opened_of bytes index ≡ r
-    → ((g : Grid) × IsOpened g bytes index) ⊎ ((place : Place) × FirstFault bytes index place)
-either_of laws ix bytes index (Ok g) fits fits2 e = inl (g, opened_takes laws ix bytes index g fits fits2 e)
-either_of laws ix bytes index (Err p) fits fits2 e = inr (p, e)
-
-ok_err : (r : Result Grid Place) (x : Grid) (p : Place) → r ≡ Ok x → r ≡ Err p → ⊥
-ok_err r x p e f = cc
-
-err_err : (r : Result Grid Place) (p q : Place) → r ≡ Err p → r ≡ Err q → p ≡ q
-err_err r p q e f = cc
-
-pub opening_decided : CellAndHeaderLaws → IndexLaws → (bytes : List ℕ) (index : Option (List ℕ)) → IsBytes bytes → IfSome index IsBytes → Decides bytes index
-opening_decided laws ix bytes index fits fits2 = record {
-  either = either_of laws ix bytes index (opened_of bytes index) fits fits2 refl;
-  never_both = λ g p t f. ok_err _ g p (opened_again laws ix bytes index g t) f;
-  one_table = λ g h t u. ok_is g h (sym (opened_again laws ix bytes index g t) ∙ opened_again laws ix bytes index h u);
-  one_fault = λ p q e f. err_err _ p q e f;
-}
 
 -- ---- the index that is written
 

@@ -44,7 +44,7 @@ row_room laws o (c ∷ cs) [] x s d h = absurd h
 row_room laws o (c ∷ cs) (v ∷ vs) x s d h =
     room_by laws o c cs v vs x (is_data c.kind) refl (All-head IsCounted c cs s) d h (λ e y i. row_room laws o cs vs y (All-tail IsCounted c cs s) e i)
 
-has_room : CellAndHeaderLaws → (h : Head) → IsSound h → HasRoom h.order h.columns
+pub has_room : CellAndHeaderLaws → (h : Head) → IsSound h → HasRoom h.order h.columns
 has_room laws h s r x i = row_room laws h.order h.columns r x s.counts s.filled i
 
 pub table_again : CellAndHeaderLaws → (g : Grid) (bytes : List ℕ) → IsTable g bytes → table_of bytes ≡ Ok g

@@ -11,6 +11,7 @@ pub mod RowsLeft
 pub mod Findings
 pub mod Limits
 pub mod Spelling
+pub mod Faults
 pub mod Deciding
 pub mod Lower
 pub mod Canonical

@@ -16,15 +16,19 @@ AreSpans o cs [] at b (s ∷ ss) = ⊥
 AreSpans o cs (r ∷ rs) at b [] = ⊥
 AreSpans o cs (r ∷ rs) at b (s ∷ ss) = (x : List ℕ) × (y : List ℕ) × (b ≡ x ++ y) × IsRow o cs r x × (s ≡ (at, length x)) × AreSpans o cs rs (at + length x) y ss
 
--- a table, and the index of its rows in its order
-pub record IsIndexed (g : Grid) (bytes index : List ℕ) : Type 0 where
+-- a table, whose rows have these offsets and lengths in its file
+pub record LieAt (g : Grid) (bytes : List ℕ) (spans : List (ℕ × ℕ)) : Type 0 where
   pub front : List ℕ
   pub rest : List ℕ
-  pub spans : List (ℕ × ℕ)
   pub parts : bytes ≡ front ++ rest
   pub header : IsHeader g.head front
   pub rows : AreSpans g.head.order g.head.columns g.rows (length front) rest spans
   pub most : length g.rows ≤ most_rows
+
+-- a table, and the index of its rows in its order
+pub record IsIndexed (g : Grid) (bytes index : List ℕ) : Type 0 where
+  pub spans : List (ℕ × ℕ)
+  pub lie : LieAt g bytes spans
   pub entries : IsRowIndex g.head.order spans index
 
 -- a table, with its own index where one is given

@@ -4,14 +4,14 @@ ghost use Rattle.std.specs.Prelude.{◌≡◌, ◌<◌, ◌+◌, ◌%◌, ◌^�
 ghost use Rattle.vpf_triplet.specs.declared.orders.Order.{Order};
 ghost use Rattle.vpf_triplet.specs.declared.places.Place.{Place};
 ghost use Rattle.vpf_triplet.specs.Numbers.{IsBytes};
-ghost use Rattle.vpf_head.specs.Head.{Col};
 ghost use Rattle.vpf_varindex.specs.RowIndex.{row_index, HasSpan};
 ghost use Rattle.vpf_table.specs.Grid.{Grid, Row};
 ghost use Rattle.vpf_table.specs.Canonical.{IsWritable, canonical_table, canonical_spans, canonical_index, in_order, joined, grid_of_cells};
 ghost use Rattle.vpf_table.specs.Writing.{first_limit};
-ghost use Rattle.vpf_table.specs.Reading.{row_at, table_of};
+ghost use Rattle.vpf_table.specs.Reading.{table_of};
 ghost use Rattle.vpf_table.specs.Spelling.{IsRow, IsTable};
-ghost use Rattle.vpf_table.specs.Deciding.{Decides, Stops};
+ghost use Rattle.vpf_table.specs.Deciding.{Decides};
+ghost use Rattle.vpf_table.specs.Faults.{FirstFault};
 ghost use Rattle.vpf_table.specs.Opening.{opened_of, row_spans};
 ghost use Rattle.vpf_table.specs.Spans.{IsOpened};
 ghost use Rattle.vpf_table.specs.Lower.{CellAndHeaderLaws, IndexLaws};
@@ -27,9 +27,11 @@ pub(crate) fn cells_and_headers()
     cells::spelled_is_read();
     cells::read_is_spelled();
     cells::cells_have_room();
+    cells::refusals_are_first_faults();
     headers::spelled_is_read();
     headers::read_is_spelled();
     headers::read_headers_are_sound();
+    headers::refusals_are_first_faults();
 }
 
 /// The laws of variable-length indexes, together.
@@ -39,6 +41,7 @@ fn laws_of_indexes()
     indexes::spelled_is_read();
     indexes::read_is_spelled();
     indexes::written_is_read();
+    indexes::refusals_are_first_faults();
 }
 
 /// Each list of bytes is the spelling of exactly one table, with its own index where one is given, or has exactly one first
@@ -106,10 +109,15 @@ pub fn joined_rows_are_cut()
     ensures rows { (g : Grid) → IsWritable g → grid_of_cells g.head (joined g.rows) ≡ g }
 {}
 
-/// A row is refused at its first cell that isn't spelled: the cells before it are.
-pub fn rows_stop_at_their_first_fault()
-    ensures { (o : Order) (columns : List Col) (bytes : List ℕ) (at : ℕ) (place : Place) → row_at o columns bytes at ≡ Err place → Stops o columns bytes at place }
-{}
+/// The place where a table is refused, or the index that is given with it, is the first fault, and only that one: the parts
+/// before it are spelled, and the next part is refused there by the first of its rules that applies.
+pub fn refusals_are_first_faults()
+    ensures only { (bytes : List ℕ) (index : Option (List ℕ)) (place : Place) → IsBytes bytes → IfSome index IsBytes → opened_of bytes index ≡ Err place → FirstFault bytes index place }
+    ensures each { (bytes : List ℕ) (index : Option (List ℕ)) (place : Place) → FirstFault bytes index place → opened_of bytes index ≡ Err place }
+{
+    cells_and_headers();
+    laws_of_indexes();
+}
 
 /// What is spelled as a table, with its own index where one is given, is opened as that table.
 pub fn spelled_is_opened()

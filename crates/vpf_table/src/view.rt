@@ -3,7 +3,7 @@
 use crate::counting::count_rows;
 use crate::indexing::{index_has_bytes, own_index};
 use crate::iteration::Rows;
-use crate::laws::{opened_is_spelled, spelled_is_opened};
+use crate::laws::{opened_is_spelled, refusals_are_first_faults, spelled_is_opened};
 use crate::places_of_rows::place_of_row;
 use crate::rewriting::most_len;
 use crate::row::RowView;
@@ -42,9 +42,10 @@ impl<'a> Model for TableView<'a> {
 }
 
 impl<'a> TableView<'a> {
-    ghost use Rattle.std.specs.Prelude.{◌≡◌, ◌≤◌, ◌+◌, ◌-◌, ◌==◌, ◌<◌, ◌^◌, ℕ, All, false, IfOk, IfSome, IsSome, Ok, Some, length, slice_get};
+    ghost use Rattle.std.specs.Prelude.{◌≡◌, ◌≤◌, ◌+◌, ◌-◌, ◌==◌, ◌<◌, ◌^◌, ℕ, All, false, IfOk, IfErr, IfSome, IsSome, Ok, Some, length, slice_get};
     ghost use Rattle.std.specs.Option.{option_copied};
-    ghost use Rattle.vpf_triplet.specs.Places.{Answers};
+    ghost use Rattle.vpf_triplet.specs.Places.{Answers, ForPlace};
+    ghost use Rattle.vpf_table.specs.Faults.{FirstFault};
     ghost use Rattle.vpf_table.specs.Grid.{Grid};
     ghost use Rattle.vpf_triplet.specs.declared.orders.Order.{Order};
     ghost use Rattle.vpf_table.specs.Canonical.{FitsRow, rows_text};
@@ -72,9 +73,12 @@ impl<'a> TableView<'a> {
         ensures only { (g : Grid) → IsOpened g bytes.now (option_copied index.entry) → Answers (λ t. t) result (Ok g) }
         // The table, or the first fault, unless memory ran out.
         ensures exact { Answers (λ t. t) result (opened_of bytes.now (option_copied index.entry)) }
+        // What is refused has this first fault.
+        ensures refused { IfErr result (ForPlace (FirstFault bytes.now (option_copied index.entry))) }
     {
         spelled_is_opened();
         opened_is_spelled();
+        refusals_are_first_faults();
         index_has_bytes(index);
         TableView::read(alloc, bytes, index)
     }

@@ -12,7 +12,7 @@ use Rattle.vpf_theme.specs.declared.layout.Layout.{Layout}
 use Rattle.vpf_theme.specs.declared.entries.Extent.{Extent}
 use Rattle.vpf_theme.specs.Layouts.{entry_start, row_bytes}
 use Rattle.vpf_theme.specs.Entries.{entry_of, extent_of, is_marked, listed_rows, number_at, number_start, rows_by}
-use Rattle.vpf_theme.specs.Reading.{first_of, fault_where, is_data, is_row, is_bitmap, number_line, numbers_line, list_line, pad_line, bitmap_line, rows_line, entries_line}
+use Rattle.vpf_theme.specs.Reading.{first_of, fault_where, is_data, is_row, is_bitmap, number_line, numbers_line, list_line, pad_line, bitmap_line, rows_line, entry_line, entries_line}
 use Rattle.vpf_theme.specs.Views.{AreRows, HasData}
 use Rattle.vpf_theme.proofs.FaultLemmas.{or_none, first_none, no_fault, entry_none, entry_rows}
 
@@ -39,7 +39,7 @@ numbers_rows l bytes i e h k m =
 data_ends : (l : Layout) (bytes : List ℕ) (offset len : ℕ) → is_data l bytes offset len ≡ true → offset + len ≤ length bytes
 data_ends l bytes offset len h = grind (arith, nat_tests)
 
-row_bounds : (l : Layout) (n : ℕ) → is_row l n ≡ true → (1 ≤ n) × (n ≤ l.rows)
+pub row_bounds : (l : Layout) (n : ℕ) → is_row l n ≡ true → (1 ≤ n) × (n ≤ l.rows)
 row_bounds l n h = grind (arith, nat_tests)
 
 pub bitmap_data : (l : Layout) (bytes : List ℕ) (i : ℕ) (e : Extent) → bitmap_line l bytes i e ≡ None → is_bitmap l bytes e ≡ true
@@ -91,9 +91,12 @@ are_rows forms.Bitmap l bytes i e h = all_filter (λ row. (1 ≤ row) × (row �
 pub entry_data : (l : Layout) (bytes : List ℕ) (i : ℕ) → entries_line l bytes ≡ None → i < l.entries → HasData l.form l bytes (extent_of l bytes i)
 entry_data l bytes i h k = has_data l.form l bytes i (extent_of l bytes i) (entry_rows l bytes i (entry_none l bytes i h k))
 
-pub entry_are_rows : (l : Layout) (bytes : List ℕ) (i : ℕ) → entries_line l bytes ≡ None → i < l.entries → AreRows l.rows (entry_of l bytes i).rows
+pub entry_rows_by : (l : Layout) (bytes : List ℕ) (i : ℕ) → entry_line l bytes i ≡ None → AreRows l.rows (entry_of l bytes i).rows
 unfolding entry_of
-entry_are_rows l bytes i h k = are_rows l.form l bytes i (extent_of l bytes i) (entry_rows l bytes i (entry_none l bytes i h k))
+entry_rows_by l bytes i h = are_rows l.form l bytes i (extent_of l bytes i) (entry_rows l bytes i h)
+
+pub entry_are_rows : (l : Layout) (bytes : List ℕ) (i : ℕ) → entries_line l bytes ≡ None → i < l.entries → AreRows l.rows (entry_of l bytes i).rows
+entry_are_rows l bytes i h k = entry_rows_by l bytes i (entry_none l bytes i h k)
 
 pub rows-entry : (l : Layout) (bytes : List ℕ) (i : ℕ) → (entry_of l bytes i).rows ≡ rows_by l.form l bytes (extent_of l bytes i)
 unfolding entry_of

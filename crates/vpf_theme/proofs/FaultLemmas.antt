@@ -48,12 +48,15 @@ pub entry_rows : (l : Layout) (bytes : List ℕ) (i : ℕ) → entry_line l byte
 unfolding entry_line
 entry_rows l bytes i h = (or_none (sort_line l bytes i) (rows_line l.form l bytes i (extent_of l bytes i)) (or_none (cut_line l bytes i) (option_or (sort_line l bytes i) (rows_line l.form l bytes i (extent_of l bytes i))) h).1).1
 
-pub whole_from : (l : Layout) (bytes : List ℕ) (i : ℕ) → entries_line l bytes ≡ None → i < l.entries → IsWhole l bytes i
-whole_from l bytes i h k =
-    let c = no_fault (nat_lt (length bytes) (entry_start l i + entry_bytes l)) (entry_start l i) codes.ThemeCut (entry_cut l bytes i (entry_none l bytes i h k)) in
+pub whole_by : (l : Layout) (bytes : List ℕ) (i : ℕ) → entry_line l bytes i ≡ None → IsWhole l bytes i
+whole_by l bytes i h =
+    let c = no_fault (nat_lt (length bytes) (entry_start l i + entry_bytes l)) (entry_start l i) codes.ThemeCut (entry_cut l bytes i h) in
     grind (arith, nat_tests)
 
-is_less : (o : Ordering) → is_lt o ≡ true → o ≡ Less
+pub whole_from : (l : Layout) (bytes : List ℕ) (i : ℕ) → entries_line l bytes ≡ None → i < l.entries → IsWhole l bytes i
+whole_from l bytes i h k = whole_by l bytes i (entry_none l bytes i h k)
+
+pub is_less : (o : Ordering) → is_lt o ≡ true → o ≡ Less
 is_less Less h = refl
 is_less o h = absurd (cc h)
 
@@ -64,10 +67,13 @@ sorted_test false z false h k m = absurd (cc k)
 sorted_test true false false h k m = absurd (cc m)
 
 -- each value is above the one before
-pub rises_from : (l : Layout) (bytes : List ℕ) (i : ℕ) → entries_line l bytes ≡ None → l.sorted ≡ true → i + 1 < l.entries → value_cmp (value_of l bytes i) (value_of l bytes (i + 1)) ≡ Less
-rises_from l bytes i h s k =
-    let c = no_fault (l.sorted && nat_lt 0 (i + 1) && not (rises_at l bytes (i + 1))) (entry_start l (i + 1)) codes.ThemeSort (entry_sort l bytes (i + 1) (entry_none l bytes (i + 1) h k)) in
+pub rises_by : (l : Layout) (bytes : List ℕ) (i : ℕ) → entry_line l bytes (i + 1) ≡ None → l.sorted ≡ true → value_cmp (value_of l bytes i) (value_of l bytes (i + 1)) ≡ Less
+rises_by l bytes i h s =
+    let c = no_fault (l.sorted && nat_lt 0 (i + 1) && not (rises_at l bytes (i + 1))) (entry_start l (i + 1)) codes.ThemeSort (entry_sort l bytes (i + 1) h) in
     let z : nat_lt 0 (i + 1) ≡ true = grind (arith, nat_tests) in
     let e : i + 1 - 1 ≡ i = omega arith in
     let r = is_less (value_cmp (value_of l bytes (i + 1 - 1)) (value_of l bytes (i + 1))) (sorted_test l.sorted (nat_lt 0 (i + 1)) (rises_at l bytes (i + 1)) c s z) in
     rw e at r
+
+pub rises_from : (l : Layout) (bytes : List ℕ) (i : ℕ) → entries_line l bytes ≡ None → l.sorted ≡ true → i + 1 < l.entries → value_cmp (value_of l bytes i) (value_of l bytes (i + 1)) ≡ Less
+rises_from l bytes i h s k = rises_by l bytes i (entry_none l bytes (i + 1) h k) s

@@ -23,15 +23,15 @@ use Rattle.vpf_theme.proofs.PieceLemmas.{byte_stands, letter_there, u32_stands, 
 
 -- ---- letters
 
-form_again : (form : Form) → form_of (get_or (form_text form) 0 0) ≡ Some form
+pub form_again : (form : Form) → form_of (get_or (form_text form) 0 0) ≡ Some form
 form_again forms.List = refl
 form_again forms.Bitmap = refl
 
-length-form : (form : Form) → length (form_text form) ≡ 1
+pub length-form : (form : Form) → length (form_text form) ≡ 1
 length-form forms.List = refl
 length-form forms.Bitmap = refl
 
-kind_again : (kind : Kind) → is_indexed kind ≡ true → kind_of (get_or (kind_text kind) 0 0) ≡ Some kind
+pub kind_again : (kind : Kind) → is_indexed kind ≡ true → kind_of (get_or (kind_text kind) 0 0) ≡ Some kind
 kind_again kinds.T h = refl
 kind_again kinds.L h = refl
 kind_again kinds.M h = refl
@@ -48,7 +48,7 @@ kind_again kinds.B h = absurd (cc h)
 kind_again kinds.Z h = absurd (cc h)
 kind_again kinds.Y h = absurd (cc h)
 
-length-kind : (kind : Kind) → length (kind_text kind) ≡ 1
+pub length-kind : (kind : Kind) → length (kind_text kind) ≡ 1
 length-kind kinds.T = refl
 length-kind kinds.L = refl
 length-kind kinds.M = refl
@@ -65,11 +65,11 @@ length-kind kinds.B = refl
 length-kind kinds.Z = refl
 length-kind kinds.Y = refl
 
-size_again : (size : RowSize) → row_size_of (get_or (row_size_text size) 0 0) ≡ Some size
+pub size_again : (size : RowSize) → row_size_of (get_or (row_size_text size) 0 0) ≡ Some size
 size_again sizes.Short = refl
 size_again sizes.Long = refl
 
-length-size : (size : RowSize) → length (row_size_text size) ≡ 1
+pub length-size : (size : RowSize) → length (row_size_text size) ≡ 1
 length-size sizes.Short = refl
 length-size sizes.Long = refl
 
@@ -131,13 +131,13 @@ found_one P p (y ∷ xs) x h e = found_case P p (p y) y x (find p xs) refl h.0 e
 letter_stands : (bytes piece : List ℕ) (at : ℕ) → at < length bytes → bytes_eq (get_or bytes at 0 ∷ []) piece ≡ true → StandsAt bytes at piece
 letter_stands bytes piece at h t = subst (StandsAt bytes at) ((bytes_eq-Decides (get_or bytes at 0 ∷ []) piece).0 t) (byte_stands bytes at (get_or bytes at 0) h refl)
 
-form_stands : (bytes : List ℕ) (at : ℕ) (form : Form) → at < length bytes → form_of (get_or bytes at 0) ≡ Some form → StandsAt bytes at (form_text form)
+pub form_stands : (bytes : List ℕ) (at : ℕ) (form : Form) → at < length bytes → form_of (get_or bytes at 0) ≡ Some form → StandsAt bytes at (form_text form)
 form_stands bytes at form h e = letter_stands bytes (form_text form) at h (found_one (λ (x : Form). Unit {0}) (λ (x : Form). bytes_eq (get_or bytes at 0 ∷ []) (form_text x)) (forms.List ∷ forms.Bitmap ∷ []) form (tt, (tt, tt)) e).0
 
-size_stands : (bytes : List ℕ) (at : ℕ) (size : RowSize) → at < length bytes → row_size_of (get_or bytes at 0) ≡ Some size → StandsAt bytes at (row_size_text size)
+pub size_stands : (bytes : List ℕ) (at : ℕ) (size : RowSize) → at < length bytes → row_size_of (get_or bytes at 0) ≡ Some size → StandsAt bytes at (row_size_text size)
 size_stands bytes at size h e = letter_stands bytes (row_size_text size) at h (found_one (λ (x : RowSize). Unit {0}) (λ (x : RowSize). bytes_eq (get_or bytes at 0 ∷ []) (row_size_text x)) (sizes.Short ∷ sizes.Long ∷ []) size (tt, (tt, tt)) e).0
 
-kind_stands : (bytes : List ℕ) (at : ℕ) (kind : Kind) → at < length bytes → kind_of (get_or bytes at 0) ≡ Some kind → (is_indexed kind ≡ true) × StandsAt bytes at (kind_text kind)
+pub kind_stands : (bytes : List ℕ) (at : ℕ) (kind : Kind) → at < length bytes → kind_of (get_or bytes at 0) ≡ Some kind → (is_indexed kind ≡ true) × StandsAt bytes at (kind_text kind)
 kind_stands bytes at kind h e =
     let f = found_one (λ (x : Kind). is_indexed x ≡ true) (λ (x : Kind). bytes_eq (get_or bytes at 0 ∷ []) (kind_text x)) indexed_kinds kind (refl, (refl, (refl, (refl, (refl, (refl, (refl, (refl, (refl, tt))))))))) e in
     (f.1, letter_stands bytes (kind_text kind) at h f.0)
@@ -154,7 +154,7 @@ pub then_ok : {A B : Type 0} (r : Result A Place) (next : A → Result B Place) 
 then_ok (Ok x) next y e = (x, refl, e)
 then_ok (Err p) next y e = absurd (cc e)
 
-abbrev layout_with : Order → List ℕ → Form → Kind → ℕ → RowSize → Layout
+abbrev pub layout_with : Order → List ℕ → Form → Kind → ℕ → RowSize → Layout
 layout_with o bytes form kind count size = record { order = o; form = form; kind = kind; count = count; row_size = size; rows = u32_at o bytes 8; entries = u32_at o bytes 4; sorted = is_sorted_mark (get_or bytes 56 0) }
 
 abbrev done : Layout → Result Layout Place
@@ -163,16 +163,16 @@ done l = Ok l
 ok_is : (l k : Layout) → done l ≡ done k → l ≡ k
 ok_is l k e = cc
 
-abbrev from_size : Order → List ℕ → Form → Kind → ℕ → RowSize → Result Layout Place
+abbrev pub from_size : Order → List ℕ → Form → Kind → ℕ → RowSize → Result Layout Place
 from_size o bytes form kind count size = done (layout_with o bytes form kind count size)
 
-abbrev from_count : Order → List ℕ → Form → Kind → ℕ → Result Layout Place
+abbrev pub from_count : Order → List ℕ → Form → Kind → ℕ → Result Layout Place
 from_count o bytes form kind count = asked 18 codes.ThemeRowtype (row_size_of (get_or bytes 18 0)) >>= from_size o bytes form kind count
 
-abbrev from_kind : Order → List ℕ → Form → Kind → Result Layout Place
+abbrev pub from_kind : Order → List ℕ → Form → Kind → Result Layout Place
 from_kind o bytes form kind = asked 14 codes.ThemeCount (count_of kind (u32_at o bytes 14)) >>= from_count o bytes form kind
 
-abbrev from_form : Order → List ℕ → Form → Result Layout Place
+abbrev pub from_form : Order → List ℕ → Form → Result Layout Place
 from_form o bytes form = asked 13 codes.ThemeKind (kind_of (get_or bytes 13 0)) >>= from_kind o bytes form
 
 -- what the fields say

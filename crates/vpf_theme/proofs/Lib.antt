@@ -12,5 +12,9 @@ mod AgreementLemmas
 mod ScanLemmas
 pub mod PieceLemmas
 mod HeaderLemmas
+mod HeaderFaults
 mod StoredLemmas
+mod RowsFaults
 mod SpellingLemmas
+mod EntryFaults
+mod Decided

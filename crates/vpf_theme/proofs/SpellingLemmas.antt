@@ -1,5 +1,5 @@
 -- An index is spelled exactly where it is read.
-use Rattle.std.proofs.Common.{◌⊎◌, ◌≡◌, ℕ, zero, suc, ◌+◌, ◌-◌, ◌<◌, ◌≤◌, Bool, true, false, not, ◌&&◌, List, [], ◌∷◌, ◌++◌, length, map, take, drop, Option, Some, None, Result, Ok, Err, Less, refl, sym, ap, subst, ◌∙◌, arith, inl, inr}
+use Rattle.std.proofs.Common.{◌≡◌, ℕ, zero, suc, ◌+◌, ◌-◌, ◌<◌, ◌≤◌, Bool, true, false, not, ◌&&◌, List, [], ◌∷◌, ◌++◌, length, map, take, drop, Option, Some, None, Ok, Err, Less, refl, sym, ap, subst, ◌∙◌, arith, inl, inr}
 use Rattle.std.specs.Prelude.{nat_lt}
 use Rattle.std.specs.List.{range_with_len}
 use Rattle.std.specs.Int.{w32}
@@ -24,10 +24,10 @@ use Rattle.vpf_theme.specs.Layouts.{HasValues, entry_bytes, entry_start, layout_
 use Rattle.vpf_theme.specs.Ordering.{value_cmp}
 use Rattle.vpf_theme.specs.Entries.{Entry, Theme, entry_of, extent_of, rows_by, theme_in, value_of, value_read}
 use Rattle.vpf_theme.specs.Reading.{cut_line, entries_line, entry_line, first_of, rises_at, sort_line, theme_of, unless_fault}
-use Rattle.vpf_theme.specs.Deciding.{Decides, FirstFault}
+use Rattle.vpf_theme.specs.Faults.{HasEntry}
 use Rattle.vpf_theme.specs.Spelling.{AreEntriesAt, IsBelow, IsEntryAt, IsHeader, IsThematicIndex, ValuesRise, layout_from}
-use Rattle.vpf_theme.proofs.DataLemmas.{entry_are_rows}
-use Rattle.vpf_theme.proofs.FaultLemmas.{entry_none, entry_rows, rises_from, whole_from}
+use Rattle.vpf_theme.proofs.DataLemmas.{entry_rows_by}
+use Rattle.vpf_theme.proofs.FaultLemmas.{entry_none, entry_rows, rises_by, whole_by}
 use Rattle.vpf_theme.proofs.HeaderLemmas.{layout_again, layout_read, then_ok}
 use Rattle.vpf_theme.proofs.PieceLemmas.{front_stands, length-u32, piece_inside, u32_stands, u32_there}
 use Rattle.vpf_theme.proofs.StoredLemmas.{rows_again, rows_silent, rows_stand}
@@ -49,8 +49,8 @@ value_answer l bytes i = cell_from l.order l.kind (Fixed l.count) (drop (entry_s
 
 -- ---- what is spelled is read
 
-answer_there : CellsAreRead → (l : Layout) (bytes : List ℕ) (i : ℕ) (e : Entry) (d : IsEntryAt l bytes i e) → value_answer l bytes i ≡ Ok (e.value, length d.spelling)
-answer_there read l bytes i e d = ap (cell_from l.order l.kind (Fixed l.count)) d.value.1 ∙ read l.order l.kind (Fixed l.count) e.value d.spelling d.value.0 d.spelled
+answer_there : CellsAreRead → (l : Layout) (bytes : List ℕ) (i : ℕ) (v : Value) (e : Extent) (d : HasEntry l bytes i v e) → value_answer l bytes i ≡ Ok (v, length d.spelling)
+answer_there read l bytes i v e d = ap (cell_from l.order l.kind (Fixed l.count)) d.value.1 ∙ read l.order l.kind (Fixed l.count) v d.spelling d.value.0 d.spelled
 
 never : (a : Answer) (v : Value) (n : ℕ) → a ≡ Ok (v, n) → a ≡ Err codes.CellCut → ⊥
 never a v n h k = cc
@@ -63,29 +63,43 @@ same_length : (a : Answer) (v u : Value) (n m : ℕ) → a ≡ Ok (v, n) → a �
 unfolding taken
 same_length a v u n m h k = sym (ap taken h) ∙ ap taken k
 
-length-spelling : CellsAreRead → FixedCells → (l : Layout) (bytes : List ℕ) (i : ℕ) (e : Entry) → HasValues l → (d : IsEntryAt l bytes i e) → length d.spelling ≡ value_bytes l
-length-spelling read fixed l bytes i e v d =
+pub length-there : CellsAreRead → FixedCells → (l : Layout) (bytes : List ℕ) (i : ℕ) (v : Value) (e : Extent) → HasValues l → (d : HasEntry l bytes i v e) → length d.spelling ≡ value_bytes l
+length-there read fixed l bytes i v e h d =
     let part = drop (entry_start l i) bytes in
-    let width = fixed l.order l.kind (Fixed l.count) part (value_bytes l) (indexed_width l.kind l.count v.0) in
-    let answer = answer_there read l bytes i e d in
+    let width = fixed l.order l.kind (Fixed l.count) part (value_bytes l) (indexed_width l.kind l.count h.0) in
+    let answer = answer_there read l bytes i v e d in
     elim (cases_lt (length part) (value_bytes l)) [
-      | inl lt ↦ absurd (never (value_answer l bytes i) e.value (length d.spelling) answer (width.cut lt))
-      | inr ge ↦ let w = width.whole ge in same_length (value_answer l bytes i) e.value w.0 (length d.spelling) (value_bytes l) answer w.1
+      | inl lt ↦ absurd (never (value_answer l bytes i) v (length d.spelling) answer (width.cut lt))
+      | inr ge ↦ let w = width.whole ge in same_length (value_answer l bytes i) v w.0 (length d.spelling) (value_bytes l) answer w.1
     ]
 
-value_again : CellsAreRead → (l : Layout) (bytes : List ℕ) (i : ℕ) (e : Entry) → IsEntryAt l bytes i e → value_of l bytes i ≡ e.value
+pub value_there : CellsAreRead → (l : Layout) (bytes : List ℕ) (i : ℕ) (v : Value) (e : Extent) → HasEntry l bytes i v e → value_of l bytes i ≡ v
 unfolding value_of
-value_again read l bytes i e d = ap value_read (answer_there read l bytes i e d)
+value_there read l bytes i v e d = ap value_read (answer_there read l bytes i v e d)
 
 abbrev extent_with : ℕ → ℕ → Extent
 extent_with offset count = record { offset = offset; count = count }
 
-extent_again : (l : Layout) (bytes : List ℕ) (i : ℕ) (e : Entry) (d : IsEntryAt l bytes i e) → length d.spelling ≡ value_bytes l → extent_of l bytes i ≡ d.extent
+extent_by : (l : Layout) (bytes : List ℕ) (i : ℕ) (v : Value) (e : Extent) (d : HasEntry l bytes i v e) → length d.spelling ≡ value_bytes l → extent_of l bytes i ≡ e
 unfolding extent_of
-extent_again l bytes i e d len =
-    let offset = rw len at (u32_there l.order d.extent.offset bytes (entry_start l i + length d.spelling) d.offset) in
-    let count = rw len at (u32_there l.order d.extent.count bytes (entry_start l i + length d.spelling + 4) d.count) in
-    ap (λ (x : ℕ). extent_with x (u32_at l.order bytes (entry_start l i + value_bytes l + 4))) offset ∙ ap (λ (x : ℕ). extent_with d.extent.offset x) count
+extent_by l bytes i v e d len =
+    let offset = rw len at (u32_there l.order e.offset bytes (entry_start l i + length d.spelling) d.offset) in
+    let count = rw len at (u32_there l.order e.count bytes (entry_start l i + length d.spelling + 4) d.count) in
+    ap (λ (x : ℕ). extent_with x (u32_at l.order bytes (entry_start l i + value_bytes l + 4))) offset ∙ ap (λ (x : ℕ). extent_with e.offset x) count
+
+pub extent_there : CellsAreRead → FixedCells → (l : Layout) (bytes : List ℕ) (i : ℕ) (v : Value) (e : Extent) → HasValues l → HasEntry l bytes i v e → extent_of l bytes i ≡ e
+extent_there read fixed l bytes i v e h d = extent_by l bytes i v e d (length-there read fixed l bytes i v e h d)
+
+pub whole_there : CellsAreRead → FixedCells → (l : Layout) (bytes : List ℕ) (i : ℕ) (v : Value) (e : Extent) → HasValues l → HasEntry l bytes i v e → entry_start l i + entry_bytes l ≤ length bytes
+whole_there read fixed l bytes i v e h d =
+    let len = length-there read fixed l bytes i v e h d in
+    let four = length-u32 l.order e.count in
+    let inside = piece_inside bytes (number l.order w32 e.count) (entry_start l i + length d.spelling + 4) (omega (arith, four)) d.count.1 in
+    omega (arith, inside, four, len)
+
+-- what stands of an entry
+has_entry : (l : Layout) (bytes : List ℕ) (i : ℕ) (e : Entry) (d : IsEntryAt l bytes i e) → HasEntry l bytes i e.value d.extent
+has_entry l bytes i e d = record { spelling = d.spelling; spelled = d.spelled; value = d.value; offset = d.offset; count = d.count }
 
 abbrev entry_with : Value → List ℕ → Entry
 entry_with value rows = record { value = value; rows = rows }
@@ -97,13 +111,7 @@ entry_again l bytes i e d value extent =
     ∙ ap (λ (x : Extent). entry_with e.value (rows_by l.form l bytes x)) extent
     ∙ ap (λ (x : List ℕ). entry_with e.value x) (rows_again l.form l bytes d.extent e.rows d.inside d.rows)
 
-entry_whole : (l : Layout) (bytes : List ℕ) (i : ℕ) (e : Entry) (d : IsEntryAt l bytes i e) → length d.spelling ≡ value_bytes l → entry_start l i + entry_bytes l ≤ length bytes
-entry_whole l bytes i e d len =
-    let four = length-u32 l.order d.extent.count in
-    let inside = piece_inside bytes (number l.order w32 d.extent.count) (entry_start l i + length d.spelling + 4) (omega (arith, four)) d.count.1 in
-    omega (arith, inside, four, len)
-
-cut_silent : (l : Layout) (bytes : List ℕ) (i : ℕ) → entry_start l i + entry_bytes l ≤ length bytes → cut_line l bytes i ≡ None
+pub cut_silent : (l : Layout) (bytes : List ℕ) (i : ℕ) → entry_start l i + entry_bytes l ≤ length bytes → cut_line l bytes i ≡ None
 cut_silent l bytes i h = rw (le-ltb (length bytes) (entry_start l i + entry_bytes l) h) refl
 
 sort_case : (s z r : Bool) → (s ≡ true → z ≡ true → r ≡ true) → (s && z && not r) ≡ false
@@ -120,19 +128,19 @@ unfolding entry_line
 entry_silent l bytes i e d whole rise extent = rw (cut_silent l bytes i whole, sort_silent l bytes i rise, extent) (rows_silent l.form l bytes i d.extent e.rows d.inside d.rows)
 
 -- the entries from entry i on are read, and no line says anything of them
-record AreRead (l : Layout) (bytes : List ℕ) (i : ℕ) (es : List Entry) : Type 0 where
-  entries : map (entry_of l bytes) (range_with_len i (length es)) ≡ es
-  silent : first_of (entry_line l bytes) (range_with_len i (length es)) ≡ None
+pub record AreRead (l : Layout) (bytes : List ℕ) (i : ℕ) (es : List Entry) : Type 0 where
+  pub entries : map (entry_of l bytes) (range_with_len i (length es)) ≡ es
+  pub silent : first_of (entry_line l bytes) (range_with_len i (length es)) ≡ None
 
-entries_again : CellsAreRead → FixedCells → (l : Layout) (bytes : List ℕ) (i : ℕ) (es : List Entry) → HasValues l → AreEntriesAt l bytes i es → (l.sorted ≡ true → ValuesRise es) → (l.sorted ≡ true → 0 < i → IsBelow (value_of l bytes (i - 1)) es) → AreRead l bytes i es
+pub entries_again : CellsAreRead → FixedCells → (l : Layout) (bytes : List ℕ) (i : ℕ) (es : List Entry) → HasValues l → AreEntriesAt l bytes i es → (l.sorted ≡ true → ValuesRise es) → (l.sorted ≡ true → 0 < i → IsBelow (value_of l bytes (i - 1)) es) → AreRead l bytes i es
 entries_again read fixed l bytes i [] v at rise below = record { entries = refl; silent = refl }
 entries_again read fixed l bytes i (e ∷ es) v at rise below =
     let d = at.0 in
-    let len = length-spelling read fixed l bytes i e v d in
-    let value = value_again read l bytes i e d in
-    let extent = extent_again l bytes i e d len in
+    let has = has_entry l bytes i e d in
+    let value = value_there read l bytes i e.value d.extent has in
+    let extent = extent_there read fixed l bytes i e.value d.extent v has in
     let entry = entry_again l bytes i e d value extent in
-    let silent = entry_silent l bytes i e d (entry_whole l bytes i e d len) (λ s k. rw value (below s k)) extent in
+    let silent = entry_silent l bytes i e d (whole_there read fixed l bytes i e.value d.extent v has) (λ s k. rw value (below s k)) extent in
     let z : i + 1 - 1 ≡ i = omega arith in
     let more = entries_again read fixed l bytes (i + 1) es v at.1 (λ s. (rise s).1) (λ s k. rw (z, value) ((rise s).0)) in
     record { entries = rw (entry, more.entries) refl; silent = rw (silent, more.silent) refl }
@@ -158,40 +166,56 @@ value_stands spelled fixed l bytes i fits v whole =
     let s = spelled l.order l.kind (Fixed l.count) part w.0 (value_bytes l) (IsBytes-drop (entry_start l i) bytes fits) w.1 in
     rw w.1 s.1
 
-entry_stands : CellsAreSpelled → FixedCells → (l : Layout) (bytes : List ℕ) (i : ℕ) → IsBytes bytes → HasValues l → entries_line l bytes ≡ None → i < l.entries → IsEntryAt l bytes i (entry_of l bytes i)
-unfolding entry_of extent_of
-entry_stands spelled fixed l bytes i fits v none h =
-    let whole = whole_from l bytes i none h in
+-- the value and the extent of an entry that is whole
+pub entry_there : CellsAreSpelled → FixedCells → (l : Layout) (bytes : List ℕ) (i : ℕ) → IsBytes bytes → HasValues l → entry_start l i + entry_bytes l ≤ length bytes → HasEntry l bytes i (value_of l bytes i) (extent_of l bytes i)
+unfolding extent_of
+entry_there spelled fixed l bytes i fits v whole =
     let spelling = take (value_bytes l) (drop (entry_start l i) bytes) in
     let len : length spelling ≡ value_bytes l = length-take-le (value_bytes l) (drop (entry_start l i) bytes) (omega (arith, length-drop (entry_start l i) bytes)) in
     let offset = u32_stands l.order bytes (entry_start l i + value_bytes l) (extent_of l bytes i).offset fits (omega arith) refl in
     let count = u32_stands l.order bytes (entry_start l i + value_bytes l + 4) (extent_of l bytes i).count fits (omega arith) refl in
     record {
       spelling = spelling;
-      extent = extent_of l bytes i;
       spelled = value_stands spelled fixed l bytes i fits v whole;
       value = (drop (entry_start l i + value_bytes l) bytes, front_stands bytes spelling (entry_start l i) (value_bytes l) refl);
       offset = rw len offset;
       count = rw len count;
-      inside = entry_are_rows l bytes i none h;
-      rows = rows_stand l.form l bytes i (extent_of l bytes i) fits (entry_rows l bytes i (entry_none l bytes i none h));
     }
 
-entries_stand : CellsAreSpelled → FixedCells → (l : Layout) (bytes : List ℕ) (i n : ℕ) → IsBytes bytes → HasValues l → entries_line l bytes ≡ None → i + n ≡ l.entries → AreEntriesAt l bytes i (map (entry_of l bytes) (range_with_len i n))
-entries_stand spelled fixed l bytes i zero fits v none h = tt
-entries_stand spelled fixed l bytes i (suc n) fits v none h = (entry_stands spelled fixed l bytes i fits v none (omega arith), entries_stand spelled fixed l bytes (i + 1) n fits v none (omega arith))
+entry_stands : CellsAreSpelled → FixedCells → (l : Layout) (bytes : List ℕ) (i : ℕ) → IsBytes bytes → HasValues l → entry_line l bytes i ≡ None → IsEntryAt l bytes i (entry_of l bytes i)
+unfolding entry_of
+entry_stands spelled fixed l bytes i fits v none =
+    let e = entry_there spelled fixed l bytes i fits v (whole_by l bytes i none) in
+    record {
+      spelling = e.spelling;
+      extent = extent_of l bytes i;
+      spelled = e.spelled;
+      value = e.value;
+      offset = e.offset;
+      count = e.count;
+      inside = entry_rows_by l bytes i none;
+      rows = rows_stand l.form l bytes i (extent_of l bytes i) fits (entry_rows l bytes i none);
+    }
 
-value-entry : (l : Layout) (bytes : List ℕ) (i : ℕ) → (entry_of l bytes i).value ≡ value_of l bytes i
+-- no line says anything of so many entries from entry i on
+abbrev pub AreSilent : Layout → List ℕ → ℕ → ℕ → Type 0
+AreSilent l bytes i n = (k : ℕ) → i ≤ k → k < i + n → entry_line l bytes k ≡ None
+
+pub entries_stand : CellsAreSpelled → FixedCells → (l : Layout) (bytes : List ℕ) (i n : ℕ) → IsBytes bytes → HasValues l → AreSilent l bytes i n → AreEntriesAt l bytes i (map (entry_of l bytes) (range_with_len i n))
+entries_stand spelled fixed l bytes i zero fits v none = tt
+entries_stand spelled fixed l bytes i (suc n) fits v none = (entry_stands spelled fixed l bytes i fits v (none i (omega arith) (omega arith)), entries_stand spelled fixed l bytes (i + 1) n fits v (λ k low high. none k (omega arith) (omega arith)))
+
+pub value-entry : (l : Layout) (bytes : List ℕ) (i : ℕ) → (entry_of l bytes i).value ≡ value_of l bytes i
 unfolding entry_of
 value-entry l bytes i = refl
 
-below_next : (l : Layout) (bytes : List ℕ) (i n : ℕ) → entries_line l bytes ≡ None → l.sorted ≡ true → i + 1 + n ≡ l.entries → IsBelow (entry_of l bytes i).value (map (entry_of l bytes) (range_with_len (i + 1) n))
-below_next l bytes i zero none s h = tt
-below_next l bytes i (suc n) none s h = rw (value-entry l bytes i, value-entry l bytes (i + 1)) (rises_from l bytes i none s (omega arith))
+below_next : (l : Layout) (bytes : List ℕ) (i n : ℕ) → AreSilent l bytes i (suc n) → l.sorted ≡ true → IsBelow (entry_of l bytes i).value (map (entry_of l bytes) (range_with_len (i + 1) n))
+below_next l bytes i zero none s = tt
+below_next l bytes i (suc n) none s = rw (value-entry l bytes i, value-entry l bytes (i + 1)) (rises_by l bytes i (none (i + 1) (omega arith) (omega arith)) s)
 
-entries_rise : (l : Layout) (bytes : List ℕ) (i n : ℕ) → entries_line l bytes ≡ None → l.sorted ≡ true → i + n ≡ l.entries → ValuesRise (map (entry_of l bytes) (range_with_len i n))
-entries_rise l bytes i zero none s h = tt
-entries_rise l bytes i (suc n) none s h = (below_next l bytes i n none s (omega arith), entries_rise l bytes (i + 1) n none s (omega arith))
+pub entries_rise : (l : Layout) (bytes : List ℕ) (i n : ℕ) → AreSilent l bytes i n → l.sorted ≡ true → ValuesRise (map (entry_of l bytes) (range_with_len i n))
+entries_rise l bytes i zero none s = tt
+entries_rise l bytes i (suc n) none s = (below_next l bytes i n none s, entries_rise l bytes (i + 1) n (λ k low high. none k (omega arith) (omega arith)) s)
 
 theme_stands : CellsAreSpelled → FixedCells → (l : Layout) (bytes : List ℕ) → IsBytes bytes → HasValues l → IsHeader l bytes → entries_line l bytes ≡ None → IsThematicIndex l.order (theme_in l bytes) bytes
 theme_stands spelled fixed l bytes fits v h none =
@@ -200,8 +224,8 @@ theme_stands spelled fixed l bytes fits v h none =
       row_size = l.row_size;
       values = subst HasValues (sym same) v;
       header = subst (λ (x : Layout). IsHeader x bytes) (sym same) h;
-      entries = subst (λ (x : Layout). AreEntriesAt x bytes 0 (theme_in l bytes).entries) (sym same) (entries_stand spelled fixed l bytes 0 l.entries fits v none (omega arith));
-      rise = λ s. entries_rise l bytes 0 l.entries none s (omega arith);
+      entries = subst (λ (x : Layout). AreEntriesAt x bytes 0 (theme_in l bytes).entries) (sym same) (entries_stand spelled fixed l bytes 0 l.entries fits v (λ k low high. entry_none l bytes k none (omega (arith, high))));
+      rise = λ s. entries_rise l bytes 0 l.entries (λ k low high. entry_none l bytes k none (omega (arith, high))) s;
     }
   where
     with_entries : Layout → ℕ → Layout
@@ -220,26 +244,3 @@ theme_read spelled fixed o t bytes fits e =
     let told = unless_ok (entries_line l bytes) (theme_in l bytes) t layout.2 in
     let is = theme_stands spelled fixed l bytes fits read.values read.header told.0 in
     subst (λ (x : Order). IsThematicIndex x t bytes) read.order (subst (λ (x : Theme). IsThematicIndex l.order x bytes) told.1 is)
-
--- ---- one or the other
-
-theme_or_fault : CellsAreSpelled → FixedCells → (o : Order) (bytes : List ℕ) (r : Result Theme Place) → IsBytes bytes → theme_of o bytes ≡ r → ((t : Theme) × IsThematicIndex o t bytes) ⊎ ((place : Place) × FirstFault o bytes place)
-theme_or_fault spelled fixed o bytes (Ok t) fits e = inl (t, theme_read spelled fixed o t bytes fits e)
-theme_or_fault spelled fixed o bytes (Err place) fits e = inr (place, e)
-
-ok_err : (r : Result Theme Place) (t : Theme) (p : Place) → r ≡ Ok t → r ≡ Err p → ⊥
-ok_err r t p e f = cc
-
-ok_ok : (r : Result Theme Place) (t u : Theme) → r ≡ Ok t → r ≡ Ok u → t ≡ u
-ok_ok r t u e f = cc
-
-err_err : (r : Result Theme Place) (p q : Place) → r ≡ Err p → r ≡ Err q → p ≡ q
-err_err r p q e f = cc
-
-pub theme_decided : CellsAreRead → CellsAreSpelled → FixedCells → (o : Order) (bytes : List ℕ) → IsBytes bytes → Decides o bytes
-theme_decided read spelled fixed o bytes fits = record {
-  either = theme_or_fault spelled fixed o bytes (theme_of o bytes) fits refl;
-  never_both = λ t place is fault. ok_err (theme_of o bytes) t place (theme_again read fixed o t bytes is) fault;
-  one_index = λ t u is other. ok_ok (theme_of o bytes) t u (theme_again read fixed o t bytes is) (theme_again read fixed o u bytes other);
-  one_fault = λ p q e f. err_err (theme_of o bytes) p q e f;
-}

@@ -26,32 +26,32 @@ use Rattle.vpf_theme.proofs.FaultLemmas.{first_none, no_fault, or_none}
 use Rattle.vpf_theme.proofs.PieceLemmas.{after, length-row, row_again, row_held, row_stands}
 
 -- nothing is said of any number of a range
-none_said : {F : Type 0} (line : ℕ → Option F) (a n : ℕ) → ((k : ℕ) → a ≤ k → k < a + n → line k ≡ None) → first_of line (range_with_len a n) ≡ None
+pub none_said : {F : Type 0} (line : ℕ → Option F) (a n : ℕ) → ((k : ℕ) → a ≤ k → k < a + n → line k ≡ None) → first_of line (range_with_len a n) ≡ None
 none_said line a zero h = refl
 none_said line a (suc n) h = rw (h a (omega arith) (omega arith)) (none_said line (a + 1) n (λ k low high. h k (omega arith) (omega arith)))
 
-row_yes : (l : Layout) (n : ℕ) → 1 ≤ n → n ≤ l.rows → is_row l n ≡ true
+pub row_yes : (l : Layout) (n : ℕ) → 1 ≤ n → n ≤ l.rows → is_row l n ≡ true
 row_yes l n low high = rw (le-leb 1 n low, le-leb n l.rows high) refl
 
-data_yes : (l : Layout) (bytes : List ℕ) (offset len : ℕ) → LiesBehind l bytes offset len → is_data l bytes offset len ≡ true
+pub data_yes : (l : Layout) (bytes : List ℕ) (offset len : ℕ) → LiesBehind l bytes offset len → is_data l bytes offset len ≡ true
 data_yes l bytes offset len h = rw (le-leb (directory_end l) offset h.0, le-leb (offset + len) (length bytes) h.1) refl
 
-data_behind : (l : Layout) (bytes : List ℕ) (offset len : ℕ) → is_data l bytes offset len ≡ true → LiesBehind l bytes offset len
+pub data_behind : (l : Layout) (bytes : List ℕ) (offset len : ℕ) → is_data l bytes offset len ≡ true → LiesBehind l bytes offset len
 data_behind l bytes offset len h = (grind (arith, nat_tests), grind (arith, nat_tests))
 
 -- ---- a list of several rows
 
 -- each number is held by its bytes, and is a row
-abbrev AreHeld : Layout → List ℕ → Type 0
+abbrev pub AreHeld : Layout → List ℕ → Type 0
 AreHeld l [] = Unit {0}
 AreHeld l (row ∷ rows) = (HoldsRow l.row_size row × ((1 ≤ row) × (row ≤ l.rows))) × AreHeld l rows
 
-are_held : (l : Layout) (rows : List ℕ) → All (HoldsRow l.row_size) rows → AreRows l.rows rows → AreHeld l rows
+pub are_held : (l : Layout) (rows : List ℕ) → All (HoldsRow l.row_size) rows → AreRows l.rows rows → AreHeld l rows
 are_held l [] h r = tt
 are_held l (row ∷ rows) h r = ((h zero row (omega arith), r zero row (omega arith)), are_held l rows (λ k d m. h (suc k) d (omega arith)) (λ k d m. r (suc k) d (omega arith)))
 
 -- the numbers from number k on stand there
-abbrev StandFrom : Layout → List ℕ → List ℕ → ℕ → ℕ → List ℕ → Type 0
+abbrev pub StandFrom : Layout → List ℕ → List ℕ → ℕ → ℕ → List ℕ → Type 0
 StandFrom l bytes rest at k rows = drop (number_start l at k) bytes ≡ rows_text l.order l.row_size rows ++ rest
 
 number_there : (l : Layout) (bytes rest : List ℕ) (at k row : ℕ) (rows : List ℕ) → HoldsRow l.row_size row → StandFrom l bytes rest at k (row ∷ rows) → number_at l bytes at k ≡ row
@@ -69,7 +69,7 @@ numbers_again : (l : Layout) (bytes rest : List ℕ) (at k : ℕ) (rows : List �
 numbers_again l bytes rest at k [] h e = refl
 numbers_again l bytes rest at k (row ∷ rows) h e = rw (number_there l bytes rest at k row rows h.0.0 e, numbers_again l bytes rest at (k + 1) rows h.1 (next_number l bytes rest at k row rows e)) refl
 
-numbers_silent : (l : Layout) (bytes rest : List ℕ) (at k : ℕ) (rows : List ℕ) → AreHeld l rows → StandFrom l bytes rest at k rows → first_of (number_line l bytes at) (range_with_len k (length rows)) ≡ None
+pub numbers_silent : (l : Layout) (bytes rest : List ℕ) (at k : ℕ) (rows : List ℕ) → AreHeld l rows → StandFrom l bytes rest at k rows → first_of (number_line l bytes at) (range_with_len k (length rows)) ≡ None
 numbers_silent l bytes rest at k [] h e = refl
 numbers_silent l bytes rest at k (row ∷ rows) h e = rw (number_there l bytes rest at k row rows h.0.0 e, row_yes l row h.0.1.0 h.0.1.1) (numbers_silent l bytes rest at (k + 1) rows h.1 (next_number l bytes rest at k row rows e))
 
@@ -194,7 +194,7 @@ rows_silent forms.Bitmap l bytes i e rows r d = bitmap_silent l bytes i e rows r
 
 -- ---- what is read is spelled
 
-numbers_stand : (l : Layout) (bytes : List ℕ) (at k n : ℕ) → IsBytes bytes → number_start l at k + n * row_bytes l.row_size ≤ length bytes → drop (number_start l at k) bytes ≡ rows_text l.order l.row_size (map (number_at l bytes at) (range_with_len k n)) ++ drop (number_start l at k + n * row_bytes l.row_size) bytes
+pub numbers_stand : (l : Layout) (bytes : List ℕ) (at k n : ℕ) → IsBytes bytes → number_start l at k + n * row_bytes l.row_size ≤ length bytes → drop (number_start l at k) bytes ≡ rows_text l.order l.row_size (map (number_at l bytes at) (range_with_len k n)) ++ drop (number_start l at k + n * row_bytes l.row_size) bytes
 unfolding number_at
 numbers_stand l bytes at k zero fits h = let z : number_start l at k ≡ number_start l at k + zero * row_bytes l.row_size = omega arith in ap (λ (m : ℕ). drop m bytes) z
 numbers_stand l bytes at k (suc n) fits h =
@@ -208,7 +208,7 @@ numbers_stand l bytes at k (suc n) fits h =
     let later = numbers_stand l bytes at (k + 1) n fits (omega arith) in
     here ∙ ap (λ (m : ℕ). piece ++ drop m bytes) z ∙ ap (λ (x : List ℕ). piece ++ x) (later ∙ ap (λ (m : ℕ). others ++ drop m bytes) y) ∙ sym (append_assoc piece others (drop (start + suc n * size) bytes))
 
-number_held : (l : Layout) (bytes : List ℕ) (at k : ℕ) → IsBytes bytes → HoldsRow l.row_size (number_at l bytes at k)
+pub number_held : (l : Layout) (bytes : List ℕ) (at k : ℕ) → IsBytes bytes → HoldsRow l.row_size (number_at l bytes at k)
 unfolding number_at
 number_held l bytes at k fits = row_held l.order l.row_size (drop (number_start l at k) bytes) (IsBytes-drop (number_start l at k) bytes fits)
 

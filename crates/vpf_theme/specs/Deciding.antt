@@ -1,14 +1,10 @@
 -- Bytes are a file of one thematic index, or have one first fault.
-use Rattle.std.specs.Prelude.{◌≡◌, ◌⊎◌, ℕ, List, Err}
+use Rattle.std.specs.Prelude.{◌≡◌, ◌⊎◌, ℕ, List}
 use Rattle.vpf_triplet.specs.declared.orders.Order.{Order}
 use Rattle.vpf_triplet.specs.declared.places.Place.{Place}
 use Rattle.vpf_theme.specs.Entries.{Theme}
-use Rattle.vpf_theme.specs.Reading.{theme_of}
+use Rattle.vpf_theme.specs.Faults.{FirstFault}
 use Rattle.vpf_theme.specs.Spelling.{IsThematicIndex}
-
--- the bytes are no index, and this is their first fault
-abbrev pub FirstFault : Order → List ℕ → Place → Type 0
-FirstFault o bytes place = theme_of o bytes ≡ Err place
 
 -- exactly one of the two, in one way
 pub record Decides (o : Order) (bytes : List ℕ) : Type 0 where

@@ -4,6 +4,7 @@ pub mod Entries
 pub mod Reading
 pub mod Views
 pub mod Spelling
+pub mod Faults
 pub mod Deciding
 pub mod Findings
 pub mod Agreeing

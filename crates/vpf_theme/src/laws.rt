@@ -1,10 +1,11 @@
 //! Laws about the definitions of thematic indexes alone.
 
-ghost use Rattle.std.specs.Prelude.{◌≡◌, ◌↔◌, ℕ, List, IsTrue, None, Ok};
+ghost use Rattle.std.specs.Prelude.{◌≡◌, ◌↔◌, ℕ, List, IsTrue, None, Ok, Err};
 ghost use Rattle.std.specs.Cmp.{IsTotalOrder};
 ghost use Rattle.std.specs.declared.cmp.Ordering.TheVariants.{Equal};
 ghost use Rattle.vpf_triplet.specs.declared.orders.Order.{Order};
 ghost use Rattle.vpf_triplet.specs.declared.kinds.Kind.{Kind};
+ghost use Rattle.vpf_triplet.specs.declared.places.Place.{Place};
 ghost use Rattle.vpf_triplet.specs.Numbers.{IsBytes};
 ghost use Rattle.vpf_triplet.specs.declared.kinds.Count.{Count};
 ghost use Rattle.vpf_value.specs.Values.{Value};
@@ -18,6 +19,7 @@ ghost use Rattle.vpf_theme.specs.Agreeing.{AgreesWithColumn, HaveRows, listed, s
 ghost use Rattle.vpf_theme.specs.Reading.{theme_of};
 ghost use Rattle.vpf_theme.specs.Spelling.{IsThematicIndex};
 ghost use Rattle.vpf_theme.specs.Deciding.{Decides};
+ghost use Rattle.vpf_theme.specs.Faults.{FirstFault};
 
 use vpf_value::laws;
 
@@ -59,6 +61,17 @@ pub fn read_is_spelled()
 /// Each list of bytes is a file of exactly one index, or has exactly one first fault, and never both.
 pub fn themes_decide()
     ensures { (order : Order) (bytes : List ℕ) → IsBytes bytes → Decides order bytes }
+{
+    laws::spelled_is_read();
+    laws::read_is_spelled();
+    laws::fixed_cells();
+}
+
+/// The place where bytes are refused is their first fault, and only that one: a field of the header is wrong, or the entries
+/// before it are spelled, and a line applies to the next one.
+pub fn refusals_are_first_faults()
+    ensures only { (order : Order) (bytes : List ℕ) (place : Place) → IsBytes bytes → theme_of order bytes ≡ Err place → FirstFault order bytes place }
+    ensures each { (order : Order) (bytes : List ℕ) (place : Place) → FirstFault order bytes place → theme_of order bytes ≡ Err place }
 {
     laws::spelled_is_read();
     laws::read_is_spelled();

@@ -59,61 +59,79 @@ fn patched(alloc: Global, file: &[u8], at: usize, patch: &[u8]) -> Result<Vec<u8
     Ok(bytes)
 }
 
+/// Files with some of their bytes written over from a place on, and the first fault of what comes of it.
+const CHANGED: [(&[u8], usize, &[u8], Option<(usize, Code)>); 32] = [
+    (LIST, 0, b"\x3c", None),
+    (LIST, 56, b" ", None),
+    (LIST, 19, b"another name", None),
+    (LIST, 12, b"X", Some((12, Code::ThemeForm))),
+    (LIST, 13, b"K", Some((13, Code::ThemeKind))),
+    (LIST, 14, b"\0", Some((14, Code::ThemeCount))),
+    (LIST, 14, b"\x01\0\0\x04", Some((14, Code::ThemeCount))),
+    (LIST, 13, b"F\x02", Some((14, Code::ThemeCount))),
+    (LIST, 13, b"R\x02", Some((14, Code::ThemeCount))),
+    (LIST, 13, b"S\x02", Some((14, Code::ThemeCount))),
+    (LIST, 13, b"I\x02", Some((14, Code::ThemeCount))),
+    (LIST, 13, b"D\x02", Some((14, Code::ThemeCount))),
+    (LIST, 18, b"T", Some((18, Code::ThemeRowtype))),
+    (LIST, 0, b"\x4d", Some((0, Code::ThemeSize))),
+    (LIST, 4, b"\xff\xff\xff\xff", Some((0, Code::ThemeSize))),
+    (LIST, 69, b"a", Some((69, Code::ThemeSort))),
+    (BIG, 72, b"\xff\xff\xff\xfe", Some((72, Code::ThemeSort))),
+    (WORDS, 60, b"\x01\0\0\x80", Some((72, Code::ThemeSort))),
+    (
+        LONG_WORDS,
+        60,
+        b"\0\0\0\0\0\0\0\x80",
+        Some((76, Code::ThemeSort)),
+    ),
+    (EMPTY, 0, b"", None),
+    (EMPTY, 61, b"\x44", Some((60, Code::ThemeSpan))),
+    (EMPTY, 61, b"\x46", Some((60, Code::ThemeSpan))),
+    (LIST, 61, b"\x4d", Some((60, Code::ThemeSpan))),
+    (LIST, 61, b"\x4f", Some((60, Code::ThemeSpan))),
+    (BITMAP, 65, b"\x01", Some((60, Code::ThemeSpan))),
+    (BITMAP, 70, b"\x51", Some((69, Code::ThemeSpan))),
+    (LIST, 80, b"\0", Some((80, Code::ThemeRow))),
+    (LIST, 92, b"\x0a", Some((92, Code::ThemeRow))),
+    (LIST, 70, b"\0", Some((69, Code::ThemeRow))),
+    (LIST, 70, b"\x0a", Some((69, Code::ThemeRow))),
+    (BITMAP, 79, b"\x03", Some((79, Code::ThemePad))),
+    (BITMAP, 81, b"\x80", Some((81, Code::ThemePad))),
+];
+
+/// The beginnings of files, of so many bytes, and their first fault.
+const CUT: [(&[u8], usize, usize, Code); 4] = [
+    (LIST, 59, 0, Code::ThemeCut),
+    (ONES, 68, 60, Code::ThemeCut),
+    (ONES, 77, 69, Code::ThemeCut),
+    (LIST, 77, 60, Code::ThemeSpan),
+];
+
+fn order_of(file: &[u8]) -> Order {
+    if file.starts_with(b"\0") {
+        Order::Big
+    } else {
+        Order::Little
+    }
+}
+
 #[test]
 fn refuses_files_at_their_first_fault(rt: HostRuntime) -> Result<(), Fail> {
-    let alloc = rt.alloc();
-    for (file, at, patch, want) in [
-        (LIST, 0, b"\x3c".as_slice(), None),
-        (LIST, 56, b" ", None),
-        (LIST, 19, b"another name", None),
-        (&LIST[..59], 0, b"", Some((0, Code::ThemeCut))),
-        (LIST, 12, b"X", Some((12, Code::ThemeForm))),
-        (LIST, 13, b"K", Some((13, Code::ThemeKind))),
-        (LIST, 14, b"\0", Some((14, Code::ThemeCount))),
-        (LIST, 14, b"\x01\0\0\x04", Some((14, Code::ThemeCount))),
-        (LIST, 13, b"F\x02", Some((14, Code::ThemeCount))),
-        (LIST, 13, b"R\x02", Some((14, Code::ThemeCount))),
-        (LIST, 13, b"S\x02", Some((14, Code::ThemeCount))),
-        (LIST, 13, b"I\x02", Some((14, Code::ThemeCount))),
-        (LIST, 13, b"D\x02", Some((14, Code::ThemeCount))),
-        (LIST, 18, b"T", Some((18, Code::ThemeRowtype))),
-        (LIST, 0, b"\x4d", Some((0, Code::ThemeSize))),
-        (LIST, 4, b"\xff\xff\xff\xff", Some((0, Code::ThemeSize))),
-        (&ONES[..68], 0, b"", Some((60, Code::ThemeCut))),
-        (&ONES[..77], 0, b"", Some((69, Code::ThemeCut))),
-        (&LIST[..77], 0, b"", Some((60, Code::ThemeSpan))),
-        (LIST, 69, b"a", Some((69, Code::ThemeSort))),
-        (BIG, 72, b"\xff\xff\xff\xfe", Some((72, Code::ThemeSort))),
-        (WORDS, 60, b"\x01\0\0\x80", Some((72, Code::ThemeSort))),
-        (
-            LONG_WORDS,
-            60,
-            b"\0\0\0\0\0\0\0\x80",
-            Some((76, Code::ThemeSort)),
-        ),
-        (EMPTY, 0, b"", None),
-        (EMPTY, 61, b"\x44", Some((60, Code::ThemeSpan))),
-        (EMPTY, 61, b"\x46", Some((60, Code::ThemeSpan))),
-        (LIST, 61, b"\x4d", Some((60, Code::ThemeSpan))),
-        (LIST, 61, b"\x4f", Some((60, Code::ThemeSpan))),
-        (BITMAP, 65, b"\x01", Some((60, Code::ThemeSpan))),
-        (BITMAP, 70, b"\x51", Some((69, Code::ThemeSpan))),
-        (LIST, 80, b"\0", Some((80, Code::ThemeRow))),
-        (LIST, 92, b"\x0a", Some((92, Code::ThemeRow))),
-        (LIST, 70, b"\0", Some((69, Code::ThemeRow))),
-        (LIST, 70, b"\x0a", Some((69, Code::ThemeRow))),
-        (BITMAP, 79, b"\x03", Some((79, Code::ThemePad))),
-        (BITMAP, 81, b"\x80", Some((81, Code::ThemePad))),
-    ] {
-        let order = if file.starts_with(b"\0") {
-            Order::Big
-        } else {
-            Order::Little
-        };
-        let bytes = patched(alloc, file, at, patch)?;
-        let found = ThemeView::open(&bytes, order).err();
+    for (file, at, patch, want) in CHANGED {
+        let bytes = patched(rt.alloc(), file, at, patch)?;
+        let found = ThemeView::open(&bytes, order_of(file)).err();
         let want = want.map(|(at, code)| Place::in_theme(at, code));
         assert_eq!(rt; found, want, "{patch:?} at {at}");
+    }
+    Ok(())
+}
+
+#[test]
+fn refuses_cut_files(rt: HostRuntime) -> Result<(), Fail> {
+    for (file, len, at, code) in CUT {
+        let found = ThemeView::open(&file[..len], Order::Little).err();
+        assert_eq!(rt; found, Some(Place::in_theme(at, code)), "{len} bytes");
     }
     Ok(())
 }
@@ -165,57 +183,42 @@ fn found(alloc: Global, theme: &ThemeView<'_>, value: &Cell<'_>) -> Result<Vec<u
     found_by::<Brand>(Blank::new(1), alloc, theme, value)
 }
 
+/// Indexes, values, and the rows that they list for them, and how many those are.
+const FOUND: [(&[u8], Cell<'static>, &[u32]); 10] = [
+    (LIST, Cell::Text(b"a"), &[1, 3, 4, 5, 6, 7, 8, 9, 8]),
+    (LIST, Cell::Text(b"b"), &[2, 1]),
+    (LIST, Cell::Text(b"c"), &[]),
+    (BITMAP, Cell::Text(b"a"), &[1, 3, 4, 5, 6, 7, 8, 9, 8]),
+    (BITMAP, Cell::Text(b"b"), &[2, 1]),
+    (BIG, Cell::Long(-2), &[1, 70_000, 2]),
+    (BIG, Cell::Short(3), &[65_536, 1]),
+    (BIG, Cell::Long(0), &[]),
+    (WORDS, Cell::Word4(0x8000_0000), &[2, 1]),
+    (LONG_WORDS, Cell::Word8(0x7fff_ffff_ffff_ffff), &[1, 1]),
+];
+
 #[test]
 fn finds_the_rows_of_values(rt: HostRuntime) -> Result<(), Fail> {
+    for (file, value, want) in FOUND {
+        let theme = ThemeView::open(file, order_of(file))?;
+        assert_eq!(rt; found(rt.alloc(), &theme, &value)?.as_slice(), want);
+    }
+    Ok(())
+}
+
+/// In a directory that isn't sorted each entry is looked at, and the first with the value counts.
+#[test]
+fn finds_the_rows_of_values_that_are_not_sorted(rt: HostRuntime) -> Result<(), Fail> {
     let alloc = rt.alloc();
     let unsorted = patched(alloc, LIST, 56, b" ")?;
     let doubled = patched(alloc, &unsorted, 69, b"a")?;
-    for (file, order, value, want) in [
-        (
-            LIST,
-            Order::Little,
-            Cell::Text(b"a"),
-            [1, 3, 4, 5, 6, 7, 8, 9, 8].as_slice(),
-        ),
-        (LIST, Order::Little, Cell::Text(b"b"), [2, 1].as_slice()),
-        (LIST, Order::Little, Cell::Text(b"c"), [].as_slice()),
-        (
-            &unsorted,
-            Order::Little,
-            Cell::Text(b"b"),
-            [2, 1].as_slice(),
-        ),
-        (&unsorted, Order::Little, Cell::Text(b"c"), [].as_slice()),
-        (
-            BITMAP,
-            Order::Little,
-            Cell::Text(b"a"),
-            [1, 3, 4, 5, 6, 7, 8, 9, 8].as_slice(),
-        ),
-        (BITMAP, Order::Little, Cell::Text(b"b"), [2, 1].as_slice()),
-        (BIG, Order::Big, Cell::Long(-2), [1, 70_000, 2].as_slice()),
-        (BIG, Order::Big, Cell::Short(3), [65_536, 1].as_slice()),
-        (BIG, Order::Big, Cell::Long(0), [].as_slice()),
-        (
-            WORDS,
-            Order::Little,
-            Cell::Word4(0x8000_0000),
-            [2, 1].as_slice(),
-        ),
-        (
-            LONG_WORDS,
-            Order::Little,
-            Cell::Word8(0x7fff_ffff_ffff_ffff),
-            [1, 1].as_slice(),
-        ),
-        (
-            &doubled,
-            Order::Little,
-            Cell::Text(b"a"),
-            [1, 3, 4, 5, 6, 7, 8, 9, 8].as_slice(),
-        ),
+    for (file, value, want) in [
+        (&unsorted, b"b", [2, 1].as_slice()),
+        (&unsorted, b"c", &[]),
+        (&doubled, b"a", &[1, 3, 4, 5, 6, 7, 8, 9, 8]),
     ] {
-        let theme = ThemeView::open(file, order)?;
+        let theme = ThemeView::open(file, Order::Little)?;
+        let value = Cell::Text(value);
         assert_eq!(rt; found(alloc, &theme, &value)?.as_slice(), want);
     }
     Ok(())

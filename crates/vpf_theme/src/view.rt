@@ -9,7 +9,7 @@ ghost use Rattle.vpf_theme.specs.Views.{AreRows, all_rows};
 use crate::checking::check_entries;
 use crate::entries::extent_at;
 use crate::hits::Hits;
-use crate::laws::{read_is_spelled, spelled_is_read};
+use crate::laws::{read_is_spelled, refusals_are_first_faults, spelled_is_read};
 use crate::layout::{Form, Layout};
 use crate::searching::{find_place, sure_value};
 use std::marker::Model;
@@ -49,11 +49,12 @@ fn hits_at<'a>(layout: &Layout, bytes: &'a [u8], i: u32) -> Hits<'a>
 }
 
 impl<'a> ThemeView<'a> {
-    ghost use Rattle.std.specs.Prelude.{◌≡◌, ◌≤◌, ◌+◌, ◌-◌, ◌*◌, ◌^◌, ◌<◌, true, false, IfOk, IfSome, Ok, length, option_map};
+    ghost use Rattle.std.specs.Prelude.{◌≡◌, ◌≤◌, ◌+◌, ◌-◌, ◌*◌, ◌^◌, ◌<◌, true, false, IfOk, IfErr, IfSome, Ok, length, option_map};
     ghost use Rattle.vpf_triplet.specs.declared.kinds.Count.{Count};
     ghost use Rattle.vpf_value.specs.Values.{view};
     ghost use Rattle.vpf_value.specs.Fitting.{FitsCell};
     ghost use Rattle.vpf_theme.specs.Entries.{Theme, found_in};
+    ghost use Rattle.vpf_theme.specs.Faults.{FirstFault};
     ghost use Rattle.vpf_theme.specs.Findings.{entry_at};
     ghost use Rattle.vpf_theme.specs.Agreeing.{HaveRows};
     ghost use Rattle.vpf_theme.specs.Views.{AreRows, all_rows};
@@ -70,9 +71,12 @@ impl<'a> ThemeView<'a> {
         ensures only { (t : Theme) → IsThematicIndex order t bytes.now → Gives (λ t. t) result (Ok t) }
         // The index, or the first fault.
         ensures exact { Gives (λ t. t) result (theme_of order bytes.now) }
+        // What is refused has this first fault.
+        ensures refused { IfErr result (λ p. FirstFault order bytes.now p) }
     {
         spelled_is_read();
         read_is_spelled();
+        refusals_are_first_faults();
         ThemeView::read(bytes, order)
     }
 

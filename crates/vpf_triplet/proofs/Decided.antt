@@ -1,4 +1,4 @@
-use Rattle.std.specs.Prelude.{IfOk, slice_range}
+use Rattle.std.specs.Prelude.{IfOk, IfErr, slice_range}
 use Rattle.vpf_triplet.specs.declared.places.Place.{Place}
 use Rattle.std.proofs.Common.{◌-◌, ◌≡◌, ℕ, ◌+◌, ◌≤◌, List, length, take, drop, Result, Ok, Err, refl, sym, ap, ◌∙◌, arith, inl, inr, ◌⊎◌}
 use Rattle.std.proofs.lemmas.List.{length-drop, take_at, drop_at, take-append-drop}
@@ -8,19 +8,21 @@ use Rattle.vpf_triplet.specs.declared.triplets.Triplet.{Triplet}
 use Rattle.vpf_triplet.specs.Spelling.{IsTriplet}
 use Rattle.vpf_triplet.specs.Places.{Reads}
 use Rattle.vpf_triplet.specs.Reading.{triplet_at}
-use Rattle.vpf_triplet.specs.Deciding.{Begins, IsRefused, Decides}
+use Rattle.vpf_triplet.specs.Deciding.{Begins, Decides}
+use Rattle.vpf_triplet.specs.Faults.{FirstFault}
 use Rattle.vpf_triplet.specs.Numbers.{IsBytes}
+use Rattle.vpf_triplet.proofs.Faults.{triplet_faults, triplet_refused}
 use Rattle.vpf_triplet.proofs.Spelled.{IsBytes-drop, triplet_again, triplet_takes, ok_is}
 
 pub begins_read : (o : Order) (bytes : List ℕ) (t : Triplet) (text rest : List ℕ) → Begins o bytes t text rest → triplet_at o bytes ≡ Ok (t, length text)
 begins_read o bytes t text rest b = ap (triplet_at o) b.parts ∙ triplet_again o t text rest b.spelled
 
 abbrev Either : Order → List ℕ → Type 0
-Either o bytes = ((t : Triplet) × (text : List ℕ) × (rest : List ℕ) × Begins o bytes t text rest) ⊎ ((code : Code) × IsRefused o bytes code)
+Either o bytes = ((t : Triplet) × (text : List ℕ) × (rest : List ℕ) × Begins o bytes t text rest) ⊎ ((code : Code) × FirstFault o bytes code)
 
 either_of : (o : Order) (bytes : List ℕ) (r : Result (Triplet × ℕ) Code) → IsBytes bytes → triplet_at o bytes ≡ r → Either o bytes
 either_of o bytes (Ok x) fits e = inl (x.0, take x.1 bytes, drop x.1 bytes, record { parts = sym (take-append-drop x.1 bytes); spelled = (triplet_takes o bytes x.0 x.1 fits e).1 })
-either_of o bytes (Err c) fits e = inr (c, e)
+either_of o bytes (Err c) fits e = inr (c, triplet_faults o bytes c fits e)
 
 ok_not_err : {A : Type 0} (r : Result A Code) (x : A) (c : Code) → r ≡ Ok x → r ≡ Err c → ⊥
 ok_not_err r x c e f = cc
@@ -39,8 +41,8 @@ same_parts o bytes t u text rest text2 rest2 a b =
 pub decided : (o : Order) (bytes : List ℕ) → IsBytes bytes → Decides o bytes
 decided o bytes fits = record {
   either = either_of o bytes (triplet_at o bytes) fits refl;
-  never_both = λ t text rest code b r. ok_not_err _ _ _ (begins_read o bytes t text rest b) r;
-  one_code = λ c d e f. err_is _ c d e f;
+  never_both = λ t text rest code b r. ok_not_err _ _ _ (begins_read o bytes t text rest b) (triplet_refused o bytes code r);
+  one_code = λ c d e f. err_is _ c d (triplet_refused o bytes c e) (triplet_refused o bytes d f);
   one_value = same_parts o bytes;
 }
 
@@ -59,3 +61,7 @@ is_only o bytes at (Ok x) t text rest given b =
     let two : x.1 ≡ at + length text = omega (arith, given.0, len) in
     rw (← one, ← two) refl
 is_only o bytes at (Err p) t text rest given b = absurd (ok_not_err _ _ _ (begins_read o (drop at bytes) t text rest b) given.0)
+
+pub is_refused : (o : Order) (bytes : List ℕ) (at : ℕ) (r : Result (Triplet × ℕ) Place) → IsBytes bytes → Reads at r (triplet_at o (drop at bytes)) → IfErr r (λ p. FirstFault o (drop at bytes) p.code)
+is_refused o bytes at (Ok x) fits given = tt
+is_refused o bytes at (Err p) fits given = triplet_faults o (drop at bytes) p.code (IsBytes-drop at bytes fits) given.0

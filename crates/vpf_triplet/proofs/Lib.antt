@@ -1,3 +1,4 @@
 pub mod Spelled
+pub mod Faults
 pub mod Decided
 pub mod Canonicals

@@ -12,7 +12,7 @@ use Rattle.vpf_triplet.specs.declared.sizes.Size.TheVariants.{Absent, One, Two, 
 use Rattle.vpf_triplet.specs.declared.triplets.Triplet.{Triplet}
 use Rattle.vpf_triplet.specs.Numbers.{IsBytes}
 use Rattle.vpf_triplet.specs.Sizes.{size_of, bytes_of, part_of}
-use Rattle.vpf_triplet.specs.Spelling.{bits_of, Holds, part, spelling, IsTriplet}
+use Rattle.vpf_triplet.specs.Spelling.{bits_of, Holds, part, type_byte, spelling, IsTriplet}
 use Rattle.vpf_triplet.specs.Reading.{is_small, parts_at, triplet_at}
 
 pub IsBytes-drop : (n : ℕ) (bytes : List ℕ) → IsBytes bytes → IsBytes (drop n bytes)
@@ -128,23 +128,31 @@ parts_again o a b c t rest p q r =
     let third : drop (bytes_of a + bytes_of b) (x ++ (y ++ (z ++ rest))) ≡ z ++ rest = rw regrouped2 (drop_at (x ++ y) (z ++ rest) (bytes_of a + bytes_of b) lxy) in
     ap (parts_at o a b c) regrouped ∙ rw (long, part_again o a t.id (y ++ (z ++ rest)) p, drop_at x (y ++ (z ++ rest)) (bytes_of a) la, part_again o b t.tile (z ++ rest) q, third, part_again o c t.ext rest r, small_again a t.id p, small_again b t.tile q, small_again c t.ext r) refl
 
-pub triplet_again : (o : Order) (t : Triplet) (text rest : List ℕ) → IsTriplet o t text → triplet_at o (text ++ rest) ≡ Ok (t, length text)
+-- the sizes that a type byte says
+pub type_back : (o : Order) (a b c : Size) (rest : List ℕ) → triplet_at o (type_byte a b c ∷ rest) ≡ parts_at o a b c rest
 unfolding triplet_at
+type_back o a b c rest =
+    let ha = field_small a in
+    let hb = field_small b in
+    let hc = field_small c in
+    let res : eqb (type_byte a b c % 4) 0 ≡ true = eq-eqb _ _ (reserved (bits_of a) (bits_of b) (bits_of c)) in
+    let n1 : size_of (type_byte a b c / 64) ≡ a = ap size_of (high (bits_of a) (bits_of b) (bits_of c) ha hb hc) ∙ size_back a in
+    let n2 : size_of (type_byte a b c / 16 % 4) ≡ b = ap size_of (middle (bits_of a) (bits_of b) (bits_of c) ha hb hc) ∙ size_back b in
+    let n3 : size_of (type_byte a b c / 4 % 4) ≡ c = ap size_of (low (bits_of a) (bits_of b) (bits_of c) ha hb hc) ∙ size_back c in
+    rw (res, n1, n2, n3) refl
+
+-- a byte whose reserved field is 0 is the type byte of these sizes
+pub type_parts : (first : ℕ) → first < 256 → first % 4 ≡ 0 → type_byte (size_of (first / 64)) (size_of (first / 16 % 4)) (size_of (first / 4 % 4)) ≡ first
+type_parts first h e = rw (field_back (first / 64) (omega (arith, h)), field_back (first / 16 % 4) (omega arith), field_back (first / 4 % 4) (omega arith)) (byte_parts first h e)
+
+pub triplet_again : (o : Order) (t : Triplet) (text rest : List ℕ) → IsTriplet o t text → triplet_at o (text ++ rest) ≡ Ok (t, length text)
 triplet_again o t text rest s =
     let a = s.id in
     let b = s.tile in
     let c = s.ext in
-    let first : ℕ = 64 * bits_of a + 16 * bits_of b + 4 * bits_of c in
-    let ha = field_small a in
-    let hb = field_small b in
-    let hc = field_small c in
-    let res : eqb (first % 4) 0 ≡ true = eq-eqb _ _ (reserved (bits_of a) (bits_of b) (bits_of c)) in
-    let n1 : size_of (first / 64) ≡ a = ap size_of (high (bits_of a) (bits_of b) (bits_of c) ha hb hc) ∙ size_back a in
-    let n2 : size_of (first / 16 % 4) ≡ b = ap size_of (middle (bits_of a) (bits_of b) (bits_of c) ha hb hc) ∙ size_back b in
-    let n3 : size_of (first / 4 % 4) ≡ c = ap size_of (low (bits_of a) (bits_of b) (bits_of c) ha hb hc) ∙ size_back c in
     let body = part o a t.id ++ (part o b t.tile ++ part o c t.ext) in
     let len : length (spelling o a b c t) ≡ 1 + (bytes_of a + bytes_of b + bytes_of c) = omega (arith, length-append (part o a t.id) (part o b t.tile ++ part o c t.ext), length-append (part o b t.tile) (part o c t.ext), length-part o a t.id s.holds_id, length-part o b t.tile s.holds_tile, length-part o c t.ext s.holds_ext) in
-    let read : triplet_at o (first ∷ (body ++ rest)) ≡ Ok (t, 1 + (bytes_of a + bytes_of b + bytes_of c)) = rw (res, n1, n2, n3) (parts_again o a b c t rest s.holds_id s.holds_tile s.holds_ext) in
+    let read : triplet_at o (type_byte a b c ∷ (body ++ rest)) ≡ Ok (t, 1 + (bytes_of a + bytes_of b + bytes_of c)) = type_back o a b c (body ++ rest) ∙ parts_again o a b c t rest s.holds_id s.holds_tile s.holds_ext in
     let goal : triplet_at o (spelling o a b c t ++ rest) ≡ Ok (t, length (spelling o a b c t)) = rw len read in
     subst (λ (x : List ℕ). triplet_at o (x ++ rest) ≡ Ok (t, length x)) (sym s.spelled) goal
 
@@ -202,7 +210,7 @@ triplet_takes o (first ∷ rest) t n fits e =
     let p = passed _ _ _ _ e in
     let low2 : first % 4 ≡ 0 = eqb-true _ _ p.0 in
     let k = parts_take o a b c rest t n (λ i. fits (suc i)) p.1 in
-    let first_is : 64 * bits_of a + 16 * bits_of b + 4 * bits_of c ≡ first = rw (field_back (first / 64) (omega (arith, fits 0)), field_back (first / 16 % 4) (omega arith), field_back (first / 4 % 4) (omega arith)) (byte_parts first (fits 0) low2) in
+    let first_is : type_byte a b c ≡ first = type_parts first (fits 0) low2 in
     let n_is : n ≡ suc (bytes_of a + bytes_of b + bytes_of c) = omega (arith, k.0) in (
       omega (arith, k.0, k.1),
       record {

@@ -1,23 +1,19 @@
 -- Bytes begin with one triplet id, or are refused with one code.
-use Rattle.std.specs.Prelude.{◌≡◌, ℕ, ◌⊎◌, List, ◌++◌, Err}
+use Rattle.std.specs.Prelude.{◌≡◌, ℕ, ◌⊎◌, List, ◌++◌}
 use Rattle.vpf_triplet.specs.declared.orders.Order.{Order}
 use Rattle.vpf_triplet.specs.declared.places.Code.{Code}
 use Rattle.vpf_triplet.specs.declared.triplets.Triplet.{Triplet}
+use Rattle.vpf_triplet.specs.Faults.{FirstFault}
 use Rattle.vpf_triplet.specs.Spelling.{IsTriplet}
-use Rattle.vpf_triplet.specs.Reading.{triplet_at}
 
 -- the bytes begin with a spelling of the triplet id, and `rest` follows it
 pub record Begins (o : Order) (bytes : List ℕ) (t : Triplet) (text rest : List ℕ) : Type 0 where
   pub parts : bytes ≡ text ++ rest
   pub spelled : IsTriplet o t text
 
--- no triplet id is at the front, for the reason of this code
-abbrev pub IsRefused : Order → List ℕ → Code → Type 0
-IsRefused o bytes code = triplet_at o bytes ≡ Err code
-
 -- exactly one of the two, in one way
 pub record Decides (o : Order) (bytes : List ℕ) : Type 0 where
-  pub either : ((t : Triplet) × (text : List ℕ) × (rest : List ℕ) × Begins o bytes t text rest) ⊎ ((code : Code) × IsRefused o bytes code)
-  pub never_both : (t : Triplet) (text rest : List ℕ) (code : Code) → Begins o bytes t text rest → IsRefused o bytes code → ⊥
-  pub one_code : (c d : Code) → IsRefused o bytes c → IsRefused o bytes d → c ≡ d
+  pub either : ((t : Triplet) × (text : List ℕ) × (rest : List ℕ) × Begins o bytes t text rest) ⊎ ((code : Code) × FirstFault o bytes code)
+  pub never_both : (t : Triplet) (text rest : List ℕ) (code : Code) → Begins o bytes t text rest → FirstFault o bytes code → ⊥
+  pub one_code : (c d : Code) → FirstFault o bytes c → FirstFault o bytes d → c ≡ d
   pub one_value : (t u : Triplet) (text rest text2 rest2 : List ℕ) → Begins o bytes t text rest → Begins o bytes u text2 rest2 → (t ≡ u) × (text ≡ text2) × (rest ≡ rest2)

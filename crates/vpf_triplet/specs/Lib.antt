@@ -6,4 +6,5 @@ pub mod Sizes
 pub mod Reading
 pub mod Spelling
 pub mod Canonical
+pub mod Faults
 pub mod Deciding

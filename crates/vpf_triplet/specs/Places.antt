@@ -46,6 +46,11 @@ abbrev pub Fails : {Y : Type 0} → PlaceError → Result Y Place → Type 0
 Fails errors.NoMemory read = Unit {0}
 Fails (errors.Place p) read = read ≡ Err p
 
+-- what holds of the place of a refusal; want of memory has none
+abbrev pub ForPlace : (Place → Type 0) → PlaceError → Type 0
+ForPlace P errors.NoMemory = Unit {0}
+ForPlace P (errors.Place p) = P p
+
 -- a call answered what reading gives, unless memory ran out
 abbrev pub Answers : {X Y : Type 0} → (X → Y) → Result X PlaceError → Result Y Place → Type 0
 Answers view (Ok x) read = read ≡ Ok (view x)

@@ -33,9 +33,13 @@ part o One (Some n) = n ∷ []
 part o Two (Some n) = number o w16 n
 part o Four (Some n) = number o w32 n
 
+-- the type byte of parts of these sizes; its lowest field is reserved, and 0
+abbrev pub type_byte : Size → Size → Size → ℕ
+type_byte a b c = 64 * bits_of a + 16 * bits_of b + 4 * bits_of c
+
 -- the type byte, and the parts in these sizes
 abbrev pub spelling : Order → Size → Size → Size → Triplet → List ℕ
-spelling o a b c t = (64 * bits_of a + 16 * bits_of b + 4 * bits_of c) ∷ (part o a t.id ++ (part o b t.tile ++ part o c t.ext))
+spelling o a b c t = type_byte a b c ∷ (part o a t.id ++ (part o b t.tile ++ part o c t.ext))
 
 -- The bytes spell the triplet id: one spelling for each choice of sizes that hold its parts.
 pub record IsTriplet (o : Order) (t : Triplet) (bytes : List ℕ) : Type 0 where

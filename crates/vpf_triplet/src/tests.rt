@@ -1,3 +1,5 @@
+//! Triplet ids, numbers and words, by bytes that are written out by hand.
+
 use crate::{Code, Count, Kind, Order, Part, Place, PlaceError, Triplet};
 use std::alloc::{AllocError, Global};
 use std::test::Fail;
@@ -8,69 +10,67 @@ const NOTHING: Triplet = Triplet {
     ext: None,
 };
 
-fn triplet(id: u32, tile: u32, ext: u32) -> Triplet {
-    Triplet {
-        id: Some(id),
-        tile: Some(tile),
-        ext: Some(ext),
-    }
-}
+const SEVEN: Triplet = Triplet {
+    id: Some(7),
+    tile: None,
+    ext: None,
+};
+
+const ONE_TWO_THREE: Triplet = Triplet {
+    id: Some(1),
+    tile: Some(2),
+    ext: Some(3),
+};
+
+/// Each part is the largest that there is.
+const MOST: Triplet = Triplet {
+    id: Some(2_147_483_647),
+    tile: Some(2_147_483_647),
+    ext: Some(2_147_483_647),
+};
+
+/// A reserved field that isn't 0, before parts that are whole.
+const LONG: &[u8] = &[0x95, 0, 0, 0, 0, 0, 0, 0, 0, 0, 0, 0, 0];
+
+const FULL: &[u8] = &[
+    0xfc, 0xff, 0xff, 0xff, 0x7f, 0xff, 0xff, 0xff, 0x7f, 0xff, 0xff, 0xff, 0x7f,
+];
+
+/// The last part is one too large.
+const OVER: &[u8] = &[
+    0xfc, 0xff, 0xff, 0xff, 0x7f, 0xff, 0xff, 0xff, 0x7f, 0, 0, 0, 0x80,
+];
+
+/// Bytes, where a triplet id begins in them, and the id with its end, or why it is refused there.
+const READINGS: [(Order, &[u8], usize, Result<(Triplet, usize), Code>); 13] = [
+    (Order::Little, &[0], 0, Ok((NOTHING, 1))),
+    (Order::Little, &[0x40, 7], 0, Ok((SEVEN, 2))),
+    (Order::Little, &[9, 9, 0x40, 7, 9], 2, Ok((SEVEN, 4))),
+    (Order::Little, LONG, 0, Err(Code::Triplet)),
+    (
+        Order::Little,
+        &[0xa8, 1, 0, 2, 0, 3, 0],
+        0,
+        Ok((ONE_TWO_THREE, 7)),
+    ),
+    (
+        Order::Big,
+        &[0xa8, 0, 1, 0, 2, 0, 3],
+        0,
+        Ok((ONE_TWO_THREE, 7)),
+    ),
+    (Order::Big, &[0x54, 1, 2, 3], 0, Ok((ONE_TWO_THREE, 4))),
+    (Order::Little, FULL, 0, Ok((MOST, 13))),
+    (Order::Little, OVER, 0, Err(Code::Triplet)),
+    (Order::Little, &[0x41, 0], 0, Err(Code::Triplet)),
+    (Order::Little, &[0x41], 0, Err(Code::Triplet)),
+    (Order::Little, &[0x80, 0xff], 0, Err(Code::CellCut)),
+    (Order::Little, &[0x40, 7], 2, Err(Code::CellCut)),
+];
 
 #[test]
 fn reads_triplets(rt: HostRuntime) -> Result<(), Fail> {
-    let most = triplet(2_147_483_647, 2_147_483_647, 2_147_483_647);
-    let seven = Triplet {
-        id: Some(7),
-        tile: None,
-        ext: None,
-    };
-    let long: &[u8] = &[0x95, 0, 0, 0, 0, 0, 0, 0, 0, 0, 0, 0, 0];
-    let full: &[u8] = &[
-        0xfc, 0xff, 0xff, 0xff, 0x7f, 0xff, 0xff, 0xff, 0x7f, 0xff, 0xff, 0xff, 0x7f,
-    ];
-    let over: &[u8] = &[
-        0xfc, 0xff, 0xff, 0xff, 0x7f, 0xff, 0xff, 0xff, 0x7f, 0, 0, 0, 0x80,
-    ];
-    for (order, bytes, at, want) in [
-        (Order::Little, [0].as_slice(), 0, Ok((NOTHING, 1))),
-        (Order::Little, [0x40, 7].as_slice(), 0, Ok((seven, 2))),
-        (
-            Order::Little,
-            [9, 9, 0x40, 7, 9].as_slice(),
-            2,
-            Ok((seven, 4)),
-        ),
-        (Order::Little, long, 0, Err(Code::Triplet)),
-        (
-            Order::Little,
-            [0xa8, 1, 0, 2, 0, 3, 0].as_slice(),
-            0,
-            Ok((triplet(1, 2, 3), 7)),
-        ),
-        (
-            Order::Big,
-            [0xa8, 0, 1, 0, 2, 0, 3].as_slice(),
-            0,
-            Ok((triplet(1, 2, 3), 7)),
-        ),
-        (
-            Order::Big,
-            [0x54, 1, 2, 3].as_slice(),
-            0,
-            Ok((triplet(1, 2, 3), 4)),
-        ),
-        (Order::Little, full, 0, Ok((most, 13))),
-        (Order::Little, over, 0, Err(Code::Triplet)),
-        (Order::Little, [0x41, 0].as_slice(), 0, Err(Code::Triplet)),
-        (Order::Little, [0x41].as_slice(), 0, Err(Code::Triplet)),
-        (
-            Order::Little,
-            [0x80, 0xff].as_slice(),
-            0,
-            Err(Code::CellCut),
-        ),
-        (Order::Little, [0x40, 7].as_slice(), 2, Err(Code::CellCut)),
-    ] {
+    for (order, bytes, at, want) in READINGS {
         assert!(rt; at <= bytes.len());
         let want = want.map_err(|code| Place {
             part: Part::Table,
@@ -85,15 +85,7 @@ fn reads_triplets(rt: HostRuntime) -> Result<(), Fail> {
 /// Triplet ids with their canonical spellings in either order.
 const SPELLINGS: [(Triplet, &[u8], &[u8]); 5] = [
     (NOTHING, &[0], &[0]),
-    (
-        Triplet {
-            id: Some(1),
-            tile: Some(2),
-            ext: Some(3),
-        },
-        &[0x54, 1, 2, 3],
-        &[0x54, 1, 2, 3],
-    ),
+    (ONE_TWO_THREE, &[0x54, 1, 2, 3], &[0x54, 1, 2, 3]),
     (
         Triplet {
             id: Some(255),

@@ -84,11 +84,12 @@ fn put_parts(id: &Triplet, order: Order, out: &mut Vec<u8>) -> Result<(), AllocE
 }
 
 impl Triplet {
-    ghost use Rattle.std.specs.Prelude.{◌≡◌, ◌≤◌, ◌+◌, ◌++◌, ℕ, List, length, drop, slice_range, IfOk, OnOk, OnErr, Ok};
+    ghost use Rattle.std.specs.Prelude.{◌≡◌, ◌≤◌, ◌+◌, ◌++◌, ℕ, List, length, drop, slice_range, IfOk, IfErr, OnOk, OnErr, Ok};
     ghost use Rattle.vpf_triplet.specs.declared.orders.Order.{Order};
     ghost use Rattle.vpf_triplet.specs.Canonical.{canonical, IsSmall};
     ghost use Rattle.vpf_triplet.specs.Spelling.{IsTriplet};
     ghost use Rattle.vpf_triplet.specs.Deciding.{Begins};
+    ghost use Rattle.vpf_triplet.specs.Faults.{FirstFault};
     ghost use Rattle.vpf_triplet.specs.Places.{Reads};
     ghost use Rattle.vpf_triplet.specs.Reading.{triplet_at};
 
@@ -103,6 +104,8 @@ impl Triplet {
         ensures only { (t : Triplet) (text rest : List ℕ) → Begins order (drop at bytes.now) t text rest → result ≡ Ok (t, at + length text) }
         // The value and its end, or the code of the first fault.
         ensures exact { Reads at result (triplet_at order (drop at bytes.now)) }
+        // What is refused has this first fault.
+        ensures refused { IfErr result (λ p. FirstFault order (drop at bytes.now) p.code) }
     {
         read_at(order, bytes, at)
     }

@@ -3,6 +3,7 @@ pub mod WordLists
 pub mod WordTexts
 pub mod Readers
 pub mod CellLaws
+pub mod CellFaults
 pub mod Deciding
 pub mod WidthLaws
 pub mod FittingLaws

@@ -5,6 +5,7 @@ pub mod Reading
 pub mod Widths
 pub mod Spelling
 pub mod Canonical
+pub mod Faults
 pub mod Deciding
 pub mod Fitting
 pub mod Turning

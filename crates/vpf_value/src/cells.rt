@@ -1,12 +1,13 @@
 //! Cells of tables, borrowed from the file.
 
-ghost use Rattle.std.specs.Prelude.{◌≡◌, ℕ, ◌+◌, ◌≤◌, ◌<◌, List, IfOk, IsOkAnd, MatchResult, length, drop, take, slice_range};
+ghost use Rattle.std.specs.Prelude.{◌≡◌, ℕ, ◌+◌, ◌≤◌, ◌<◌, List, IfOk, IfErr, IsOkAnd, MatchResult, length, drop, take, slice_range};
 ghost use Rattle.std.specs.Int.{w16, w32, w64, cast_signed};
 ghost use Rattle.vpf_triplet.specs.Numbers.{number_of};
 ghost use Rattle.vpf_triplet.specs.Places.{fault};
 ghost use Rattle.vpf_value.specs.Values.{Value, TextOf, Word4Of, Word8Of, NumberOf, DateOf, date_bytes, view};
 ghost use Rattle.vpf_value.specs.Coordinates.{tuple_in, kind_tuple};
 ghost use Rattle.vpf_value.specs.Deciding.{BeginsCell};
+ghost use Rattle.vpf_value.specs.Faults.{FirstFault};
 ghost use Rattle.vpf_value.specs.Spelling.{IsCell};
 ghost use Rattle.vpf_value.specs.Reading.{ReadsCell, sized, text_from, tuples_from, counted_from, many_from, triplet_from, cell_from};
 
@@ -289,6 +290,8 @@ pub fn cell_at(
     ensures only { (v : Value) (text rest : List ℕ) → BeginsCell order kind count (drop at bytes.now) v text rest → IsOkAnd result (λ r. (view r.0 ≡ v) × (r.1 ≡ at + length text)) }
     // The value and its end, or the code of the first fault.
     ensures exact { ReadsCell at result (cell_from order kind count (drop at bytes.now)) }
+    // What is refused has this first fault.
+    ensures refused { IfErr result (λ p. FirstFault order kind count (drop at bytes.now) p.code) }
     ensures inside { IfOk result (λ r. r.1 ≤ length bytes.now) }
     // Coordinates keep the tuples of their kind.
     ensures tupled { IfOk result (λ r. tuple_in r.0 ≡ kind_tuple kind) }

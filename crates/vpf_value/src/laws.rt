@@ -1,9 +1,10 @@
 //! Laws about the definitions of cells alone.
 
-ghost use Rattle.std.specs.Prelude.{◌≡◌, ◌≢◌, ◌≤◌, ◌<◌, ◌↔◌, ℕ, List, ◌++◌, length, take, Some, Ok, IsTrue};
+ghost use Rattle.std.specs.Prelude.{◌≡◌, ◌≢◌, ◌≤◌, ◌<◌, ◌↔◌, ℕ, List, ◌++◌, length, take, Some, Ok, Err, IsTrue};
 ghost use Rattle.vpf_triplet.specs.declared.orders.Order.{Order};
 ghost use Rattle.vpf_triplet.specs.declared.kinds.Kind.{Kind};
 ghost use Rattle.vpf_triplet.specs.declared.kinds.Count.{Count};
+ghost use Rattle.vpf_triplet.specs.declared.places.Code.{Code};
 ghost use Rattle.vpf_triplet.specs.Kinds.{allows};
 ghost use Rattle.vpf_triplet.specs.Numbers.{IsBytes};
 ghost use Rattle.vpf_value.specs.Values.{Value};
@@ -11,15 +12,28 @@ ghost use Rattle.vpf_value.specs.Reading.{cell_from};
 ghost use Rattle.vpf_value.specs.Spelling.{IsCell};
 ghost use Rattle.vpf_value.specs.Widths.{cell_width, TakesWidth};
 ghost use Rattle.vpf_value.specs.Deciding.{Decides};
+ghost use Rattle.vpf_value.specs.Faults.{FirstFault};
 ghost use Rattle.vpf_value.specs.Fitting.{FitsCell, HasSpelling};
 ghost use Rattle.vpf_value.specs.Canonical.{spelled};
 ghost use Rattle.vpf_value.specs.Turning.{word_size, turned_cell};
+
+use vpf_triplet::laws as triplets;
 
 /// Each list of bytes begins with the spelling of exactly one value, or is refused with exactly one code, and never
 /// both. So no spelling is a proper beginning of another.
 pub fn cells_decide()
     ensures { (order : Order) (kind : Kind) (count : Count) (bytes : List ℕ) → IsBytes bytes → Decides order kind count bytes }
-{}
+{
+    triplets::refusals_are_first_faults();
+}
+
+/// The code that bytes are refused with is that of their first fault, and only that one.
+pub fn refusals_are_first_faults()
+    ensures only { (order : Order) (kind : Kind) (count : Count) (bytes : List ℕ) (code : Code) → IsBytes bytes → cell_from order kind count bytes ≡ Err code → FirstFault order kind count bytes code }
+    ensures each { (order : Order) (kind : Kind) (count : Count) (bytes : List ℕ) (code : Code) → FirstFault order kind count bytes code → cell_from order kind count bytes ≡ Err code }
+{
+    triplets::refusals_are_first_faults();
+}
 
 /// What is spelled so is read, whatever follows.
 pub fn spelled_is_read()

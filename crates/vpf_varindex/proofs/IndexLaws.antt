@@ -1,6 +1,6 @@
 -- What is read as an index is spelled so, and what is spelled so is read.
 use Rattle.std.proofs.Common.{◌≡◌, ℕ, zero, suc, ◌+◌, ◌<◌, ◌≤◌, ◌^◌, ltb, List, [], ◌∷◌, ◌++◌, length, drop, Result, Ok, Err, refl, sym, ap, subst, ◌∙◌, arith, inl, inr, ◌⊎◌}
-use Rattle.std.specs.Prelude.{All, IfOk}
+use Rattle.std.specs.Prelude.{All, IfOk, IfErr}
 use Rattle.std.specs.Int.{w32}
 use Rattle.std.proofs.lemmas.Bool.{le-ltb, ltb-false, le-leb}
 use Rattle.std.proofs.lemmas.List.{drop_at, drop-drop, take-append-drop, length-append, length-drop, drop_all}
@@ -11,11 +11,13 @@ use Rattle.vpf_triplet.specs.declared.places.Code.TheVariants as codes
 use Rattle.vpf_triplet.specs.Numbers.{IsBytes, number, number_of}
 use Rattle.vpf_triplet.specs.Places.{Gives, index_fault}
 use Rattle.vpf_triplet.proofs.Spelled.{IsBytes-drop}
-use Rattle.vpf_varindex.specs.Deciding.{FirstFault, Decides}
+use Rattle.vpf_varindex.specs.Deciding.{Decides}
+use Rattle.vpf_varindex.specs.Faults.{FirstFault}
 use Rattle.vpf_varindex.specs.Reading.{entry_at, entries_at, index_at}
 use Rattle.vpf_varindex.specs.RowIndex.{entries_text, row_index, HasSpan, IsRowIndex}
 use Rattle.vpf_varindex.proofs.Numbers.{length-number, number_again, number_takes, number_below}
 use Rattle.vpf_varindex.proofs.Entries.{ok_is, passed, opens, closes, length-entries}
+use Rattle.vpf_varindex.proofs.EntryFaults.{index_faults, fault_refuses}
 
 -- what follows a number at the front
 after_number : (o : Order) (n : ℕ) (bytes rest : List ℕ) (at : ℕ) → drop at bytes ≡ number o w32 n ++ rest → drop (at + 4) bytes ≡ rest
@@ -96,7 +98,7 @@ index_takes o spans bytes fits e =
 
 either_of : (o : Order) (bytes : List ℕ) (r : Result (List (ℕ × ℕ)) Place) → IsBytes bytes → index_at o bytes ≡ r → ((spans : List (ℕ × ℕ)) × IsRowIndex o spans bytes) ⊎ ((place : Place) × FirstFault o bytes place)
 either_of o bytes (Ok spans) fits e = inl (spans, index_takes o spans bytes fits e)
-either_of o bytes (Err p) fits e = inr (p, e)
+either_of o bytes (Err p) fits e = inr (p, index_faults o bytes p e)
 
 ok_err : (r : Result (List (ℕ × ℕ)) Place) (x : List (ℕ × ℕ)) (p : Place) → r ≡ Ok x → r ≡ Err p → ⊥
 ok_err r x p e f = cc
@@ -107,9 +109,9 @@ err_err r p q e f = cc
 pub index_decided : (o : Order) (bytes : List ℕ) → IsBytes bytes → Decides o bytes
 index_decided o bytes fits = record {
   either = either_of o bytes (index_at o bytes) fits refl;
-  never_both = λ spans p i f. ok_err _ spans p (index_again o spans bytes i) f;
+  never_both = λ spans p i f. ok_err _ spans p (index_again o spans bytes i) (fault_refuses o bytes p f);
   one_list = λ ss ts i j. ok_is ss ts (sym (index_again o ss bytes i) ∙ index_again o ts bytes j);
-  one_fault = λ p q e f. err_err _ p q e f;
+  one_fault = λ p q e f. err_err _ p q (fault_refuses o bytes p e) (fault_refuses o bytes q f);
 }
 
 -- ---- what opening answers
@@ -123,3 +125,7 @@ opened_is_spelled (Err p) o bytes fits e = tt
 
 pub spelled_is_opened : (r : Result (List (ℕ × ℕ)) Place) (o : Order) (bytes : List ℕ) (spans : List (ℕ × ℕ)) → IsRowIndex o spans bytes → Gives whole r (index_at o bytes) → Gives whole r (Ok spans)
 spelled_is_opened r o bytes spans i e = let P : Result (List (ℕ × ℕ)) Place → Type 0 = λ (x : Result (List (ℕ × ℕ)) Place). Gives whole r x in subst P (index_again o spans bytes i) e
+
+pub refused_is_faulty : (r : Result (List (ℕ × ℕ)) Place) (o : Order) (bytes : List ℕ) → Gives whole r (index_at o bytes) → IfErr r (λ p. FirstFault o bytes p)
+refused_is_faulty (Ok spans) o bytes e = tt
+refused_is_faulty (Err p) o bytes e = index_faults o bytes p e

@@ -1,3 +1,4 @@
 pub mod Numbers
 pub mod Entries
+pub mod EntryFaults
 pub mod IndexLaws

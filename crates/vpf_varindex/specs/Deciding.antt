@@ -1,13 +1,9 @@
 -- Bytes are one variable-length index, or have one first fault.
-use Rattle.std.specs.Prelude.{◌≡◌, ℕ, ◌⊎◌, List, Err}
+use Rattle.std.specs.Prelude.{◌≡◌, ℕ, ◌⊎◌, List}
 use Rattle.vpf_triplet.specs.declared.orders.Order.{Order}
 use Rattle.vpf_triplet.specs.declared.places.Place.{Place}
-use Rattle.vpf_varindex.specs.Reading.{index_at}
+use Rattle.vpf_varindex.specs.Faults.{FirstFault}
 use Rattle.vpf_varindex.specs.RowIndex.{IsRowIndex}
-
--- the bytes are no index, and this is their first fault
-abbrev pub FirstFault : Order → List ℕ → Place → Type 0
-FirstFault o bytes place = index_at o bytes ≡ Err place
 
 -- exactly one of the two, in one way
 pub record Decides (o : Order) (bytes : List ℕ) : Type 0 where

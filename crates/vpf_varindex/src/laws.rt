@@ -1,9 +1,11 @@
 //! Laws about the definitions of variable-length indexes alone.
 
-ghost use Rattle.std.specs.Prelude.{◌≡◌, ◌<◌, ◌^◌, ℕ, All, List, Ok, length};
+ghost use Rattle.std.specs.Prelude.{◌≡◌, ◌<◌, ◌^◌, ℕ, All, List, Ok, Err, length};
 ghost use Rattle.vpf_triplet.specs.declared.orders.Order.{Order};
+ghost use Rattle.vpf_triplet.specs.declared.places.Place.{Place};
 ghost use Rattle.vpf_triplet.specs.Numbers.{IsBytes};
 ghost use Rattle.vpf_varindex.specs.Deciding.{Decides};
+ghost use Rattle.vpf_varindex.specs.Faults.{FirstFault};
 ghost use Rattle.vpf_varindex.specs.Reading.{index_at};
 ghost use Rattle.vpf_varindex.specs.RowIndex.{row_index, HasSpan, IsRowIndex};
 
@@ -11,6 +13,12 @@ ghost use Rattle.vpf_varindex.specs.RowIndex.{row_index, HasSpan, IsRowIndex};
 /// both.
 pub fn indexes_decide()
     ensures { (order : Order) (bytes : List ℕ) → IsBytes bytes → Decides order bytes }
+{}
+
+/// The place where bytes are refused is their first fault, and only that one.
+pub fn refusals_are_first_faults()
+    ensures only { (order : Order) (bytes : List ℕ) (place : Place) → index_at order bytes ≡ Err place → FirstFault order bytes place }
+    ensures each { (order : Order) (bytes : List ℕ) (place : Place) → FirstFault order bytes place → index_at order bytes ≡ Err place }
 {}
 
 /// What is spelled as an index is read as that index.

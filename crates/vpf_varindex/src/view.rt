@@ -46,8 +46,9 @@ fn entry_in(order: Order, bytes: &[u8], at: usize) -> (u32, u32)
 }
 
 impl<'a> IndexView<'a> {
-    ghost use Rattle.std.specs.Prelude.{◌≡◌, ◌≤◌, ◌-◌, ◌==◌, ℕ, List, IfOk, Ok, Some, length, slice_get};
+    ghost use Rattle.std.specs.Prelude.{◌≡◌, ◌≤◌, ◌-◌, ◌==◌, ℕ, List, IfOk, IfErr, Ok, Some, length, slice_get};
     ghost use Rattle.vpf_triplet.specs.Places.{Gives};
+    ghost use Rattle.vpf_varindex.specs.Faults.{FirstFault};
     ghost use Rattle.vpf_varindex.specs.Reading.{index_at};
     ghost use Rattle.vpf_varindex.specs.RowIndex.{IsRowIndex};
 
@@ -61,6 +62,8 @@ impl<'a> IndexView<'a> {
         ensures only { (spans : List (ℕ × ℕ)) → IsRowIndex order spans bytes.now → Gives (λ view. view) result (Ok spans) }
         // The index, or the first fault.
         ensures exact { Gives (λ view. view) result (index_at order bytes.now) }
+        // What is refused has this first fault.
+        ensures refused { IfErr result (λ p. FirstFault order bytes.now p) }
     {
         spelled_is_read();
         read_is_spelled();

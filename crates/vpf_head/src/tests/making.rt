@@ -118,6 +118,11 @@ fn limits_parts(rt: HostRuntime) -> Result<(), Fail> {
             refused(at, Code::LimitName(256))
         );
     }
+    Ok(())
+}
+
+#[test]
+fn limits_the_text_of_parts(rt: HostRuntime) -> Result<(), Fail> {
     let texts: [(usize, Option<PlaceError>); 2] = [
         (65_512, None),
         (65_513, refused(0, Code::LimitHeader(65_537))),

@@ -4,6 +4,13 @@ use super::{DATE, L, LARGEST_PART, M, ONE, STAR};
 use crate::{Cell, Coords, WordWidth, cell_at};
 use vpf_triplet::{Code, Count, Kind, Order, Place, Triplet};
 
+const FOUR: WordWidth = WordWidth::Four;
+
+const EIGHT: WordWidth = WordWidth::Eight;
+
+/// How a cell is spelled: the order of its table, and the kind and the count of its column.
+type Field = (Order, Kind, Count);
+
 /// What a test expects of a cell.
 #[derive(Clone, Copy)]
 enum Want {
@@ -48,13 +55,7 @@ fn is(cell: &Cell<'_>, want: Want) -> bool {
 }
 
 /// Whether the cell that begins at `at` is read as wanted, and ends at `past`.
-fn reads(
-    (order, kind, count): (Order, Kind, Count),
-    bytes: &[u8],
-    at: usize,
-    want: Want,
-    past: usize,
-) -> bool {
+fn reads((order, kind, count): Field, bytes: &[u8], at: usize, want: Want, past: usize) -> bool {
     if at > bytes.len() {
         return false;
     }
@@ -65,12 +66,7 @@ fn reads(
 }
 
 /// Whether the cell that begins at `at` is refused there with this code.
-fn refuses(
-    (order, kind, count): (Order, Kind, Count),
-    bytes: &[u8],
-    at: usize,
-    code: Code,
-) -> bool {
+fn refuses((order, kind, count): Field, bytes: &[u8], at: usize, code: Code) -> bool {
     if at > bytes.len() {
         return false;
     }
@@ -82,7 +78,7 @@ fn refuses(
 
 #[test]
 fn reads_texts(rt: HostRuntime) {
-    let cases: [((Order, Kind, Count), &[u8], usize, &[u8], usize); 9] = [
+    let cases: [(Field, &[u8], usize, &[u8], usize); 9] = [
         ((L, Kind::T, Count::Fixed(3)), b"abcd", 0, b"abc", 3),
         ((L, Kind::L, Count::Fixed(2)), b"abcd", 1, b"bc", 3),
         ((M, Kind::M, ONE), b"\xff", 0, b"\xff", 1),
@@ -101,61 +97,63 @@ fn reads_texts(rt: HostRuntime) {
     }
 }
 
+/// Numbers, dates and nothing: the field, the bytes, where the cell begins in them, what it says, and where it ends.
+const NUMBERS: [(Field, &[u8], usize, Want, usize); 14] = [
+    (
+        (L, Kind::F, ONE),
+        b"\x01\0\0\x80",
+        0,
+        Want::Word4(0x8000_0001),
+        4,
+    ),
+    (
+        (M, Kind::F, ONE),
+        b"\x01\0\0\x80",
+        0,
+        Want::Word4(0x0100_0080),
+        4,
+    ),
+    (
+        (L, Kind::R, ONE),
+        b"\x01\x02\x03\x04\x05\x06\x07\xf8",
+        0,
+        Want::Word8(0xf807_0605_0403_0201),
+        8,
+    ),
+    (
+        (M, Kind::R, ONE),
+        b"-\x01\x02\x03\x04\x05\x06\x07\xf8",
+        1,
+        Want::Word8(0x0102_0304_0506_07f8),
+        9,
+    ),
+    (
+        (L, Kind::S, ONE),
+        b"\xfe\xff\x01\x01",
+        0,
+        Want::Short(-2),
+        2,
+    ),
+    ((M, Kind::S, ONE), b"\xff\xfe", 0, Want::Short(-2), 2),
+    ((L, Kind::S, ONE), b"\0\x80", 0, Want::Short(-32768), 2),
+    ((L, Kind::S, ONE), b"-\xff\x7f", 1, Want::Short(32767), 3),
+    ((L, Kind::I, ONE), b"\x05\0\0\0", 0, Want::Long(5), 4),
+    ((L, Kind::I, ONE), b"\xff\xff\xff\xff", 0, Want::Long(-1), 4),
+    (
+        (M, Kind::I, ONE),
+        b"\x80\0\0\0",
+        0,
+        Want::Long(-2_147_483_648),
+        4,
+    ),
+    ((L, Kind::D, ONE), DATE, 0, Want::Date(DATE), 20),
+    ((L, Kind::X, ONE), b"ab", 1, Want::Null, 1),
+    ((L, Kind::X, ONE), b"ab", 2, Want::Null, 2),
+];
+
 #[test]
 fn reads_numbers(rt: HostRuntime) {
-    let cases: [((Order, Kind, Count), &[u8], usize, Want, usize); 14] = [
-        (
-            (L, Kind::F, ONE),
-            b"\x01\0\0\x80",
-            0,
-            Want::Word4(0x8000_0001),
-            4,
-        ),
-        (
-            (M, Kind::F, ONE),
-            b"\x01\0\0\x80",
-            0,
-            Want::Word4(0x0100_0080),
-            4,
-        ),
-        (
-            (L, Kind::R, ONE),
-            b"\x01\x02\x03\x04\x05\x06\x07\xf8",
-            0,
-            Want::Word8(0xf807_0605_0403_0201),
-            8,
-        ),
-        (
-            (M, Kind::R, ONE),
-            b"-\x01\x02\x03\x04\x05\x06\x07\xf8",
-            1,
-            Want::Word8(0x0102_0304_0506_07f8),
-            9,
-        ),
-        (
-            (L, Kind::S, ONE),
-            b"\xfe\xff\x01\x01",
-            0,
-            Want::Short(-2),
-            2,
-        ),
-        ((M, Kind::S, ONE), b"\xff\xfe", 0, Want::Short(-2), 2),
-        ((L, Kind::S, ONE), b"\0\x80", 0, Want::Short(-32768), 2),
-        ((L, Kind::S, ONE), b"-\xff\x7f", 1, Want::Short(32767), 3),
-        ((L, Kind::I, ONE), b"\x05\0\0\0", 0, Want::Long(5), 4),
-        ((L, Kind::I, ONE), b"\xff\xff\xff\xff", 0, Want::Long(-1), 4),
-        (
-            (M, Kind::I, ONE),
-            b"\x80\0\0\0",
-            0,
-            Want::Long(-2_147_483_648),
-            4,
-        ),
-        ((L, Kind::D, ONE), DATE, 0, Want::Date(DATE), 20),
-        ((L, Kind::X, ONE), b"ab", 1, Want::Null, 1),
-        ((L, Kind::X, ONE), b"ab", 2, Want::Null, 2),
-    ];
-    for (i, (field, bytes, at, want, past)) in cases.iter().enumerate() {
+    for (i, (field, bytes, at, want, past)) in NUMBERS.iter().enumerate() {
         assert!(rt; reads(*field, bytes, *at, *want, *past), "case {i}");
     }
 }
@@ -203,103 +201,104 @@ fn reads_triplets(rt: HostRuntime) {
     }
 }
 
+/// The same of coordinates.
+const COORDINATES: [(Field, &[u8], usize, Want, usize); 13] = [
+    (
+        (L, Kind::C, ONE),
+        b"\x01\0\0\0\x02\0\0\x80",
+        0,
+        Want::Words(FOUR, 2, &[1, 0x8000_0002]),
+        8,
+    ),
+    (
+        (M, Kind::C, Count::Fixed(2)),
+        b"\0\0\0\x01\0\0\0\x02\0\0\0\x03\0\0\0\x04",
+        0,
+        Want::Words(FOUR, 2, &[1, 2, 3, 4]),
+        16,
+    ),
+    (
+        (L, Kind::B, ONE),
+        b"\x01\0\0\0\0\0\0\0\x02\0\0\0\0\0\0\x80",
+        0,
+        Want::Words(EIGHT, 2, &[1, 0x8000_0000_0000_0002]),
+        16,
+    ),
+    (
+        (M, Kind::B, ONE),
+        b"\0\0\0\0\0\0\0\x01\x80\0\0\0\0\0\0\x02",
+        0,
+        Want::Words(EIGHT, 2, &[1, 0x8000_0000_0000_0002]),
+        16,
+    ),
+    (
+        (L, Kind::Z, ONE),
+        b"-\x01\0\0\0\x02\0\0\0\x03\0\0\0-",
+        1,
+        Want::Words(FOUR, 3, &[1, 2, 3]),
+        13,
+    ),
+    (
+        (M, Kind::Y, ONE),
+        b"\0\0\0\0\0\0\0\x01\0\0\0\0\0\0\0\x02\0\0\0\0\0\0\0\x03",
+        0,
+        Want::Words(EIGHT, 3, &[1, 2, 3]),
+        24,
+    ),
+    (
+        (L, Kind::C, STAR),
+        b"\x01\0\0\0\x01\0\0\0\x02\0\0\0",
+        0,
+        Want::Words(FOUR, 2, &[1, 2]),
+        12,
+    ),
+    (
+        (M, Kind::B, STAR),
+        b"\0\0\0\x01\0\0\0\0\0\0\0\x05\0\0\0\0\0\0\0\x06",
+        0,
+        Want::Words(EIGHT, 2, &[5, 6]),
+        20,
+    ),
+    (
+        (M, Kind::Z, STAR),
+        b"\0\0\0\x01\0\0\0\x01\0\0\0\x02\0\0\0\x03",
+        0,
+        Want::Words(FOUR, 3, &[1, 2, 3]),
+        16,
+    ),
+    (
+        (L, Kind::Y, STAR),
+        b"\x01\0\0\0\x01\0\0\0\0\0\0\0\x02\0\0\0\0\0\0\0\x03\0\0\0\0\0\0\0",
+        0,
+        Want::Words(EIGHT, 3, &[1, 2, 3]),
+        28,
+    ),
+    (
+        (L, Kind::C, STAR),
+        b"\0\0\0\0\x07",
+        0,
+        Want::Words(FOUR, 2, &[]),
+        4,
+    ),
+    (
+        (M, Kind::Y, STAR),
+        b"\0\0\0\0",
+        0,
+        Want::Words(EIGHT, 3, &[]),
+        4,
+    ),
+    (
+        (L, Kind::Z, Count::Fixed(0)),
+        b"",
+        0,
+        Want::Words(FOUR, 3, &[]),
+        0,
+    ),
+];
+
 #[test]
 fn reads_coordinates(rt: HostRuntime) {
-    let (four, eight) = (WordWidth::Four, WordWidth::Eight);
-    let cases: [((Order, Kind, Count), &[u8], usize, Want, usize); 13] = [
-        (
-            (L, Kind::C, ONE),
-            b"\x01\0\0\0\x02\0\0\x80",
-            0,
-            Want::Words(four, 2, &[1, 0x8000_0002]),
-            8,
-        ),
-        (
-            (M, Kind::C, Count::Fixed(2)),
-            b"\0\0\0\x01\0\0\0\x02\0\0\0\x03\0\0\0\x04",
-            0,
-            Want::Words(four, 2, &[1, 2, 3, 4]),
-            16,
-        ),
-        (
-            (L, Kind::B, ONE),
-            b"\x01\0\0\0\0\0\0\0\x02\0\0\0\0\0\0\x80",
-            0,
-            Want::Words(eight, 2, &[1, 0x8000_0000_0000_0002]),
-            16,
-        ),
-        (
-            (M, Kind::B, ONE),
-            b"\0\0\0\0\0\0\0\x01\x80\0\0\0\0\0\0\x02",
-            0,
-            Want::Words(eight, 2, &[1, 0x8000_0000_0000_0002]),
-            16,
-        ),
-        (
-            (L, Kind::Z, ONE),
-            b"-\x01\0\0\0\x02\0\0\0\x03\0\0\0-",
-            1,
-            Want::Words(four, 3, &[1, 2, 3]),
-            13,
-        ),
-        (
-            (M, Kind::Y, ONE),
-            b"\0\0\0\0\0\0\0\x01\0\0\0\0\0\0\0\x02\0\0\0\0\0\0\0\x03",
-            0,
-            Want::Words(eight, 3, &[1, 2, 3]),
-            24,
-        ),
-        (
-            (L, Kind::C, STAR),
-            b"\x01\0\0\0\x01\0\0\0\x02\0\0\0",
-            0,
-            Want::Words(four, 2, &[1, 2]),
-            12,
-        ),
-        (
-            (M, Kind::B, STAR),
-            b"\0\0\0\x01\0\0\0\0\0\0\0\x05\0\0\0\0\0\0\0\x06",
-            0,
-            Want::Words(eight, 2, &[5, 6]),
-            20,
-        ),
-        (
-            (M, Kind::Z, STAR),
-            b"\0\0\0\x01\0\0\0\x01\0\0\0\x02\0\0\0\x03",
-            0,
-            Want::Words(four, 3, &[1, 2, 3]),
-            16,
-        ),
-        (
-            (L, Kind::Y, STAR),
-            b"\x01\0\0\0\x01\0\0\0\0\0\0\0\x02\0\0\0\0\0\0\0\x03\0\0\0\0\0\0\0",
-            0,
-            Want::Words(eight, 3, &[1, 2, 3]),
-            28,
-        ),
-        (
-            (L, Kind::C, STAR),
-            b"\0\0\0\0\x07",
-            0,
-            Want::Words(four, 2, &[]),
-            4,
-        ),
-        (
-            (M, Kind::Y, STAR),
-            b"\0\0\0\0",
-            0,
-            Want::Words(eight, 3, &[]),
-            4,
-        ),
-        (
-            (L, Kind::Z, Count::Fixed(0)),
-            b"",
-            0,
-            Want::Words(four, 3, &[]),
-            0,
-        ),
-    ];
-    for (i, (field, bytes, at, want, past)) in cases.iter().enumerate() {
+    for (i, (field, bytes, at, want, past)) in COORDINATES.iter().enumerate() {
         assert!(rt; reads(*field, bytes, *at, *want, *past), "case {i}");
     }
 }
@@ -307,7 +306,7 @@ fn reads_coordinates(rt: HostRuntime) {
 /// Each cell is read whole, and is cut at each shorter length, also where it begins behind other bytes.
 #[test]
 fn refuses_cut_cells(rt: HostRuntime) {
-    let cells: [((Order, Kind, Count), &[u8]); 17] = [
+    let cells: [(Field, &[u8]); 17] = [
         ((L, Kind::T, Count::Fixed(3)), b"abc"),
         ((L, Kind::N, STAR), b"\x03\0\0\0abc"),
         ((L, Kind::F, ONE), b"abcd"),

@@ -40,7 +40,7 @@ pub(super) fn coords_of(order: Order, kind: Kind, count: u32, bytes: &[u8]) -> C
     }
 }
 
-pub(super) fn id_of(id: Option<u32>, tile: Option<u32>, ext: Option<u32>) -> Cell<'static> {
+fn id_of(id: Option<u32>, tile: Option<u32>, ext: Option<u32>) -> Cell<'static> {
     Cell::Triplet(Triplet { id, tile, ext })
 }
 
@@ -88,34 +88,45 @@ fn compares_values(rt: HostRuntime) {
     assert!(rt; !same(&turned, &coords_of(M, Kind::C, 1, b"\0\0\0\x01\0\0\0\x03")));
 }
 
+/// Fields, cells of texts, numbers, dates and nothing, and whether they fit.
+const FITTING: [(Kind, Count, Cell<'static>, bool); 22] = [
+    (Kind::T, Count::Fixed(2), Cell::Text(b"ab"), true),
+    (Kind::L, Count::Fixed(3), Cell::Text(b"ab"), false),
+    (Kind::M, STAR, Cell::Text(b""), true),
+    (Kind::N, Count::Fixed(20), Cell::Date(DATE), false),
+    (Kind::F, ONE, Cell::Word4(u32::MAX), true),
+    (Kind::F, ONE, Cell::Word8(1), false),
+    (Kind::F, Count::Fixed(2), Cell::Word4(1), false),
+    (Kind::F, STAR, Cell::Word4(1), false),
+    (Kind::R, ONE, Cell::Word8(u64::MAX), true),
+    (Kind::S, ONE, Cell::Short(-1), true),
+    (Kind::S, ONE, Cell::Long(5), true),
+    (Kind::S, ONE, Cell::Long(32767), true),
+    (Kind::S, ONE, Cell::Long(32768), false),
+    (Kind::S, ONE, Cell::Long(-32768), true),
+    (Kind::S, ONE, Cell::Long(-32769), false),
+    (Kind::I, ONE, Cell::Short(-1), true),
+    (Kind::I, ONE, Cell::Long(i32::MIN), true),
+    (Kind::I, ONE, Cell::Null, false),
+    (Kind::D, ONE, Cell::Date(DATE), true),
+    (Kind::D, ONE, Cell::Date(b"2026"), false),
+    (Kind::X, ONE, Cell::Null, true),
+    (Kind::X, STAR, Cell::Null, false),
+];
+
 #[test]
 fn knows_what_fits(rt: HostRuntime) {
+    for (i, (kind, count, cell, want)) in FITTING.iter().enumerate() {
+        assert_eq!(rt; fits(*kind, *count, cell), *want, "case {i}");
+    }
+}
+
+#[test]
+fn knows_which_ids_and_coordinates_fit(rt: HostRuntime) {
     let pairs = coords_of(L, Kind::C, 3, SIX_WORDS);
     let triples = coords_of(L, Kind::Z, 2, SIX_WORDS);
     let pair = coords_of(L, Kind::C, 1, SIX_WORDS);
-    let cases: [(Kind, Count, Cell, bool); 34] = [
-        (Kind::T, Count::Fixed(2), Cell::Text(b"ab"), true),
-        (Kind::L, Count::Fixed(3), Cell::Text(b"ab"), false),
-        (Kind::M, STAR, Cell::Text(b""), true),
-        (Kind::N, Count::Fixed(20), Cell::Date(DATE), false),
-        (Kind::F, ONE, Cell::Word4(u32::MAX), true),
-        (Kind::F, ONE, Cell::Word8(1), false),
-        (Kind::F, Count::Fixed(2), Cell::Word4(1), false),
-        (Kind::F, STAR, Cell::Word4(1), false),
-        (Kind::R, ONE, Cell::Word8(u64::MAX), true),
-        (Kind::S, ONE, Cell::Short(-1), true),
-        (Kind::S, ONE, Cell::Long(5), true),
-        (Kind::S, ONE, Cell::Long(32767), true),
-        (Kind::S, ONE, Cell::Long(32768), false),
-        (Kind::S, ONE, Cell::Long(-32768), true),
-        (Kind::S, ONE, Cell::Long(-32769), false),
-        (Kind::I, ONE, Cell::Short(-1), true),
-        (Kind::I, ONE, Cell::Long(i32::MIN), true),
-        (Kind::I, ONE, Cell::Null, false),
-        (Kind::D, ONE, Cell::Date(DATE), true),
-        (Kind::D, ONE, Cell::Date(b"2026"), false),
-        (Kind::X, ONE, Cell::Null, true),
-        (Kind::X, STAR, Cell::Null, false),
+    let cases: [(Kind, Count, Cell, bool); 12] = [
         (Kind::K, ONE, id_of(None, None, None), true),
         (Kind::K, ONE, id_of(Some(LARGEST_PART), None, Some(1)), true),
         (

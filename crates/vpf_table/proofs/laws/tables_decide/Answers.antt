@@ -1,4 +1,4 @@
-use Rattle.vpf_table.proofs.SpanLaws.{opening_decided}
+use Rattle.vpf_table.proofs.Decided.{opening_decided}
 use Rattle.vpf_table.proofs.laws.tables_decide.Goals as goal
 
 pub returns : goal.returns

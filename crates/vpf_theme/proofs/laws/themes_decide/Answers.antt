@@ -1,4 +1,4 @@
-use Rattle.vpf_theme.proofs.SpellingLemmas.{theme_decided}
+use Rattle.vpf_theme.proofs.Decided.{theme_decided}
 use Rattle.vpf_theme.proofs.laws.themes_decide.Goals as goal
 
 pub returns : goal.returns
