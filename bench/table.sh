@@ -16,6 +16,8 @@ for kind in fixed varying; do
   ratio "table to sha256sum" "$table" "$seconds"
   measure "od -An -v -tx4" od -An -v -tx4 $kind.tab
   ratio "show to od" "$show" "$seconds"
+  measure "plain reader in Python" python3 "$here/plain_reader.py" $kind.tab
+  ratio "rows a second, table to a plain reader" "$seconds" "$table"
   ratio "million rows a second, table" "$rows" "$(python3 -c "print($table * 1e6)")"
   ratio "million rows a second, show" "$rows" "$(python3 -c "print($show * 1e6)")"
 done

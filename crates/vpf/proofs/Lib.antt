@@ -1,5 +1,4 @@
 pub mod Telling
-pub mod RowsAnswers
-pub mod IndexedAnswers
 pub mod Answering
 pub mod ServedAnswers
+pub mod Grammared

@@ -2,7 +2,7 @@
 use Rattle.std.specs.Prelude.{◌≡◌, Option}
 use Rattle.vpf_source.specs.Files.{Files}
 use Rattle.vpf.specs.declared.command.Command.{Command}
-use Rattle.vpf_answers.specs.Answer.{Answer}
+use Rattle.vpf_replies.specs.Answer.{Answer}
 use Rattle.vpf.specs.Commands.{IsAnswerTo, IsAnswer}
 
 -- each command has an answer over the files of a tree

@@ -6,7 +6,7 @@ use Rattle.vpf_source.specs.Making.{with_all, StoppedAtOne, StoppedBetween}
 use Rattle.vpf_source.specs.Writing.{AppendsPrefix}
 use Rattle.vpf.specs.declared.status.Status.{Status}
 use Rattle.vpf.specs.declared.status.Status.TheVariants as statuses
-use Rattle.vpf_answers.specs.Answer.{Answer}
+use Rattle.vpf_replies.specs.Answer.{Answer}
 use Rattle.vpf.specs.Statuses.{status_of}
 
 -- what a tree and a sink hold, as far as they tell it

@@ -1,7 +1,7 @@
 -- How a run ends.
 use Rattle.std.specs.Prelude.{ℕ}
-use Rattle.vpf_answers.specs.declared.verdict.Verdict.{Verdict}
-use Rattle.vpf_answers.specs.declared.verdict.Verdict.TheVariants as verdicts
+use Rattle.vpf_replies.specs.declared.verdict.Verdict.{Verdict}
+use Rattle.vpf_replies.specs.declared.verdict.Verdict.TheVariants as verdicts
 use Rattle.vpf.specs.declared.status.Status.{Status}
 use Rattle.vpf.specs.declared.status.Status.TheVariants as statuses
 

@@ -1,22 +1,33 @@
 //! Laws of answers.
 
 ghost use Rattle.vpf.specs.Deciding.{HasAnswer, OneAnswer};
+ghost use Rattle.vpf.specs.Grammar.{FaultsAreSaid, TablesAreSaid};
 ghost use Rattle.vpf.specs.Indexed.{PlainAnswers};
 
-use vpf_answers::laws::index_answers_as_the_scan;
-use vpf_edges::laws::one_boundary_listing;
+use vpf_table::laws::{refusals_are_first_faults, spelled_is_opened};
+use vpf_table_commands::laws::{one_cycles_answer, plain_rows};
 
 /// Words over files have exactly one answer.
 pub fn one_answer()
     ensures some { HasAnswer }
     ensures one { OneAnswer }
 {
-    one_boundary_listing();
+    one_cycles_answer();
 }
 
 /// Where the thematic index of a column agrees with it, the answer of `rows` is that by a plain scan.
 pub fn plain_answers()
     ensures { PlainAnswers }
 {
-    index_answers_as_the_scan();
+    plain_rows();
+}
+
+/// Over a file that is spelled as a table the answer is what the command says of that table, and over one that has a first
+/// fault it is that fault.
+pub fn answers_follow_the_grammar()
+    ensures tables { TablesAreSaid }
+    ensures faults { FaultsAreSaid }
+{
+    spelled_is_opened();
+    refusals_are_first_faults();
 }

@@ -1,11 +1,11 @@
 //! Shows, checks, lists and writes tables of Vector Product Format libraries (MIL-STD-2407), and selects their rows.
 #![tactic(auto)]
 
+#[cfg(test)]
+mod changes_of_rows;
 mod command;
 mod laws;
-mod loading;
 mod running;
-mod selecting;
 mod status;
 #[cfg(test)]
 mod testing;

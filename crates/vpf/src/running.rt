@@ -1,61 +1,50 @@
 //! The whole program, over any tree and any sink.
 
-ghost use Rattle.std.specs.Prelude.{◌≡◌, ◌≢◌, ◌≤◌, [], IfOk, IfSome, IsErrOf, None, Some, is_some, map, string_bytes};
+ghost use Rattle.std.specs.Prelude.{◌≡◌, ◌≢◌, ◌≤◌, ℕ, List, [], IfOk, IfSome, IsErrOf, None, Some, is_some, map, string_bytes};
 ghost use Rattle.std.specs.Io.KnownBytes.{Keeps};
-ghost use Rattle.vpf_source.specs.Causes.{Rose};
-ghost use Rattle.vpf_source.specs.Writing.{TellsAsBefore};
-ghost use Rattle.vpf_answers.specs.Answer.{Answer};
-ghost use Rattle.vpf.specs.Commands.{command_of, AnswersOver, IsAnswerTo, IsAnswer};
+ghost use Rattle.vpf_source.specs.Causes.{Rose, Stood};
 ghost use Rattle.vpf_source.specs.Files.{Files};
-ghost use Rattle.vpf_answers.specs.declared.requests.IndexRequest.{IndexRequest};
-ghost use Rattle.vpf_answers.specs.declared.requests.RowsRequest.{RowsRequest};
+ghost use Rattle.vpf_source.specs.Writing.{TellsAsBefore};
+ghost use Rattle.vpf_triplet.specs.declared.places.Place.{Place};
+ghost use Rattle.vpf_table.specs.Faults.{FirstFault};
+ghost use Rattle.vpf_table.specs.Grid.{Grid};
+ghost use Rattle.vpf_table.specs.Spelling.{IsTable};
+ghost use Rattle.vpf_replies.specs.Answer.{Answer};
+ghost use Rattle.vpf_replies.specs.Tables.{fault_answer};
+ghost use Rattle.vpf_replies.specs.Halting.{ComesTo, TellsFault};
+ghost use Rattle.vpf_table_commands.specs.declared.indexing.IndexRequest.{IndexRequest};
+ghost use Rattle.vpf_table_commands.specs.declared.selecting.RowsRequest.{RowsRequest};
+ghost use Rattle.vpf_table_commands.specs.Rows.{IndexAgrees};
+ghost use Rattle.vpf.specs.declared.command.Command.{Command};
 ghost use Rattle.vpf.specs.declared.command.Command.TheVariants.{Index, Rows};
-ghost use Rattle.vpf.specs.Indexed.{AsksForIndexed, IndexAgrees, IsPlainAnswer};
+ghost use Rattle.vpf.specs.Commands.{command_of, IsAnswerTo, IsAnswer};
+ghost use Rattle.vpf.specs.Grammar.{HasFile, IsOver, SaysOfTable};
+ghost use Rattle.vpf.specs.Indexed.{AsksForIndexed, IsPlainAnswer};
 ghost use Rattle.vpf.specs.Run.{Carries, IsCompleted, Prints};
 
 use crate::command::{Command, read_command};
-use crate::laws::{one_answer, plain_answers};
-use crate::loading::{Loaded, load_file};
-use crate::selecting::rows;
-use crate::status::{Status, Stop};
+use crate::laws::{answers_follow_the_grammar, one_answer, plain_answers};
+use crate::status::Status;
 use std::alloc::Global;
-use vpf_answers::laws::made_indexes_serve;
-use vpf_answers::{Reply, check, cycles, index, show, swap, usage};
+use vpf_replies::{Halt, Reply, Stop, settle, usage};
 use vpf_source::{DeviceError, Sink, Tree, make_all, put_all};
 use vpf_table::laws::opened_is_read;
+use vpf_table_commands::laws::{indexes_are_elsewhere, made_indexes_serve};
+use vpf_table_commands::{cycles, index, rows, show, swap, table};
 
-/// The reply of a command over the bytes of its file, with the other files of the tree.
-fn reply_over<T: Tree>(
-    alloc: Global,
-    command: &Command,
-    bytes: Vec<u8>,
-    tree: &mut T,
-) -> Result<Reply, Stop>
-    ensures told { IfSome (T.files tree.old) (λ files. IfOk result (AnswersOver command.now files bytes.items)) }
-    ensures fault { IsErrOf result Stop.TreeFault → Rose (T.faults tree.old) (T.faults tree.new) }
-    ensures later { T.faults tree.old ≤ T.faults tree.new }
+/// The reply of a command over a tree.
+fn obey<T: Tree>(alloc: Global, command: &Command, tree: &mut T) -> Result<Reply, Halt>
+    ensures told { (files : Files) → T.files tree.old ≡ Some files → ComesTo (IsAnswerTo command.now files) result }
+    ensures fault { TellsFault result (Halt.Stop Stop.TreeFault) (T.faults tree.old) (T.faults tree.new) }
     ensures files { T.files tree.new ≡ T.files tree.old }
 {
     match command {
-        Command::Show(name) => Ok(show(alloc, name.as_str(), &bytes)?),
-        Command::Table(name) => Ok(check(alloc, name.as_str(), &bytes)?),
-        Command::Cycles(name) => Ok(cycles(alloc, name.as_str(), &bytes)?),
-        Command::Swap(name, out) => Ok(swap(alloc, name.as_str(), out.as_str(), bytes)?),
-        Command::Index(request) => Ok(index(alloc, request, &bytes)?),
-        Command::Rows(request) => rows(alloc, request, &bytes, tree),
-    }
-}
-
-/// The reply of a command over a tree.
-fn obey<T: Tree>(alloc: Global, command: &Command, tree: &mut T) -> Result<Reply, Stop>
-    ensures told { IfSome (T.files tree.old) (λ files. IfOk result (IsAnswerTo command.now files)) }
-    ensures fault { IsErrOf result Stop.TreeFault → Rose (T.faults tree.old) (T.faults tree.new) }
-    ensures later { T.faults tree.old ≤ T.faults tree.new }
-    ensures files { T.files tree.new ≡ T.files tree.old }
-{
-    match load_file(alloc, tree, command.file())? {
-        Loaded::Bytes(bytes) => reply_over(alloc, command, bytes, tree),
-        Loaded::Answered(reply) => Ok(reply),
+        Command::Show(request) => show(alloc, request, tree),
+        Command::Table(request) => table(alloc, request, tree),
+        Command::Cycles(request) => cycles(alloc, request, tree),
+        Command::Swap(request) => swap(alloc, request, tree),
+        Command::Index(request) => index(alloc, request, tree),
+        Command::Rows(request) => rows(alloc, request, tree),
     }
 }
 
@@ -63,13 +52,12 @@ fn obey<T: Tree>(alloc: Global, command: &Command, tree: &mut T) -> Result<Reply
 fn reply_to<T: Tree>(alloc: Global, words: &[String], tree: &mut T) -> Result<Reply, Stop>
     ensures told { (answer : Answer) → IsAnswer (command_of (map string_bytes words.now)) (T.files tree.old) answer
         → IfOk result (IsAnswer (command_of (map string_bytes words.now)) (T.files tree.old)) }
-    ensures fault { IsErrOf result Stop.TreeFault → Rose (T.faults tree.old) (T.faults tree.new) }
+    ensures fault { TellsFault result Stop.TreeFault (T.faults tree.old) (T.faults tree.new) }
     ensures usage { command_of (map string_bytes words.now) ≡ None → ¬ IsErrOf result Stop.TreeFault }
-    ensures later { T.faults tree.old ≤ T.faults tree.new }
     ensures files { T.files tree.new ≡ T.files tree.old }
 {
     match read_command(alloc, words)? {
-        Some(command) => obey(alloc, &command, tree),
+        Some(command) => settle(obey(alloc, &command, tree)),
         None => Ok(usage(alloc)?),
     }
 }
@@ -78,6 +66,7 @@ fn reply_to<T: Tree>(alloc: Global, words: &[String], tree: &mut T) -> Result<Re
 fn print_reply<O: Sink>(out: &mut O, reply: &Reply) -> Status
     ensures prints { Prints reply.now result (O.written out.old) (O.written out.new) }
     ensures sink_fault { result ≡ Status.SinkFault → Rose (O.faults out.old) (O.faults out.new) }
+    ensures sink_stood { result ≢ Status.SinkFault → Stood (O.faults out.old) (O.faults out.new) }
     ensures no_tree_fault { result ≢ Status.TreeFault }
     ensures tells { TellsAsBefore (O.written out.old) (O.written out.new) }
     ensures later { O.faults out.old ≤ O.faults out.new }
@@ -91,9 +80,12 @@ fn print_reply<O: Sink>(out: &mut O, reply: &Reply) -> Status
 
 /// Makes the files of a reply, and prints it.
 fn carry_out<T: Tree, O: Sink>(tree: &mut T, out: &mut O, reply: &Reply) -> Status
-    ensures carries { Carries reply.now result (record { files = T.files tree.old; written = O.written out.old }) (record { files = T.files tree.new; written = O.written out.new }) }
+    ensures carries { Carries reply.now result (record { files = T.files tree.old; written = O.written out.old })
+        (record { files = T.files tree.new; written = O.written out.new }) }
     ensures tree_fault { result ≡ Status.TreeFault → Rose (T.faults tree.old) (T.faults tree.new) }
+    ensures tree_stood { result ≢ Status.TreeFault → Stood (T.faults tree.old) (T.faults tree.new) }
     ensures sink_fault { result ≡ Status.SinkFault → Rose (O.faults out.old) (O.faults out.new) }
+    ensures sink_stood { result ≢ Status.SinkFault → Stood (O.faults out.old) (O.faults out.new) }
     ensures makes_none { reply.now.made ≡ [] → result ≢ Status.TreeFault }
     ensures silent { result ≡ Status.TreeFault → Keeps (O.written out.old) (O.written out.new) }
     ensures tells { TellsAsBefore (O.written out.old) (O.written out.new) }
@@ -111,9 +103,12 @@ fn carry_out<T: Tree, O: Sink>(tree: &mut T, out: &mut O, reply: &Reply) -> Stat
 /// Does what the words ask, as `run` does.
 fn do_words<T: Tree, O: Sink>(alloc: Global, words: &[String], tree: &mut T, out: &mut O) -> Status
     ensures answer { (answer : Answer) → IsAnswer (command_of (map string_bytes words.now)) (T.files tree.old) answer
-        → Carries answer result (record { files = T.files tree.old; written = O.written out.old }) (record { files = T.files tree.new; written = O.written out.new }) }
+        → Carries answer result (record { files = T.files tree.old; written = O.written out.old })
+        (record { files = T.files tree.new; written = O.written out.new }) }
     ensures tree_fault { result ≡ Status.TreeFault → Rose (T.faults tree.old) (T.faults tree.new) }
+    ensures tree_stood { result ≢ Status.TreeFault → Stood (T.faults tree.old) (T.faults tree.new) }
     ensures sink_fault { result ≡ Status.SinkFault → Rose (O.faults out.old) (O.faults out.new) }
+    ensures sink_stood { result ≢ Status.SinkFault → Stood (O.faults out.old) (O.faults out.new) }
     ensures completed { (answer : Answer) → IsAnswer (command_of (map string_bytes words.now)) (T.files tree.old) answer
         → ¬ Rose (T.faults tree.old) (T.faults tree.new) → ¬ Rose (O.faults out.old) (O.faults out.new) → IsCompleted answer result }
     ensures usage { command_of (map string_bytes words.now) ≡ None → result ≢ Status.TreeFault }
@@ -137,19 +132,37 @@ fn do_words<T: Tree, O: Sink>(alloc: Global, words: &[String], tree: &mut T, out
 pub fn run<T: Tree, O: Sink>(alloc: Global, words: &[String], tree: &mut T, out: &mut O) -> Status
     // Where the tree tells its files, status, files and text are those of the answer, as far as no fault ended the run.
     ensures answer { (answer : Answer) → IsAnswer (command_of (map string_bytes words.now)) (T.files tree.old) answer
-        → Carries answer result (record { files = T.files tree.old; written = O.written out.old }) (record { files = T.files tree.new; written = O.written out.new }) }
+        → Carries answer result (record { files = T.files tree.old; written = O.written out.old })
+        (record { files = T.files tree.new; written = O.written out.new }) }
+
+    // Over a file that is spelled as a table the answer is what the command says of that table; over one that has a first
+    // fault it is that fault. The two decide: a file is the one or the other, and never both.
+    ensures spelled { (command : Command) (files : Files) (name bytes : List ℕ) (g : Grid) (answer : Answer)
+        → command_of (map string_bytes words.now) ≡ Some command → T.files tree.old ≡ Some files → HasFile files name bytes
+        → IsTable g bytes → SaysOfTable files bytes g command name answer
+        → Carries answer result (record { files = T.files tree.old; written = O.written out.old })
+        (record { files = T.files tree.new; written = O.written out.new }) }
+    ensures faulty { (command : Command) (files : Files) (name bytes : List ℕ) (place : Place) → command_of (map string_bytes words.now) ≡ Some command
+        → T.files tree.old ≡ Some files → HasFile files name bytes → FirstFault bytes None place → IsOver command name
+        → Carries (fault_answer name place) result (record { files = T.files tree.old; written = O.written out.old })
+        (record { files = T.files tree.new; written = O.written out.new }) }
 
     // Where the thematic index of the column agrees with it, `rows` does what a plain scan of the column does.
-    ensures indexed { (files : Files) (request : RowsRequest) (answer : Answer) → command_of (map string_bytes words.now) ≡ Some (Rows request) → T.files tree.old ≡ Some files → IndexAgrees files request → IsPlainAnswer files request answer
-        → Carries answer result (record { files = T.files tree.old; written = O.written out.old }) (record { files = T.files tree.new; written = O.written out.new }) }
+    ensures indexed { (files : Files) (request : RowsRequest) (answer : Answer) → command_of (map string_bytes words.now) ≡ Some (Rows request)
+        → T.files tree.old ≡ Some files → IndexAgrees files request → IsPlainAnswer files request answer
+        → Carries answer result (record { files = T.files tree.old; written = O.written out.old })
+        (record { files = T.files tree.new; written = O.written out.new }) }
 
     // Where the run has made an index of a column, that index agrees with it: `rows` then does what a plain scan does.
-    ensures built { (files : Files) (request : IndexRequest) (asked : RowsRequest) → command_of (map string_bytes words.now) ≡ Some (Index request) → T.files tree.old ≡ Some files → AsksForIndexed files request asked → result ≡ Status.Done
+    ensures built { (files : Files) (request : IndexRequest) (asked : RowsRequest) → command_of (map string_bytes words.now) ≡ Some (Index request)
+        → T.files tree.old ≡ Some files → AsksForIndexed files request asked → result ≡ Status.Done
         → IfSome (T.files tree.new) (λ after. IndexAgrees after asked) }
 
-    // A fault is answered only where its count rose in this call; where neither rose, the run is completed.
+    // A fault is answered exactly where its count rose in this call; where neither rose, the run is completed.
     ensures tree_fault { result ≡ Status.TreeFault → Rose (T.faults tree.old) (T.faults tree.new) }
+    ensures tree_stood { result ≢ Status.TreeFault → Stood (T.faults tree.old) (T.faults tree.new) }
     ensures sink_fault { result ≡ Status.SinkFault → Rose (O.faults out.old) (O.faults out.new) }
+    ensures sink_stood { result ≢ Status.SinkFault → Stood (O.faults out.old) (O.faults out.new) }
     ensures completed { (answer : Answer) → IsAnswer (command_of (map string_bytes words.now)) (T.files tree.old) answer
         → ¬ Rose (T.faults tree.old) (T.faults tree.new) → ¬ Rose (O.faults out.old) (O.faults out.new) → IsCompleted answer result }
 
@@ -161,9 +174,11 @@ pub fn run<T: Tree, O: Sink>(alloc: Global, words: &[String], tree: &mut T, out:
     ensures tree_later { T.faults tree.old ≤ T.faults tree.new }
     ensures sink_later { O.faults out.old ≤ O.faults out.new }
 {
+    answers_follow_the_grammar();
     plain_answers();
     one_answer();
     made_indexes_serve();
+    indexes_are_elsewhere();
     opened_is_read();
     do_words(alloc, words, tree, out)
 }

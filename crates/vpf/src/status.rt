@@ -1,27 +1,6 @@
 //! How a run ends.
 
-ghost use Rattle.std.specs.Prelude.{◌≡◌};
-ghost use Rattle.vpf.specs.declared.status.Stop.TheVariants as stops;
-
-use std::alloc::AllocError;
-use vpf_answers::Verdict;
-
-/// What stops a run before its answer is known.
-#[derive(Clone, Copy, Debug, PartialEq, Eq)]
-pub enum Stop {
-    /// A call on the tree failed.
-    TreeFault,
-    /// Memory ran out.
-    NoMemory,
-}
-
-impl From<AllocError> for Stop {
-    ghost from_gives = { λ _ stop. stop ≡ stops.NoMemory };
-
-    fn from(_: AllocError) -> Self {
-        Stop::NoMemory
-    }
-}
+use vpf_replies::Verdict;
 
 /// How a run ends.
 #[derive(Clone, Copy, Debug, PartialEq, Eq)]

@@ -160,6 +160,33 @@ fn lists_cycles(rt: HostRuntime) -> Result<(), Fail> {
     Ok(())
 }
 
+/// So many copies of the three edges, each with nodes and faces of its own.
+fn copies(alloc: Global, count: i32) -> Result<Vec<[i32; 7]>, AllocError> {
+    let mut edges = Vec::new(alloc);
+    for k in 0..count {
+        let (twice, thrice) = (k.wrapping_mul(2), k.wrapping_mul(3));
+        let offsets = [thrice, twice, twice, thrice, thrice, thrice, thrice];
+        for mut edge in THREE {
+            for (number, offset) in edge.iter_mut().zip(offsets) {
+                *number = number.wrapping_add(offset);
+            }
+            edges.push(edge)?;
+        }
+    }
+    Ok(edges)
+}
+
+/// Some megabytes take no more room than there is.
+#[test]
+fn lists_cycles_of_some_megabytes(rt: HostRuntime) -> Result<(), Fail> {
+    let alloc = rt.alloc();
+    let table = table_of(alloc, &COLUMNS, &rows_of(alloc, &copies(alloc, 40_000)?)?)?;
+    let (status, out) = cycles_of(alloc, &table)?;
+    assert_eq!(rt; status, Status::Done);
+    assert!(rt; out.bytes().ends_with(b"cycles 120000\n"));
+    Ok(())
+}
+
 #[test]
 fn tells_the_first_finding_of_rows(rt: HostRuntime) -> Result<(), Fail> {
     let alloc = rt.alloc();

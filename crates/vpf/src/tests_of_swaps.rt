@@ -107,6 +107,16 @@ const SWAPS: [(&str, &str, &str, [Held<'static>; 2]); 10] = [
     ),
 ];
 
+/// What is filled up with zeros, to how many bytes, and what is printed: a million numbers, and a million texts with their index.
+const LONG_SWAPS: [(&[u8], usize, &str); 2] = [
+    (LITTLE, 4_000_029, "made u.tab 4000029\nfiles 1\n"),
+    (
+        NO_ROWS,
+        4_000_028,
+        "made u.tab 4000028\nmade u.tax 8000008\nfiles 2\n",
+    ),
+];
+
 /// Words that are no command.
 const NO_SWAPS: [&[&str]; 8] = [
     &["swap"],
@@ -164,6 +174,24 @@ fn writes_tables_in_the_other_order(rt: HostRuntime) -> Result<(), Fail> {
         for (name, bytes) in held {
             assert_eq!(rt; tree.file(name), bytes, "{file} {out} {name}");
         }
+    }
+    Ok(())
+}
+
+/// Some megabytes take no more room than there is.
+#[test]
+fn swaps_some_megabytes(rt: HostRuntime) -> Result<(), Fail> {
+    let alloc = rt.alloc();
+    for (front, len, text) in LONG_SWAPS {
+        let mut bytes = front.to_vec(alloc)?;
+        bytes.resize(len, 0)?;
+        let mut tree = MemTree::new(alloc, 65_536, Vec::new(alloc));
+        tree.put("t.tab", &bytes)?;
+        let mut printed = sink(alloc, 4096, 0)?;
+        let words = words_of(alloc, &["swap", "t.tab", "u.tab"])?;
+        let status = run(alloc, &words, &mut tree, &mut printed);
+        assert_eq!(rt; status, Status::Done, "{text}");
+        assert_eq!(rt; printed.bytes(), text.as_bytes());
     }
     Ok(())
 }

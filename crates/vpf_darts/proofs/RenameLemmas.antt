@@ -4,6 +4,7 @@ use Rattle.std.specs.List.{concat, AllByRecursion}
 use Rattle.std.proofs.lemmas.Bool.{cases_lt, cases_Bool}
 use Rattle.std.proofs.lemmas.Bool.Decides.{nat_tests}
 use Rattle.std.proofs.lemmas.List.{map-append}
+use Rattle.vpf_base.proofs.Booleans.{clash}
 use Rattle.vpf_darts.specs.Cycles.{count_of, IsCycle}
 use Rattle.vpf_darts.specs.Maps.{DartMap}
 use Rattle.vpf_darts.specs.Laws.{IsRenaming, RenamingKeepsCycles}
@@ -44,9 +45,6 @@ count_of-renamed m n f back r d l (x ∷ xs) all =
     let here : f x ≡ f d → x ≡ d = λ e. sym (r.back_f x all.0) ∙ ap back e ∙ r.back_f d l in
     let ih : count_of (f d) (map f xs) ≡ count_of d xs = count_of-renamed m n f back r d l xs all.1 in
     grind (arith, nat_tests)
-
-pub clash : (b : Bool) → b ≡ true → b ≡ false → ⊥
-clash b t f = cc
 
 pub live_from_count : (b : Bool) (c : ℕ) → 0 < c → c ≡ cond b 1 0 → b ≡ true
 live_from_count true c h e = refl

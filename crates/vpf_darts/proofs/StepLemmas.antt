@@ -1,9 +1,10 @@
 -- The walk to the first dart that is not passed over.
 use Rattle.std.proofs.Common.{◌≡◌, ℕ, zero, suc, ◌<◌, ◌≤◌, Bool, true, false, cond, List, ◌^◌, length, refl, sym, ap, ◌∙◌, inl, inr, arith}
 use Rattle.std.proofs.lemmas.Bool.{cases_Bool}
+use Rattle.vpf_base.proofs.Booleans.{clash}
 use Rattle.vpf_darts.specs.Maps.{DartMap, IsMap, AreEdges, turn, is_of_any, without}
 use Rattle.vpf_darts.specs.Laws.{ComesTo}
-use Rattle.vpf_darts.proofs.WithoutLemmas.{clash, passes_over, comes_from}
+use Rattle.vpf_darts.proofs.WithoutLemmas.{passes_over, comes_from}
 
 -- how many are passed over from x on, of the first n
 abbrev pub steps_to : DartMap → (ℕ → Bool) → ℕ → ℕ → ℕ

@@ -3,6 +3,7 @@ use Rattle.std.proofs.Common.{◌≡◌, ◌≢◌, ℕ, zero, suc, ◌+◌, ◌
 use Rattle.std.proofs.lemmas.Bool.{cases_Bool, or_cases}
 use Rattle.std.proofs.lemmas.Bool.Decides.{nat_tests}
 use Rattle.std.specs.List.{AllByRecursion}
+use Rattle.vpf_base.proofs.Booleans.{and_true, and_false}
 use Rattle.vpf_darts.specs.Maps.{DartMap, IsMap, turn, is_of, is_of_any, pass, without_edge, without}
 use Rattle.vpf_darts.specs.Laws.{ComesTo, FirstKeptDart, RemovalLeavesAMap, RemovalIsOfLiveEdges}
 
@@ -120,9 +121,6 @@ pub live_passed : (m : DartMap) → IsMap m → (e y z : ℕ) → m.has e ≡ tr
 live_passed m h e y z he (none f is) = ap m.live is
 live_passed m h e y z he (once t f is) = ap m.live is ∙ live_turn m h y (of_has m h e y he t)
 live_passed m h e y z he (twice t u is) = (ap m.live is ∙ live_turn m h (turn m y) (of_has m h e (turn m y) he u)) ∙ live_turn m h y (of_has m h e y he t)
-
-pub clash : (b : Bool) → b ≡ true → b ≡ false → ⊥
-clash b t f = cc
 
 pub apart_bool : true ≡ false → ⊥
 apart_bool h = cc
@@ -259,14 +257,6 @@ pub and_not : (a b c : Bool) → ((a && not b) && not c) ≡ (a && not (b || c))
 and_not true true c = refl
 and_not true false c = refl
 and_not false b c = refl
-
-pub and_false : (a : Bool) → (a && false) ≡ false
-and_false true = refl
-and_false false = refl
-
-pub and_true : (a : Bool) → (a && true) ≡ a
-and_true true = refl
-and_true false = refl
 
 pub live_without_all : (m : DartMap) (es : List ℕ) (d : ℕ) → (without m es).live d ≡ (m.live d && not (is_of_any m.flip es d))
 unfolding without_edge

@@ -12,8 +12,8 @@ pub record MapLists : Type 0 where
   pub live : List Bool
 
 -- where the dart with this number stands in a list of 1+, 1-, 2+ and so on: 1+ has the number 2
-abbrev pub place_of : ℕ → ℕ
-place_of dart = dart - 2
+abbrev pub dart_place : ℕ → ℕ
+dart_place dart = dart - 2
 
 -- whether a number is that of one of the first n darts
 abbrev pub is_among : ℕ → ℕ → Bool
@@ -30,11 +30,11 @@ dart_map m = record {
 
 -- the tail node of a dart
 abbrev pub tail_of : MapLists → ℕ → ℕ
-tail_of m dart = slice_index m.tail (place_of dart)
+tail_of m dart = slice_index m.tail (dart_place dart)
 
 -- the face of a dart: the right face of e+, the left face of e-
 abbrev pub face_of : MapLists → ℕ → ℕ
-face_of m dart = slice_index m.face (place_of dart)
+face_of m dart = slice_index m.face (dart_place dart)
 
 -- the lists have two darts an edge, fewer than 2^32 edges, and are a map
 pub record AreMapLists (m : MapLists) : Type 0 where

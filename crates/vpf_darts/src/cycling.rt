@@ -1,10 +1,10 @@
 //! The cycles of a map.
 
-ghost use Rattle.std.specs.Prelude.{◌≡◌, ℕ, ◌<◌, All, Bool, IfOk, OnOk, false, length, map, not};
+ghost use Rattle.std.specs.Prelude.{◌≡◌, ℕ, ◌+◌, ◌^◌, ◌<◌, ◌≤◌, All, Bool, IfOk, OnOk, false, length, map, not};
 ghost use Rattle.vpf_darts.specs.Cycles.{IsListing};
 ghost use Rattle.vpf_darts.specs.Darts.{tile_dart_code};
 ghost use Rattle.vpf_darts.specs.Listings.{numbers_of};
-ghost use Rattle.vpf_darts.specs.MapLists.{AreMapLists, dart_map};
+ghost use Rattle.vpf_darts.specs.MapLists.{AreMapLists, IsInRange, dart_map, is_among, next_of};
 ghost use Rattle.vpf_darts.specs.Ranks.{AddsCycle, IsClosed, IsRankedListing, IsRanking, marked};
 
 use crate::darts::{Dart, TileDart};
@@ -92,7 +92,8 @@ fn push_cycle<R: Ranked>(
     requires closed { IsClosed (R.next darts.now) (marked marks.old) }
     requires inside { start < R.count darts.now }
     requires unmarked { marked marks.old start ≡ false }
-    ensures { OnOk result (AddsCycle (R.code darts.now) (R.next darts.now) start (marked marks.old) (marked marks.new) (map tile_dart_code listed.old.items) (map tile_dart_code listed.new.items)) }
+    ensures { OnOk result (AddsCycle (R.code darts.now) (R.next darts.now) start (marked marks.old) (marked marks.new)
+        (map tile_dart_code listed.old.items) (map tile_dart_code listed.new.items)) }
 {
     let mut rank = start;
     while !marks[rank] {
@@ -151,4 +152,57 @@ pub fn cycles(alloc: Global, map: &Map) -> Result<Listing, AllocError>
 {
     let _edges = map.edges();
     list_cycles(alloc, &Numbered { map })
+}
+
+/// The darts of nexts that are a permutation, by their numbers, of which 0 and 1 are none.
+#[derive(Drop)]
+struct Permuted<'a> {
+    next: &'a [Dart],
+    ghost few: { length next.now + 2 ≤ 2 ^ 33 },
+    ghost in_range: { All (IsInRange (length next.now)) next.now },
+}
+
+impl Ranked for Permuted<'_> {
+    ghost use Rattle.std.specs.Prelude.{◌+◌, length};
+    ghost use Rattle.vpf_darts.specs.MapLists.{is_among, next_of};
+
+    ghost count = { λ s. length s.next.now + 2 };
+
+    ghost code = { λ _ d. d };
+
+    ghost next = { λ s. next_of s.next.now };
+
+    ghost live = { λ s. is_among (length s.next.now) };
+
+    fn count(&self) -> usize {
+        self.next.len() + FIRST
+    }
+
+    fn dart_at(&self, rank: usize) -> TileDart {
+        Dart::of_number(rank).into()
+    }
+
+    fn is_live_at(&self, rank: usize) -> bool {
+        rank >= FIRST
+    }
+
+    fn next_of(&self, rank: usize) -> usize {
+        if rank < FIRST {
+            rank
+        } else {
+            self.next[rank - FIRST].number()
+        }
+    }
+}
+
+/// The listing of the cycles of nexts of `1+`, `1-`, `2+` and so on that are known to be a permutation: no map is made, and no
+/// tails or faces are needed. The darts are in tile 0.
+pub fn cycles_of(alloc: Global, next: &[Dart]) -> Result<Listing, AllocError>
+    requires few { length next.now + 2 ≤ 2 ^ 33 }
+    requires in_range { All (IsInRange (length next.now)) next.now }
+    requires permutation { IsRanking (length next.now + 2) (next_of next.now) (is_among (length next.now)) }
+    ensures listing { IfOk result (λ listing. IsListing (next_of next.now) (is_among (length next.now)) (numbers_of listing)) }
+    ensures untiled { IfOk result (All (All (λ d. d.tile ≡ 0))) }
+{
+    list_cycles(alloc, &Permuted { next })
 }

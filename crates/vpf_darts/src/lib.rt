@@ -18,7 +18,7 @@ mod repeats;
 mod tests;
 mod walking;
 
-pub use cycling::{Ranked, cycles, list_cycles};
+pub use cycling::{Ranked, cycles, cycles_of, list_cycles};
 pub use darts::{Dart, TileDart, flip};
 pub use listings::Listing;
 pub use maps::{Map, MapError, NotPermutation};

@@ -70,7 +70,8 @@ impl Model for Map {
 
     ghost view = { λ m. record { next = map dart_code m.next.items; tail = m.tail.items; face = m.face.items; live = m.live.items } };
 
-    ghost invariant = { λ m. AreMapLists (record { next = map dart_code m.next.items; tail = m.tail.items; face = m.face.items; live = m.live.items }) × All (IsInRange (length m.next.items)) m.next.items };
+    ghost invariant = { λ m. AreMapLists (record { next = map dart_code m.next.items; tail = m.tail.items; face = m.face.items; live = m.live.items })
+        × All (IsInRange (length m.next.items)) m.next.items };
 }
 
 impl Map {
@@ -97,7 +98,8 @@ impl Map {
         requires lists { AreOfDarts next.items tail.items face.items }
         ensures made { IfOk result (λ m. m ≡ lists_of next.items tail.items face.items) }
         ensures permutation { OnOk result (IsMap (dart_map (lists_of next.items tail.items face.items))) }
-        ensures repeat { IfErr result (λ e. IfNotPermutation e (λ dart. IsFirstRepeat (dart_map (lists_of next.items tail.items face.items)) (dart_code dart))) }
+        ensures repeat { IfErr result (λ e. IfNotPermutation e
+            (λ dart. IsFirstRepeat (dart_map (lists_of next.items tail.items face.items)) (dart_code dart))) }
     {
         if let Some(dart) = first_repeat(alloc, &next)? {
             return Err(MapError::NotPermutation(NotPermutation { dart }));

@@ -5,6 +5,7 @@ use Rattle.std.proofs.lemmas.Bool.{le-ltb}
 use Rattle.std.proofs.lemmas.Fmt.{decimal_is_IsNumeral}
 use Rattle.std.proofs.lemmas.List.{length-append, map-append}
 use Rattle.std.proofs.lemmas.List.Elements.{All-head, All-tail}
+use Rattle.vpf_base.specs.Limits.{longest_text}
 use Rattle.vpf_triplet.specs.declared.kinds.Count.{Count}
 use Rattle.vpf_triplet.specs.declared.kinds.Count.TheVariants.{Fixed, Star}
 use Rattle.vpf_triplet.specs.declared.orders.Order.{Order}
@@ -18,7 +19,6 @@ use Rattle.vpf_head.specs.Head.{Head, Col, names, place_of}
 use Rattle.vpf_head.specs.Reading.{header_of}
 use Rattle.vpf_head.specs.Soundness.{IsInBounds, IsCounted, IsSpelled, IsSound}
 use Rattle.vpf_head.specs.Spelling.{IsCount, IsColumn, IsColumns, narrated_comma, mark_of, IsHeaderText, IsHeader}
-use Rattle.vpf_head.specs.Texts.{longest_text}
 use Rattle.vpf_head.proofs.FieldLaws.{key_takes}
 use Rattle.vpf_head.proofs.HeadLaws.{passes_nowhere}
 use Rattle.vpf_head.proofs.HeaderLaws.{header_again}

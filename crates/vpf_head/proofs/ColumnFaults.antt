@@ -3,26 +3,28 @@ use Rattle.std.proofs.Common.{◌≡◌, ℕ, zero, suc, ◌+◌, ◌<◌, Bool,
 use Rattle.std.specs.Prelude.{slice_get, is_some}
 use Rattle.std.proofs.lemmas.Bool.{eqb-true, eqb-false}
 use Rattle.std.proofs.lemmas.List.{length-append}
+use Rattle.vpf_base.proofs.Booleans.{tested}
+use Rattle.vpf_base.specs.Results.{◌>>=◌}
+use Rattle.vpf_base.proofs.Results.{no_ok, failed, err_is}
 use Rattle.vpf_triplet.specs.declared.kinds.Kind.{Kind}
 use Rattle.vpf_triplet.specs.declared.kinds.Count.{Count}
 use Rattle.vpf_triplet.specs.declared.places.Place.{Place}
 use Rattle.vpf_triplet.specs.declared.places.Code.{Code}
 use Rattle.vpf_triplet.specs.declared.places.Code.TheVariants as codes
-use Rattle.vpf_triplet.specs.Kinds.{kind_text, allows}
-use Rattle.vpf_triplet.specs.Places.{◌>>=◌, fault}
+use Rattle.vpf_triplet.specs.Kinds.{kind_text, allows, kind_of}
+use Rattle.vpf_triplet.specs.Places.{fault}
 use Rattle.vpf_head.specs.declared.columns.Key.{Key}
 use Rattle.vpf_head.specs.declared.items.Form.TheVariants.{Name, Field, Last}
 use Rattle.vpf_head.specs.Bytes.{comma, colon, equals}
-use Rattle.vpf_head.specs.Fields.{kind_of, key_of, count_in, present}
+use Rattle.vpf_head.specs.Fields.{key_of, count_in, present}
 use Rattle.vpf_head.specs.Head.{Col, place_of}
 use Rattle.vpf_head.specs.Items.{Item, text_at, name_at}
 use Rattle.vpf_head.specs.Reading.{wanted, allowed, fresh_name_at, kind_at, count_at, key_at, colon_by, closed_at, narrative_at, rest_at, column_at}
 use Rattle.vpf_head.specs.Spelling.{IsText, IsName}
 use Rattle.vpf_head.specs.Faults as faults
-use Rattle.vpf_head.specs.Faults.{Lies, Next, IsBeginning, Refuses, Says, IsNoKind, IsNoCount, IsNoKey}
-use Rattle.vpf_head.proofs.Binding.{tested}
-use Rattle.vpf_head.proofs.ColumnLaws.{Piece, piece, kind_at_takes, count_at_takes, key_at_takes, fresh_takes, comma_is, get_drop}
-use Rattle.vpf_head.proofs.FaultLaws.{bind_err, failed, err_is, At, text_faults, name_faults}
+use Rattle.vpf_head.specs.Faults.{Lies, Next, IsBeginning, Refuses, SaysNothing, IsNoKind, IsNoCount, IsNoKey}
+use Rattle.vpf_head.proofs.ColumnLaws.{Piece, piece, kind_at_takes, count_at_takes, key_at_takes, fresh_takes, comma_is, get_drop, column}
+use Rattle.vpf_head.proofs.FaultLaws.{bind_err, At, text_faults, name_faults}
 use Rattle.vpf_head.proofs.FieldLaws.{kind_again, count_again}
 use Rattle.vpf_head.proofs.ItemLaws.{Takes, text_takes, name_takes}
 
@@ -63,13 +65,10 @@ none_is (Some x) at code p e = absurd cc
 not_some : {X : Type 0} (o : Option X) (x : X) → o ≡ None → o ≡ Some x → ⊥
 not_some o x e f = cc
 
-says : (nothing : List ℕ → Type 0) (text : List ℕ) (at : ℕ) (item : Item) → IsText Field item.text → Takes Field text at item → nothing item.text → Says nothing (drop at text)
+says : (nothing : List ℕ → Type 0) (text : List ℕ) (at : ℕ) (item : Item) → IsText Field item.text → Takes Field text at item → nothing item.text → SaysNothing nothing (drop at text)
 says nothing text at item t k n =
     let stop : item.stop ≡ comma = eqb-true item.stop comma k.may in
     record { item = item.text; rest = drop item.past text; text = t; parts = k.split ∙ ap (λ (x : ℕ). item.text ++ x ∷ drop item.past text) stop; says = n }
-
-no_ok : {A : Type 0} (x : A) (p : Place) → Ok x ≡ failed p → ⊥
-no_ok x p e = cc
 
 kind_faults : (before : List Col) (text : List ℕ) (at here : ℕ) (p : Place) (bytes : List ℕ) → IsBeginning before faults.kind bytes → Lies text at here bytes → kind_at text here ≡ Err p → ColumnFault before text at p
 unfolding kind_at
@@ -224,9 +223,6 @@ begun_with text at w n p = record { split = p.split ∙ sym (append_assoc w (equ
 
 abbrev made : List ℕ → Kind → Count → Key → Item → Item → Item → Option (List ℕ) → Col
 made w k c x d v t n = record { name = w; kind = k; count = c; key = x; description = d.text; values = present v.text; theme = present t.text; narrative = n }
-
-abbrev column : Col → ℕ → Result (Col × ℕ) Place
-column c past = Ok (c, past)
 
 after_theme : (before : List Col) (text : List ℕ) (at : ℕ) (p : Place) (bytes : List ℕ) (here : ℕ) (theme : Item) (f : Option (List ℕ) × ℕ → Col) → IsBeginning before faults.theme bytes → Lies text at here bytes → name_at Last text here ≡ Ok theme
     → (rest_at text theme.stop theme.past >>= λ n. column (f n) n.1) ≡ failed p → ColumnFault before text at p

@@ -3,22 +3,23 @@ use Rattle.std.proofs.Common.{◌≡◌, ℕ, zero, suc, ◌+◌, ◌<◌, true,
 use Rattle.std.specs.Prelude.{slice_get, is_some, ◌||◌}
 use Rattle.std.proofs.lemmas.Bool.{eqb-true, ne_eqb, eqb-false}
 use Rattle.std.proofs.lemmas.List.{length-append}
+use Rattle.vpf_base.proofs.Booleans.{tested}
+use Rattle.vpf_base.proofs.Results.{passed, guarded, bind_ok, ok_is}
 use Rattle.vpf_triplet.specs.declared.kinds.Kind.{Kind}
 use Rattle.vpf_triplet.specs.declared.kinds.Count.{Count}
 use Rattle.vpf_triplet.specs.declared.places.Place.{Place}
 use Rattle.vpf_triplet.specs.declared.places.Code.{Code}
 use Rattle.vpf_triplet.specs.declared.places.Code.TheVariants as codes
-use Rattle.vpf_triplet.specs.Kinds.{kind_text, allows}
+use Rattle.vpf_triplet.specs.Kinds.{kind_text, allows, kind_of}
 use Rattle.vpf_triplet.specs.Places.{fault}
 use Rattle.vpf_head.specs.declared.columns.Key.{Key}
 use Rattle.vpf_head.specs.declared.items.Form.TheVariants.{Name, Field, Last}
 use Rattle.vpf_head.specs.Bytes.{semicolon, comma, colon, equals}
 use Rattle.vpf_head.specs.Head.{Col, place_of}
-use Rattle.vpf_head.specs.Fields.{kind_of, key_of, letter_key, count_in, present}
+use Rattle.vpf_head.specs.Fields.{key_of, letter_key, count_in, present}
 use Rattle.vpf_head.specs.Items.{Item, text_at, name_at}
 use Rattle.vpf_head.specs.Reading.{wanted, allowed, fresh_name_at, kind_at, count_at, key_at, colon_by, closed_at, narrative_at, rest_at, column_at}
 use Rattle.vpf_head.specs.Spelling.{IsText, IsName, IsCount, Ending, bare, narrated, narrated_comma, narrative_item, ending_text, IsColumn}
-use Rattle.vpf_head.proofs.Binding.{passed, guarded, tested, bind_ok, ok_is}
 use Rattle.vpf_head.proofs.ItemLaws.{text_again, name_again, behind, Takes, text_takes, name_takes}
 use Rattle.vpf_head.proofs.FieldLaws.{kind_again, kind_takes, key_again, key_takes, count_again, count_takes}
 use Rattle.vpf_head.proofs.Loop.{absent}
@@ -373,7 +374,7 @@ stop_is_stop bare = refl
 stop_is_stop (narrated w) = refl
 stop_is_stop (narrated_comma w) = refl
 
-abbrev column : Col → ℕ → Result (Col × ℕ) Place
+abbrev pub column : Col → ℕ → Result (Col × ℕ) Place
 column c past = Ok (c, past)
 
 pub column_again : (before : List Col) (c : Col) (text : List ℕ) (at : ℕ) (bytes rest : List ℕ) → IsColumn before c bytes → drop at text ≡ bytes ++ rest → column_at before text at ≡ Ok (c, at + length bytes)

@@ -4,21 +4,22 @@ use Rattle.std.specs.Prelude.{position, slice_get, is_some}
 use Rattle.std.specs.List.{position_or_len}
 use Rattle.std.proofs.lemmas.Bool.{lt-ltb, le-ltb, ne_eqb}
 use Rattle.std.proofs.lemmas.List.{drop_at, drop-drop, length-append}
+use Rattle.vpf_base.specs.Limits.{longest_name}
 use Rattle.vpf_triplet.specs.declared.kinds.Kind.{Kind}
 use Rattle.vpf_triplet.specs.declared.kinds.Count.{Count}
 use Rattle.vpf_triplet.specs.declared.places.Place.{Place}
 use Rattle.vpf_triplet.specs.declared.places.Code.{Code}
 use Rattle.vpf_triplet.specs.declared.places.Code.TheVariants as codes
-use Rattle.vpf_triplet.specs.Kinds.{kind_text, allows}
+use Rattle.vpf_triplet.specs.Kinds.{kind_text, allows, kind_of}
 use Rattle.vpf_triplet.specs.Places.{fault}
 use Rattle.vpf_head.specs.declared.columns.Key.{Key}
 use Rattle.vpf_head.specs.declared.items.Form.{Form}
 use Rattle.vpf_head.specs.declared.items.Form.TheVariants.{Name, Field, Last}
 use Rattle.vpf_head.specs.Bytes.{comma, colon, equals}
 use Rattle.vpf_head.specs.Faults as faults
-use Rattle.vpf_head.specs.Faults.{Lies, Begins, ItemFault, endless, misended, long, controlled, Next, IsBeginning, Says, IsNoKind, IsNoCount, IsNoKey, Refuses}
-use Rattle.vpf_head.specs.Fields.{kind_of, key_of, count_in}
-use Rattle.vpf_head.specs.Forms.{is_stop, is_separator, longest_name}
+use Rattle.vpf_head.specs.Faults.{Lies, BeginsItem, ItemFault, endless, misended, long, controlled, Next, IsBeginning, SaysNothing, IsNoKind, IsNoCount, IsNoKey, Refuses}
+use Rattle.vpf_head.specs.Fields.{key_of, count_in}
+use Rattle.vpf_head.specs.Forms.{is_stop, is_separator}
 use Rattle.vpf_head.specs.Head.{Col, place_of}
 use Rattle.vpf_head.specs.Items.{Item, item_at, text_at, name_at}
 use Rattle.vpf_head.specs.Reading.{wanted, allowed, fresh_name_at, kind_at, count_at, key_at, colon_by, rest_at, narrative_at, column_at}
@@ -37,14 +38,14 @@ endless_item form text at h =
     let lt : ltb (position_or_len (is_stop form) (drop at text)) (length (drop at text)) ≡ false = le-ltb _ _ (omega (arith, k)) in
     rw lt refl
 
-misended_item : (form : Form) (text : List ℕ) (at : ℕ) (item : List ℕ) (stop : ℕ) → Begins form item stop (drop at text) → is_separator form stop ≡ false → item_at form text at ≡ Err (fault at codes.ItemSeparator)
+misended_item : (form : Form) (text : List ℕ) (at : ℕ) (item : List ℕ) (stop : ℕ) → BeginsItem form item stop (drop at text) → is_separator form stop ≡ false → item_at form text at ≡ Err (fault at codes.ItemSeparator)
 unfolding item_at
 misended_item form text at w x b bad =
     let found : position (is_stop form) (drop at text) ≡ Some (length w) = ap (position (is_stop form)) b.parts ∙ position_is (is_stop form) w b.rest x b.open_ended b.stops in
     let byte : get_or (drop at text) (length w) 0 ≡ x = ap (λ (l : List ℕ). get_or l (length w) 0) b.parts ∙ get_at w b.rest x in
     rw (found, byte, bad) refl
 
-whole_item : (form : Form) (text : List ℕ) (at : ℕ) (item : List ℕ) (stop : ℕ) → Begins form item stop (drop at text) → is_separator form stop ≡ true → item_at form text at ≡ Ok (made item stop at)
+whole_item : (form : Form) (text : List ℕ) (at : ℕ) (item : List ℕ) (stop : ℕ) → BeginsItem form item stop (drop at text) → is_separator form stop ≡ true → item_at form text at ≡ Ok (made item stop at)
 whole_item form text at w x b may = item_again form x text at w b.rest b.stops may b.open_ended b.parts
 
 pub text_refused : (form : Form) (text : List ℕ) (at : ℕ) (code : Code) → ItemFault form false (drop at text) code → text_at form text at ≡ Err (fault at code)
@@ -266,18 +267,18 @@ not_allowed : (k : Kind) (o : Option Count) (at : ℕ) → ((c : Count) → o �
 not_allowed k None at h = refl
 not_allowed k (Some c) at h = rw (h c refl) refl
 
-said : (nothing : List ℕ → Type 0) (text : List ℕ) (at : ℕ) (s : Says nothing (drop at text)) → text_at Field text at ≡ Ok (made s.item comma at)
+said : (nothing : List ℕ → Type 0) (text : List ℕ) (at : ℕ) (s : SaysNothing nothing (drop at text)) → text_at Field text at ≡ Ok (made s.item comma at)
 said nothing text at s = text_again Field comma text at s.item s.rest refl refl s.text s.parts
 
-no_kind_fails : (text : List ℕ) (at : ℕ) → Says IsNoKind (drop at text) → kind_at text at ≡ Err (fault at codes.Kind)
+no_kind_fails : (text : List ℕ) (at : ℕ) → SaysNothing IsNoKind (drop at text) → kind_at text at ≡ Err (fault at codes.Kind)
 unfolding kind_at
 no_kind_fails text at s = rw (said IsNoKind text at s, unwanted (kind_of s.item) at codes.Kind (λ k e. s.says k (kind_takes s.item k e))) refl
 
-no_count_fails : (k : Kind) (text : List ℕ) (at : ℕ) → Says (IsNoCount k) (drop at text) → count_at k text at ≡ Err (fault at codes.Count)
+no_count_fails : (k : Kind) (text : List ℕ) (at : ℕ) → SaysNothing (IsNoCount k) (drop at text) → count_at k text at ≡ Err (fault at codes.Count)
 unfolding count_at
 no_count_fails k text at s = rw (said (IsNoCount k) text at s, not_allowed k (count_in s.item) at (λ c e. s.says c (count_takes s.item c e))) refl
 
-no_key_fails : (text : List ℕ) (at : ℕ) → Says IsNoKey (drop at text) → key_at text at ≡ Err (fault at codes.Key)
+no_key_fails : (text : List ℕ) (at : ℕ) → SaysNothing IsNoKey (drop at text) → key_at text at ≡ Err (fault at codes.Key)
 unfolding key_at
 no_key_fails text at s = rw (said IsNoKey text at s, unwanted (key_of s.item) at codes.Key (λ k e. let t = key_takes s.item k e in s.says t.0 k t.1 t.2)) refl
 

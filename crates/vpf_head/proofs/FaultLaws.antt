@@ -4,15 +4,18 @@ use Rattle.std.specs.Prelude.{position, ◌||◌}
 use Rattle.std.proofs.lemmas.List.Quantifiers.{position-Some}
 use Rattle.std.proofs.lemmas.Bool.{ltb-true, ltb-false}
 use Rattle.std.proofs.lemmas.List.{take-append-drop, drop_more}
+use Rattle.vpf_base.specs.Limits.{longest_name}
+use Rattle.vpf_base.specs.Results.{◌>>=◌}
+use Rattle.vpf_base.proofs.Results.{failed, err_is}
 use Rattle.vpf_triplet.specs.declared.places.Place.{Place}
 use Rattle.vpf_triplet.specs.declared.places.Code.{Code}
 use Rattle.vpf_triplet.specs.declared.places.Code.TheVariants as codes
-use Rattle.vpf_triplet.specs.Places.{◌>>=◌, fault}
+use Rattle.vpf_triplet.specs.Places.{fault}
 use Rattle.vpf_head.specs.declared.items.Form.{Form}
 use Rattle.vpf_head.specs.declared.items.Form.TheVariants.{Heading, Name, Field, Last}
 use Rattle.vpf_head.specs.Bytes.{semicolon, comma, colon}
-use Rattle.vpf_head.specs.Faults.{Begins, ItemFault, endless, misended, long, controlled}
-use Rattle.vpf_head.specs.Forms.{is_stop, is_separator, holds_control, longest_name}
+use Rattle.vpf_head.specs.Faults.{BeginsItem, ItemFault, endless, misended, long, controlled}
+use Rattle.vpf_head.specs.Forms.{is_stop, is_separator, holds_control}
 use Rattle.vpf_head.specs.Items.{Item, item_ended, item_at, text_at, name_at}
 use Rattle.vpf_head.proofs.HeadLaws.{nowhere}
 use Rattle.vpf_head.proofs.ItemLaws.{Takes, item_takes, none_before}
@@ -24,12 +27,6 @@ pub bind_err : {A B : Type 0} (r : Result A Place) (f : A → Result B Place) (p
 bind_err (Ok x) f p e = inr (x, refl, e)
 bind_err {A = A} (Err q) f p e = inl (let z : q ≡ p = cc in ap (λ (x : Place). let r : Result A Place = Err x in r) z)
 
-abbrev pub failed : {A : Type 0} → Place → Result A Place
-failed p = Err p
-
-pub err_is : {A : Type 0} {p q : Place} → failed {A = A} p ≡ failed q → p ≡ q
-err_is e = cc
-
 -- ---- items
 
 -- a fault at this offset, for this reason
@@ -38,7 +35,7 @@ pub record At (at : ℕ) (why : Code → Type 0) (p : Place) : Type 0 where
   pub is : p ≡ fault at code
   pub because : why code
 
-byte_of : (form : Form) (rest : List ℕ) (n : ℕ) → position (is_stop form) rest ≡ Some n → Begins form (take n rest) (get_or rest n 0) rest
+byte_of : (form : Form) (rest : List ℕ) (n : ℕ) → position (is_stop form) rest ≡ Some n → BeginsItem form (take n rest) (get_or rest n 0) rest
 byte_of form rest n f =
     let k = position-Some (is_stop form) rest n 0 f in
     record {
@@ -71,7 +68,7 @@ separator_stops Last b e = by (nat_eq b comma) (nat_eq b colon) (nat_eq b semico
     by false true z f = refl
     by false false z f = absurd cc
 
-begins : (form : Form) (text : List ℕ) (at : ℕ) (item : Item) → Takes form text at item → Begins form item.text item.stop (drop at text)
+begins : (form : Form) (text : List ℕ) (at : ℕ) (item : Item) → Takes form text at item → BeginsItem form item.text item.stop (drop at text)
 begins form text at item t = record { rest = drop item.past text; open_ended = t.open_ended; stops = separator_stops form item.stop t.may; parts = t.split }
 
 pub text_faults : (form : Form) (text : List ℕ) (at : ℕ) (p : Place) → text_at form text at ≡ Err p → At at (ItemFault form false (drop at text)) p

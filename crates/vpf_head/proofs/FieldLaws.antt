@@ -8,23 +8,20 @@ use Rattle.std.proofs.lemmas.Bool.{leb-true, lt-leb, eqb-true, ne_eqb, eqb-false
 use Rattle.std.proofs.lemmas.List.Folds.{list_any-append}
 use Rattle.std.proofs.lemmas.Str.{encode_ascii}
 use Rattle.std.proofs.lemmas.Str.Parse.{IsNumeralModel, numerals_by_value, digit_from_value}
+use Rattle.vpf_base.specs.Limits.{most_values}
+use Rattle.vpf_base.proofs.Booleans.{not_false, both, tested}
 use Rattle.vpf_triplet.specs.declared.kinds.Kind.{Kind}
 use Rattle.vpf_triplet.specs.declared.kinds.Kind.TheVariants as kinds
 use Rattle.vpf_triplet.specs.declared.kinds.Count.{Count}
 use Rattle.vpf_triplet.specs.declared.kinds.Count.TheVariants.{Fixed, Star}
-use Rattle.vpf_triplet.specs.Kinds.{kind_text}
+use Rattle.vpf_triplet.specs.Kinds.{kind_text, every_kind, kind_of}
 use Rattle.vpf_head.specs.declared.columns.Key.{Key}
 use Rattle.vpf_head.specs.declared.columns.Key.TheVariants.{Primary, Unique, Many, Other}
 use Rattle.vpf_head.specs.declared.items.Form.TheVariants.{Field}
 use Rattle.vpf_head.specs.Bytes.{space, star}
-use Rattle.vpf_head.specs.Fields.{every_kind, kind_of, letter_key, key_text, key_of, after_spaces, most_values, digits_count, bare_count, count_in}
+use Rattle.vpf_head.specs.Fields.{letter_key, key_text, key_of, after_spaces, digits_count, bare_count, count_in}
 use Rattle.vpf_head.specs.Forms.{is_stop}
 use Rattle.vpf_head.specs.Spelling.{IsText, IsBareCount, IsCount}
-use Rattle.vpf_head.proofs.Binding.{both, tested}
-
-not_false : (b : Bool) → not b ≡ false → b ≡ true
-not_false true e = refl
-not_false false e = absurd cc
 
 -- ---- kinds
 

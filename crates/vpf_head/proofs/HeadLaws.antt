@@ -4,18 +4,21 @@ use Rattle.std.specs.Prelude.{position, ◌||◌}
 use Rattle.std.specs.List.{list_any, list_all, position_or_len, starts_with}
 use Rattle.std.proofs.lemmas.Bool.{le-ltb, ltb-false, eqb-true, ne_eqb}
 use Rattle.std.proofs.lemmas.List.{drop_at, drop-drop, length-append, append-nil}
+use Rattle.vpf_base.specs.Limits.{most_columns}
+use Rattle.vpf_base.proofs.Results.{passed, bind_ok, ok_is}
+use Rattle.vpf_base.proofs.Booleans.{both, neither, tested}
+use Rattle.vpf_base.specs.Results.{◌>>=◌}
 use Rattle.vpf_triplet.specs.declared.places.Place.{Place}
 use Rattle.vpf_triplet.specs.declared.places.Code.TheVariants as codes
 use Rattle.vpf_triplet.specs.Kinds.{kind_text}
-use Rattle.vpf_triplet.specs.Places.{◌>>=◌, fault}
+use Rattle.vpf_triplet.specs.Places.{fault}
 use Rattle.vpf_head.specs.declared.items.Form.TheVariants.{Name}
 use Rattle.vpf_head.specs.Bytes.{semicolon, comma, equals}
 use Rattle.vpf_head.specs.Forms.{is_stop}
 use Rattle.vpf_head.specs.Head.{Col}
 use Rattle.vpf_head.specs.Reading.{closes, column_at, columns_at, end_by, end_at}
 use Rattle.vpf_head.specs.Spelling.{IsName, ending_text, IsColumn, IsColumns}
-use Rattle.vpf_head.specs.Texts.{most_columns, is_blank}
-use Rattle.vpf_head.proofs.Binding.{both, neither, passed, tested, bind_ok, ok_is}
+use Rattle.vpf_head.specs.Texts.{is_blank}
 use Rattle.vpf_head.proofs.ColumnLaws.{Spans, column_again, column_takes}
 use Rattle.vpf_head.proofs.Loop.{is_done, goes_on}
 

@@ -5,11 +5,15 @@ use Rattle.std.specs.List.{list_any}
 use Rattle.std.proofs.lemmas.Bool.{ltb-true, ltb-false, eqb-true}
 use Rattle.std.proofs.lemmas.List.{take-append-drop, drop_more, append-nil, length-append, length-take}
 use Rattle.std.proofs.lemmas.List.Quantifiers.{position-Some}
+use Rattle.vpf_base.specs.Limits.{longest_text, most_columns}
+use Rattle.vpf_base.specs.Results.{◌>>=◌}
+use Rattle.vpf_base.proofs.Booleans.{not_true, tested}
+use Rattle.vpf_base.proofs.Results.{no_ok, failed, err_is}
 use Rattle.vpf_triplet.specs.declared.orders.Order.{Order}
 use Rattle.vpf_triplet.specs.declared.places.Place.{Place}
 use Rattle.vpf_triplet.specs.declared.places.Code.{Code}
 use Rattle.vpf_triplet.specs.declared.places.Code.TheVariants as codes
-use Rattle.vpf_triplet.specs.Places.{◌>>=◌, fault}
+use Rattle.vpf_triplet.specs.Places.{fault}
 use Rattle.vpf_head.specs.declared.items.Form.TheVariants.{Heading}
 use Rattle.vpf_head.specs.Bytes.{semicolon}
 use Rattle.vpf_head.specs.Fields.{present}
@@ -17,18 +21,14 @@ use Rattle.vpf_head.specs.Head.{Head, Col, holds_data}
 use Rattle.vpf_head.specs.Items.{Item, text_at, name_at}
 use Rattle.vpf_head.specs.Reading.{closes, column_at, columns_at, end_by, end_at, close_at, after_mark, order_of, head_at, header_of}
 use Rattle.vpf_head.specs.Spelling.{IsText, IsName, IsColumn, IsColumns}
-use Rattle.vpf_head.specs.Texts.{longest_text, most_columns, is_blank}
+use Rattle.vpf_head.specs.Texts.{is_blank}
 use Rattle.vpf_head.specs.Faults as faults
-use Rattle.vpf_head.specs.Faults.{Lies, IsFurther, NextFault, TextFault, FirstFault}
-use Rattle.vpf_head.proofs.Binding.{tested}
+use Rattle.vpf_head.specs.Faults.{Lies, IsFurther, NextFault, TextFault, FirstHeaderFault}
 use Rattle.vpf_head.proofs.ColumnFaults.{next_ok, column_faults}
 use Rattle.vpf_head.proofs.ColumnLaws.{column_takes}
-use Rattle.vpf_head.proofs.FaultLaws.{failed, err_is, text_faults, name_faults}
+use Rattle.vpf_head.proofs.FaultLaws.{text_faults, name_faults}
 use Rattle.vpf_head.proofs.HeadLaws.{closing, closing_split, columns_take, blank_all}
 use Rattle.vpf_head.proofs.ItemLaws.{Takes, text_takes, name_takes, none_before}
-
-no_ok : {A : Type 0} (x : A) (p : Place) → Ok x ≡ failed p → ⊥
-no_ok x p e = cc
 
 lies_join : (text : List ℕ) (a b c : ℕ) (x y : List ℕ) → Lies text a b x → Lies text b c y → Lies text a c (x ++ y)
 lies_join text a b c x y l m = record {
@@ -102,10 +102,6 @@ columns_faults (suc room) before text start at bytes p size s l e = elim (tested
 
 all_before : (q : ℕ → Bool) (xs : List ℕ) (i : ℕ) → i ≤ length xs → ((k : ℕ) → k < i → not (q (get_or xs k 0)) ≡ false) → list_any (λ b. not (q b)) (take i xs) ≡ false
 all_before q xs i h f = none_before (λ b. not (q b)) xs i h f
-
-not_true : (b : Bool) → not b ≡ true → b ≡ false
-not_true true e = absurd cc
-not_true false e = refl
 
 end_faults : (before : List Col) (text : List ℕ) (at : ℕ) (o : Option ℕ) (p : Place) → length before ≤ most_columns → closes text at ≡ true → list_any holds_data before ≡ true → position (λ b. not (is_blank b)) (drop (at + 1) text) ≡ o → end_by text (at + 1) o ≡ Err p → (here : ℕ) × (code : Code) × NextFault before text at here code × (p ≡ fault here code)
 end_faults before text at None p few q d f e = absurd (no_ok (length text) p e)
@@ -184,15 +180,15 @@ head_faults order text p e =
 
 -- ---- the file
 
-pub header_faults : (bytes : List ℕ) (p : Place) → header_of bytes ≡ Err p → FirstFault bytes p
+pub header_faults : (bytes : List ℕ) (p : Place) → header_of bytes ≡ Err p → FirstHeaderFault bytes p
 unfolding header_of
 header_faults bytes p e = by (ltb (length bytes) 4) (ltb longest_text (faults.length_number bytes)) (ltb (length bytes) (4 + faults.length_number bytes)) refl refl refl e
   where
     by : (a b c : Bool) → ltb (length bytes) 4 ≡ a → ltb longest_text (faults.length_number bytes) ≡ b → ltb (length bytes) (4 + faults.length_number bytes) ≡ c
-        → cond a (Err (fault 0 codes.NumberCut)) (cond b (Err (fault 0 (codes.LimitHeader (faults.length_number bytes)))) (cond c (Err (fault 4 codes.HeaderCut)) (head_at (order_of bytes) (take (4 + faults.length_number bytes) bytes)))) ≡ failed {A = Head × ℕ} p → FirstFault bytes p
-    by true b c x y z f = subst (FirstFault bytes) (err_is f) (faults.number_cut (ltb-true (length bytes) 4 x))
-    by false true c x y z f = subst (FirstFault bytes) (err_is f) (faults.limit_header (ltb-false (length bytes) 4 x) (ltb-true longest_text (faults.length_number bytes) y))
-    by false false true x y z f = subst (FirstFault bytes) (err_is f) (faults.header_cut (ltb-false (length bytes) 4 x) (ltb-false longest_text (faults.length_number bytes) y) (ltb-true (length bytes) (4 + faults.length_number bytes) z))
+        → cond a (Err (fault 0 codes.NumberCut)) (cond b (Err (fault 0 (codes.LimitHeader (faults.length_number bytes)))) (cond c (Err (fault 4 codes.HeaderCut)) (head_at (order_of bytes) (take (4 + faults.length_number bytes) bytes)))) ≡ failed {A = Head × ℕ} p → FirstHeaderFault bytes p
+    by true b c x y z f = subst (FirstHeaderFault bytes) (err_is f) (faults.number_cut (ltb-true (length bytes) 4 x))
+    by false true c x y z f = subst (FirstHeaderFault bytes) (err_is f) (faults.limit_header (ltb-false (length bytes) 4 x) (ltb-true longest_text (faults.length_number bytes) y))
+    by false false true x y z f = subst (FirstHeaderFault bytes) (err_is f) (faults.header_cut (ltb-false (length bytes) 4 x) (ltb-false longest_text (faults.length_number bytes) y) (ltb-true (length bytes) (4 + faults.length_number bytes) z))
     by false false false x y z f =
         let k = head_faults (order_of bytes) (take (4 + faults.length_number bytes) bytes) p f in
-        subst (FirstFault bytes) (sym k.is) (faults.in_text k.at k.code (ltb-false longest_text (faults.length_number bytes) y) (ltb-false (length bytes) (4 + faults.length_number bytes) z) k.fault_is)
+        subst (FirstHeaderFault bytes) (sym k.is) (faults.in_text k.at k.code (ltb-false longest_text (faults.length_number bytes) y) (ltb-false (length bytes) (4 + faults.length_number bytes) z) k.fault_is)

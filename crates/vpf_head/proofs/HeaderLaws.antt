@@ -1,20 +1,21 @@
 -- A header that is read is spelled so, and what is spelled so is read.
-use Rattle.std.proofs.Common.{◌≡◌, ℕ, zero, suc, ◌+◌, ◌<◌, ◌≤◌, ◌^◌, false, cond, ltb, List, [], ◌∷◌, ◌++◌, length, take, drop, take-add, Ok, Err, refl, sym, ap, subst, ◌∙◌, append_assoc, arith, inl, inr}
+use Rattle.std.proofs.Common.{◌≡◌, ℕ, zero, suc, ◌+◌, ◌≤◌, false, cond, ltb, List, [], ◌∷◌, ◌++◌, length, take, drop, take-add, Ok, Err, refl, sym, ap, subst, ◌∙◌, append_assoc, arith}
 use Rattle.std.specs.Int.{w32}
-use Rattle.std.proofs.lemmas.Bool.{cases_lt, le-ltb, ltb-false}
-use Rattle.std.proofs.lemmas.List.{drop_at, take_at, drop-take, length-append, length-take, length-drop, get_or-take, get_or_past}
-use Rattle.std.proofs.lemmas.Nat.{le_bytes_4, be_bytes_4, from_le_bytes-to_le_bytes_4, from_be_bytes-to_be_bytes_4}
+use Rattle.std.proofs.lemmas.Bool.{le-ltb, ltb-false}
+use Rattle.std.proofs.lemmas.List.{drop_at, take_at, drop-take, length-append, length-take, length-drop}
+use Rattle.vpf_base.specs.Limits.{longest_text}
+use Rattle.vpf_base.proofs.Results.{guarded}
+use Rattle.vpf_base.specs.Bytes.{IsBytes}
+use Rattle.vpf_triplet.proofs.NumberLemmas.{number_again, number_takes}
 use Rattle.vpf_triplet.specs.declared.orders.Order.{Order}
 use Rattle.vpf_triplet.specs.declared.orders.Order.TheVariants.{Little, Big}
 use Rattle.vpf_triplet.specs.declared.places.Code.TheVariants as codes
-use Rattle.vpf_triplet.specs.Numbers.{IsBytes, number_of, number}
+use Rattle.vpf_triplet.specs.Numbers.{number_of, number}
 use Rattle.vpf_triplet.specs.Places.{fault}
 use Rattle.vpf_head.specs.Bytes.{semicolon}
 use Rattle.vpf_head.specs.Head.{Head}
 use Rattle.vpf_head.specs.Reading.{order_of, head_at, header_of}
 use Rattle.vpf_head.specs.Spelling.{IsHeaderText, IsHeader}
-use Rattle.vpf_head.specs.Texts.{longest_text}
-use Rattle.vpf_head.proofs.Binding.{guarded}
 use Rattle.vpf_head.proofs.TextLaws.{mark_again, head_again, head_takes, head_long}
 
 -- ---- numbers
@@ -22,25 +23,6 @@ use Rattle.vpf_head.proofs.TextLaws.{mark_again, head_again, head_takes, head_lo
 pub four_long : (o : Order) (n : ℕ) → length (number o w32 n) ≡ 4
 four_long Little n = refl
 four_long Big n = refl
-
-number_again : (o : Order) (n : ℕ) (rest : List ℕ) → n < 2 ^ 32 → number_of o w32 (number o w32 n ++ rest) ≡ n
-number_again Little n rest h = from_le_bytes-to_le_bytes_4 n h
-number_again Big n rest h = from_be_bytes-to_be_bytes_4 n h
-
-IsBytes-take : (n : ℕ) (bytes : List ℕ) → IsBytes bytes → IsBytes (take n bytes)
-IsBytes-take n bytes h i =
-    elim (cases_lt i n) [
-      | inl lt ↦ rw (get_or-take n bytes i 0 lt) (h i)
-      | inr le ↦ rw (get_or_past (take n bytes) i 0 (omega (arith, length-take n bytes))) (omega arith)
-    ]
-
-number_takes : (o : Order) (bytes : List ℕ) → IsBytes bytes → 4 ≤ length bytes → number o w32 (number_of o w32 bytes) ≡ take 4 bytes
-number_takes o [] fits h = absurd (omega arith)
-number_takes o (x ∷ []) fits h = absurd (omega arith)
-number_takes o (x ∷ y ∷ []) fits h = absurd (omega arith)
-number_takes o (x ∷ y ∷ z ∷ []) fits h = absurd (omega arith)
-number_takes Little (x ∷ y ∷ z ∷ w ∷ bytes) fits h = le_bytes_4 (x ∷ y ∷ z ∷ w ∷ []) _ refl (IsBytes-take 4 (x ∷ y ∷ z ∷ w ∷ bytes) fits) refl
-number_takes Big (x ∷ y ∷ z ∷ w ∷ bytes) fits h = be_bytes_4 (x ∷ y ∷ z ∷ w ∷ []) _ refl (IsBytes-take 4 (x ∷ y ∷ z ∷ w ∷ bytes) fits) refl
 
 -- ---- what is spelled is read
 

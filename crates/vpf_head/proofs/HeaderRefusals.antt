@@ -4,6 +4,7 @@ use Rattle.std.specs.Prelude.{position}
 use Rattle.std.specs.List.{list_any, list_all}
 use Rattle.std.proofs.lemmas.Bool.{lt-ltb, le-ltb}
 use Rattle.std.proofs.lemmas.List.{drop_at, drop-drop, length-append}
+use Rattle.vpf_base.specs.Limits.{longest_text, most_columns}
 use Rattle.vpf_triplet.specs.declared.orders.Order.{Order}
 use Rattle.vpf_triplet.specs.declared.places.Place.{Place}
 use Rattle.vpf_triplet.specs.declared.places.Code.{Code}
@@ -12,12 +13,12 @@ use Rattle.vpf_triplet.specs.Places.{fault}
 use Rattle.vpf_head.specs.declared.items.Form.TheVariants.{Heading}
 use Rattle.vpf_head.specs.Bytes.{semicolon}
 use Rattle.vpf_head.specs.Faults as faults
-use Rattle.vpf_head.specs.Faults.{Lies, IsFurther, NextFault, TextFault, FirstFault}
+use Rattle.vpf_head.specs.Faults.{Lies, IsFurther, NextFault, TextFault, FirstHeaderFault}
 use Rattle.vpf_head.specs.Head.{Col, holds_data}
 use Rattle.vpf_head.specs.Items.{text_at, name_at}
 use Rattle.vpf_head.specs.Reading.{closes, columns_at, end_by, close_at, after_mark, order_of, head_at, header_of}
 use Rattle.vpf_head.specs.Spelling.{IsText, IsName, IsColumns}
-use Rattle.vpf_head.specs.Texts.{longest_text, most_columns, is_blank}
+use Rattle.vpf_head.specs.Texts.{is_blank}
 use Rattle.vpf_head.proofs.ColumnLaws.{column_again}
 use Rattle.vpf_head.proofs.ColumnRefusals.{text_refused, name_refused, column_refused}
 use Rattle.vpf_head.proofs.HeadLaws.{closing, closing_split, column_opens, all_blank}
@@ -150,7 +151,7 @@ text_stops order text here code (faults.in_columns w n bytes before at h c t k c
 
 -- ---- the file
 
-pub header_refused : (bytes : List ℕ) (p : Place) → FirstFault bytes p → header_of bytes ≡ Err p
+pub header_refused : (bytes : List ℕ) (p : Place) → FirstHeaderFault bytes p → header_of bytes ≡ Err p
 unfolding header_of
 header_refused bytes p (faults.number_cut h) = rw (lt-ltb (length bytes) 4 h) refl
 header_refused bytes p (faults.limit_header h over) = rw (le-ltb (length bytes) 4 h, lt-ltb longest_text (faults.length_number bytes) over) refl

@@ -5,13 +5,15 @@ use Rattle.std.specs.List.{list_any, position_or_len}
 use Rattle.std.proofs.lemmas.List.Quantifiers.{position-Some}
 use Rattle.std.proofs.lemmas.Bool.{lt-ltb, le-ltb, ltb-false}
 use Rattle.std.proofs.lemmas.List.{take_at, drop_at, drop-drop, take-append-drop, length-append, length-take, drop_more}
+use Rattle.vpf_base.specs.Limits.{longest_name}
+use Rattle.vpf_base.proofs.Results.{passed, guarded, bind_ok, ok_is}
+use Rattle.vpf_base.proofs.Booleans.{neither}
 use Rattle.vpf_triplet.specs.declared.places.Code.TheVariants as codes
 use Rattle.vpf_triplet.specs.Places.{fault}
 use Rattle.vpf_head.specs.declared.items.Form.{Form}
-use Rattle.vpf_head.specs.Forms.{is_stop, is_separator, holds_control, longest_name}
+use Rattle.vpf_head.specs.Forms.{is_stop, is_separator, holds_control}
 use Rattle.vpf_head.specs.Items.{Item, item_ended, item_at, text_at, name_at}
 use Rattle.vpf_head.specs.Spelling.{IsOpen, IsText, IsName}
-use Rattle.vpf_head.proofs.Binding.{neither, passed, guarded, bind_ok, ok_is}
 
 -- ---- what is spelled is read
 

@@ -1,4 +1,3 @@
-pub mod Binding
 pub mod Digits
 pub mod Entries
 pub mod Loop

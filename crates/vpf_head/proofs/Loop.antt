@@ -1,12 +1,12 @@
 -- Reading columns one after the other, as a loop does.
 use Rattle.std.proofs.Common.{◌≡◌, ℕ, zero, suc, ◌+◌, ◌-◌, true, false, List, [], ◌∷◌, ◌++◌, Option, None, Some, Ok, Err, refl, arith}
 use Rattle.std.specs.Prelude.{is_some}
+use Rattle.vpf_base.specs.Limits.{most_columns}
 use Rattle.vpf_triplet.specs.declared.places.Place.{Place}
 use Rattle.vpf_triplet.specs.declared.places.Code.TheVariants as codes
 use Rattle.vpf_triplet.specs.Places.{fault}
 use Rattle.vpf_head.specs.Head.{Col}
 use Rattle.vpf_head.specs.Reading.{closes, column_at, columns_at}
-use Rattle.vpf_head.specs.Texts.{most_columns}
 
 pub is_done : (room : ℕ) (before : List Col) (text : List ℕ) (at : ℕ) → closes text at ≡ true → columns_at room before text at ≡ Ok (before, at)
 unfolding columns_at

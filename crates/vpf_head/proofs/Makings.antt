@@ -12,14 +12,16 @@ use Rattle.indexmap.specs.IndexMap.{IndexMap, values, get, insert_entry}
 use Rattle.indexmap.proofs.CallerLemmas.{insert_entry-new}
 use Rattle.indexmap.proofs.MapLemmas.{some_index}
 use Rattle.std.proofs.lemmas.Option.{slice_get-get_or}
-use Rattle.vpf_triplet.specs.declared.kinds.Kind.{Kind}
+use Rattle.vpf_triplet.proofs.KindLemmas.{kinds_same}
+use Rattle.vpf_base.specs.Limits.{longest_text}
+use Rattle.vpf_base.proofs.Results.{passed, guarded, bind_ok, ok_is}
 use Rattle.vpf_triplet.specs.declared.kinds.Count.{Count}
 use Rattle.vpf_triplet.specs.declared.kinds.Count.TheVariants.{Fixed, Star}
 use Rattle.vpf_triplet.specs.declared.orders.Order.{Order}
 use Rattle.vpf_triplet.specs.declared.orders.Order.TheVariants.{Little, Big}
 use Rattle.vpf_triplet.specs.declared.places.Place.{Place}
 use Rattle.vpf_triplet.specs.declared.places.Code.TheVariants as codes
-use Rattle.vpf_triplet.specs.Kinds.{kind_text, count_text}
+use Rattle.vpf_triplet.specs.Kinds.{kind_text, count_text, same_kind}
 use Rattle.vpf_triplet.specs.Numbers.{number}
 use Rattle.vpf_triplet.specs.Places.{fault}
 use Rattle.vpf_head.specs.declared.columns.Column.{Column}
@@ -27,31 +29,22 @@ use Rattle.vpf_head.specs.declared.names.ColumnName.{ColumnName}
 use Rattle.vpf_head.specs.declared.columns.Key.{Key}
 use Rattle.vpf_head.specs.declared.columns.Key.TheVariants.{Primary, Unique, Many, Other}
 use Rattle.vpf_head.specs.Canonical.{name_text, canonical_text, canonical_header}
-use Rattle.vpf_head.specs.Fields.{key_text, kind_of}
+use Rattle.vpf_head.specs.Fields.{key_text}
 use Rattle.vpf_head.specs.Folding.{same_name}
 use Rattle.vpf_head.specs.Head.{Head, Col, names, place_of}
-use Rattle.vpf_head.specs.Making.{same_kind, same_count, same_key, next_part, next_after_text, next_after_name, past_column, past_columns, read_as_given, file_of, new_of}
+use Rattle.vpf_head.specs.Making.{same_count, same_key, next_part, next_after_text, next_after_name, past_column, past_columns, read_as_given, text_file, new_of}
 use Rattle.vpf_head.specs.Reading.{order_of, header_of}
 use Rattle.vpf_head.specs.Soundness.{IsSound}
 use Rattle.vpf_head.specs.Spelling.{mark_of, IsHeader}
-use Rattle.vpf_head.specs.Texts.{number_bytes, longest_text}
+use Rattle.vpf_head.specs.Texts.{number_bytes}
 use Rattle.vpf_head.specs.Views.{col, key_eq, AreNamed}
-use Rattle.vpf_head.proofs.Binding.{passed, guarded, bind_ok, ok_is}
 use Rattle.vpf_head.proofs.Canonicals.{is_new, canonical_spelled}
 use Rattle.vpf_head.proofs.Entries.{position_named, AreNamed-push, next_column}
-use Rattle.vpf_head.proofs.FieldLaws.{kind_again, same_bytes}
+use Rattle.vpf_head.proofs.FieldLaws.{same_bytes}
 use Rattle.vpf_head.proofs.HeaderLaws.{four_long, header_again, header_takes}
 use Rattle.vpf_head.proofs.SoundLaws.{header_sound}
 
 -- ---- parts that are the same
-
-kind_is : (k l : Kind) → same_kind k l ≡ true → k ≡ l
-kind_is k l e =
-    let letters = same_bytes (kind_text k) (kind_text l) e in
-    some_is (sym (kind_again k).1 ∙ ap kind_of letters ∙ (kind_again l).1)
-  where
-    some_is : {k l : Kind} → Some k ≡ Some l → k ≡ l
-    some_is f = cc
 
 count_is : (c d : Count) → same_count c d ≡ true → c ≡ d
 count_is (Fixed m) (Fixed n) e = ap (λ (k : ℕ). Fixed k) (eqb-true m n e)
@@ -99,7 +92,7 @@ column_is at c d past e =
     let theme = bind_ok (next_after_name values.0 c.theme d.theme) _ past values.2 in
     let narrative = bind_ok (next_after_name theme.0 c.narrative d.narrative) _ past theme.2 in
     let e1 = same_bytes c.name d.name (part_is at (length c.name) (bytes_eq c.name d.name) name.0 name.1) in
-    let e2 = kind_is c.kind d.kind (part_is name.0 (length (kind_text c.kind)) (same_kind c.kind d.kind) kind.0 kind.1) in
+    let e2 = kinds_same c.kind d.kind (part_is name.0 (length (kind_text c.kind)) (same_kind c.kind d.kind) kind.0 kind.1) in
     let e3 = count_is c.count d.count (part_is kind.0 (length (count_text c.count)) (same_count c.count d.count) count.0 count.1) in
     let e4 = key_is c.key d.key (part_is count.0 (length (key_text c.key)) (same_key c.key d.key) key.0 key.1) in
     let e5 = same_bytes c.description d.description (part_is key.0 (length c.description) (bytes_eq c.description d.description) description.0 description.1) in
@@ -194,9 +187,9 @@ pub record IsMade (given made : Head) : Type 0 where
   pub spelled : IsHeader given (canonical_header given)
 
 pub made : (h k : Head) → new_of h ≡ Ok k → IsMade h k
-unfolding new_of file_of
+unfolding new_of text_file
 made h k e =
-    let file = bind_ok (file_of h) _ k e in
+    let file = bind_ok (text_file h) _ k e in
     let given = guarded (ltb longest_text (length (canonical_text h))) (fault 0 (codes.LimitHeader (length (canonical_text h)))) (Ok (canonical_header h)) file.0 file.1 in
     let same : canonical_header h ≡ file.0 = ok_is given.1 in
     let read = bind_ok (header_of file.0) _ k file.2 in
@@ -249,7 +242,7 @@ head_itself h =
     rw (same_text h.description, same_option h.narrative, all) refl
 
 pub spelled_made : (h : Head) → IsHeader h (canonical_header h) → new_of h ≡ Ok h
-unfolding new_of file_of
+unfolding new_of text_file
 spelled_made h s =
     let front = number h.order w32 (length (canonical_text h)) in
     let long : length (canonical_text h) ≡ length s.text =

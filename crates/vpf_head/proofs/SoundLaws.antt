@@ -5,6 +5,9 @@ use Rattle.std.specs.List.{list_any, All, AllByRecursion, IsDistinct}
 use Rattle.std.proofs.lemmas.Bool.{eqb-true, eq-eqb, ltb-false}
 use Rattle.std.proofs.lemmas.List.Elements.{All-head, All-tail}
 use Rattle.std.proofs.lemmas.List.{append-nil, map_push, length-append, length-take, length-drop}
+use Rattle.vpf_base.specs.Limits.{most_columns, longest_text}
+use Rattle.vpf_base.proofs.Results.{passed, guarded, bind_ok, ok_is}
+use Rattle.vpf_base.proofs.Booleans.{neither}
 use Rattle.vpf_triplet.specs.declared.kinds.Count.{Count}
 use Rattle.vpf_triplet.specs.declared.kinds.Count.TheVariants.{Fixed, Star}
 use Rattle.vpf_triplet.specs.declared.orders.Order.{Order}
@@ -25,8 +28,7 @@ use Rattle.vpf_head.specs.Items.{text_at, name_at}
 use Rattle.vpf_head.specs.Reading.{columns_at, end_at, close_at, after_mark, order_of, head_at, header_of}
 use Rattle.vpf_head.specs.Spelling.{IsName, IsBareCount, narrative_item, ending_text, IsColumn, IsColumns}
 use Rattle.vpf_head.specs.Soundness.{IsInBounds, IsCounted, IsWritten, IsSpelled, IsSound}
-use Rattle.vpf_head.specs.Texts.{is_marked, most_columns, longest_text}
-use Rattle.vpf_head.proofs.Binding.{neither, passed, guarded, bind_ok, ok_is}
+use Rattle.vpf_head.specs.Texts.{has_mark}
 use Rattle.vpf_head.proofs.ColumnLaws.{measured}
 use Rattle.vpf_head.proofs.FieldLaws.{key_back}
 use Rattle.vpf_head.proofs.HeadLaws.{nowhere, columns_take}
@@ -150,7 +152,7 @@ head_sound order text h past short e =
     let c = columns_take most_columns [] text narrative.0.past cols.0.0 cols.0.1 cols.1 in
     let filled = passed (list_any holds_data cols.0.0) (fault cols.0.1 codes.NoData) (end_at text (cols.0.1 + 1)) close.0 close.1 in
     let more = c.is in
-    let marked = mark_past (is_marked (drop 4 text)) in
+    let marked = mark_past (has_mark (drop 4 text)) in
     let few : length description.0.text ≤ longest_text = within text at description.0.text (description.0.stop ∷ drop description.0.past text) d.1.split marked short in
     let some : length c.span.bytes ≤ longest_text = within text narrative.0.past c.span.bytes (drop cols.0.1 text) c.span.split (omega (arith, marked, d.1.past_is, n.1.past_is)) short in
     subst IsSound (ap (λ (x : Head × ℕ). x.0) (ok_is {x = (record { order = order; description = description.0.text; narrative = present narrative.0.text; columns = cols.0.0 }, close.0)} {y = (h, past)} close.2))

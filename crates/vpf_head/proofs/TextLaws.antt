@@ -4,6 +4,9 @@ use Rattle.std.specs.Prelude.{◌||◌}
 use Rattle.std.specs.List.{list_any, list_all, starts_with}
 use Rattle.std.proofs.lemmas.Bool.{eqb-true}
 use Rattle.std.proofs.lemmas.List.{drop-drop, length-append, length-drop, append-nil}
+use Rattle.vpf_base.specs.Limits.{most_columns}
+use Rattle.vpf_base.proofs.Results.{passed, bind_ok, ok_is}
+use Rattle.vpf_base.proofs.Booleans.{both, neither}
 use Rattle.vpf_triplet.specs.declared.orders.Order.{Order}
 use Rattle.vpf_triplet.specs.declared.orders.Order.TheVariants.{Little, Big}
 use Rattle.vpf_triplet.specs.declared.places.Code.TheVariants as codes
@@ -15,8 +18,7 @@ use Rattle.vpf_head.specs.Head.{Head, Col, holds_data}
 use Rattle.vpf_head.specs.Items.{Item, text_at, name_at}
 use Rattle.vpf_head.specs.Reading.{columns_at, end_at, close_at, after_mark, order_of, head_at}
 use Rattle.vpf_head.specs.Spelling.{IsText, IsName, IsColumns, mark_of, IsMark, IsHeaderText}
-use Rattle.vpf_head.specs.Texts.{little_mark, big_mark, is_marked, most_columns, is_blank}
-use Rattle.vpf_head.proofs.Binding.{both, neither, passed, bind_ok, ok_is}
+use Rattle.vpf_head.specs.Texts.{little_mark, big_mark, has_mark, is_blank}
 use Rattle.vpf_head.proofs.ItemLaws.{text_again, name_again, behind, Takes, text_takes, name_takes}
 use Rattle.vpf_head.proofs.HeadLaws.{columns_again, closing_split, TakesColumns, columns_take, end_again, end_takes}
 
@@ -40,7 +42,7 @@ mark_again order mark items rest text long is e = elim is [
     marked Little t r f = record { order_is = rw f refl; items_at = rw f (sym (drop-drop 2 4 t) ∙ ap (drop 2) f) }
     marked Big t r f = record { order_is = rw f refl; items_at = rw f (sym (drop-drop 2 4 t) ∙ ap (drop 2) f) }
 
-    unmarked : (i r t : List ℕ) → 2 ≤ length i → is_marked i ≡ false → drop 4 t ≡ i ++ r → Marks Little t (i ++ r)
+    unmarked : (i r t : List ℕ) → 2 ≤ length i → has_mark i ≡ false → drop 4 t ≡ i ++ r → Marks Little t (i ++ r)
     unmarked [] r t l bare f = absurd (omega arith)
     unmarked (a ∷ []) r t l bare f = absurd (omega arith)
     unmarked (a ∷ b ∷ i) r t l bare f =
@@ -159,7 +161,7 @@ head_long order text h past e =
     let n = name_takes Heading text description.0.past narrative.0 narrative.1 in
     let c = columns_take most_columns [] text narrative.0.past cols.0.0 cols.0.1 cols.1 in
     room (after_mark text) (length description.0.text) (length narrative.0.text) (length c.span.bytes) description.0.past narrative.0.past cols.0.1 (length text) (length (drop (cols.0.1 + 1) text))
-    (mark_past (is_marked (drop 4 text))) d.1.past_is n.1.past_is c.span.past_is (sym (length-drop cols.0.1 text) ∙ ap length (closing_split text cols.0.1 c.closed))
+    (mark_past (has_mark (drop 4 text))) d.1.past_is n.1.past_is c.span.past_is (sym (length-drop cols.0.1 text) ∙ ap length (closing_split text cols.0.1 c.closed))
   where
     room : (at a b c p q r whole left : ℕ) → 4 ≤ at → p ≡ at + a + 1 → q ≡ p + b + 1 → r ≡ q + c → whole - r ≡ suc left → 6 ≤ whole
     room at a b c p q r whole left e1 e2 e3 e4 e5 = omega arith

@@ -3,6 +3,7 @@
 use Rattle.std.specs.Prelude.{◌≡◌, ℕ, ◌+◌, ◌<◌, ◌≤◌, ◌≢◌, Bool, true, false, List, [], ◌∷◌, ◌++◌, length, take, drop, Some, None, is_some}
 use Rattle.std.specs.Int.{w32}
 use Rattle.std.specs.List.{list_any, list_all}
+use Rattle.vpf_base.specs.Limits.{longest_name, longest_text, most_columns}
 use Rattle.vpf_triplet.specs.declared.kinds.Kind.{Kind}
 use Rattle.vpf_triplet.specs.declared.kinds.Count.{Count}
 use Rattle.vpf_triplet.specs.declared.places.Place.{Place}
@@ -16,11 +17,11 @@ use Rattle.vpf_head.specs.declared.items.Form.{Form}
 use Rattle.vpf_head.specs.declared.items.Form.TheVariants.{Heading, Name, Field, Last}
 use Rattle.vpf_head.specs.Bytes.{semicolon, comma, colon, equals}
 use Rattle.vpf_head.specs.Fields.{letter_key}
-use Rattle.vpf_head.specs.Forms.{is_stop, is_separator, holds_control, longest_name}
+use Rattle.vpf_head.specs.Forms.{is_stop, is_separator, holds_control}
 use Rattle.vpf_head.specs.Head.{Col, place_of, holds_data}
 use Rattle.vpf_head.specs.Reading.{order_of, after_mark}
 use Rattle.vpf_head.specs.Spelling.{IsOpen, IsText, IsName, IsCount, IsColumns}
-use Rattle.vpf_head.specs.Texts.{number_bytes, longest_text, most_columns, is_blank}
+use Rattle.vpf_head.specs.Texts.{number_bytes, is_blank}
 
 -- the text's bytes from one offset to another are these
 pub record Lies (text : List ℕ) (from to : ℕ) (bytes : List ℕ) : Type 0 where
@@ -28,7 +29,7 @@ pub record Lies (text : List ℕ) (from to : ℕ) (bytes : List ℕ) : Type 0 wh
   pub size : to ≡ from + length bytes
 
 -- the bytes begin with an item and the byte that ends it
-pub record Begins (form : Form) (item : List ℕ) (stop : ℕ) (bytes : List ℕ) : Type 0 where
+pub record BeginsItem (form : Form) (item : List ℕ) (stop : ℕ) (bytes : List ℕ) : Type 0 where
   pub rest : List ℕ
   pub open_ended : IsOpen form item
   pub stops : is_stop form stop ≡ true
@@ -39,11 +40,11 @@ pub data ItemFault (form : Form) (named : Bool) (bytes : List ℕ) : Code → Ty
   -- no byte ends it
   endless : IsOpen form bytes → ItemFault form named bytes codes.ItemEnd
   -- another byte ends it than may
-  misended : (item : List ℕ) (stop : ℕ) → Begins form item stop bytes → is_separator form stop ≡ false → ItemFault form named bytes codes.ItemSeparator
+  misended : (item : List ℕ) (stop : ℕ) → BeginsItem form item stop bytes → is_separator form stop ≡ false → ItemFault form named bytes codes.ItemSeparator
   -- a name is too long
-  long : (item : List ℕ) (stop : ℕ) → Begins form item stop bytes → is_separator form stop ≡ true → named ≡ true → longest_name < length item → ItemFault form named bytes (codes.LimitName (length item))
+  long : (item : List ℕ) (stop : ℕ) → BeginsItem form item stop bytes → is_separator form stop ≡ true → named ≡ true → longest_name < length item → ItemFault form named bytes (codes.LimitName (length item))
   -- it holds a control byte
-  controlled : (item : List ℕ) (stop : ℕ) → Begins form item stop bytes → is_separator form stop ≡ true → (named ≡ true → length item ≤ longest_name) → holds_control item ≡ true → ItemFault form named bytes codes.ItemByte
+  controlled : (item : List ℕ) (stop : ℕ) → BeginsItem form item stop bytes → is_separator form stop ≡ true → (named ≡ true → length item ≤ longest_name) → holds_control item ≡ true → ItemFault form named bytes codes.ItemByte
 
 -- the next item of a column definition, with the kind that a count has to fit
 pub data Next : Type 0 where
@@ -70,7 +71,7 @@ pub data IsBeginning (before : List Col) : Next → List ℕ → Type 0 where
   narrated : (bytes item : List ℕ) → IsBeginning before narrative bytes → IsName Last item → IsBeginning before colon_after (bytes ++ (item ++ comma ∷ []))
 
 -- the bytes begin with a text that says nothing here
-pub record Says (nothing : List ℕ → Type 0) (bytes : List ℕ) : Type 0 where
+pub record SaysNothing (nothing : List ℕ → Type 0) (bytes : List ℕ) : Type 0 where
   pub item : List ℕ
   pub rest : List ℕ
   pub text : IsText Field item
@@ -95,11 +96,11 @@ pub data Refuses (before : List Col) (bytes : List ℕ) : Next → Code → Type
   no_name : (rest : List ℕ) → bytes ≡ equals ∷ rest → Refuses before bytes name codes.NameEmpty
   same_name : (w rest : List ℕ) → IsName Name w → 0 < length w → bytes ≡ w ++ equals ∷ rest → is_some (place_of w before) ≡ true → Refuses before bytes name codes.NameRepeat
   bad_kind : (code : Code) → ItemFault Field false bytes code → Refuses before bytes kind code
-  no_kind : Says IsNoKind bytes → Refuses before bytes kind codes.Kind
+  no_kind : SaysNothing IsNoKind bytes → Refuses before bytes kind codes.Kind
   bad_count : (k : Kind) (code : Code) → ItemFault Field false bytes code → Refuses before bytes (count k) code
-  no_count : (k : Kind) → Says (IsNoCount k) bytes → Refuses before bytes (count k) codes.Count
+  no_count : (k : Kind) → SaysNothing (IsNoCount k) bytes → Refuses before bytes (count k) codes.Count
   bad_key : (code : Code) → ItemFault Field false bytes code → Refuses before bytes key code
-  no_key : Says IsNoKey bytes → Refuses before bytes key codes.Key
+  no_key : SaysNothing IsNoKey bytes → Refuses before bytes key codes.Key
   bad_description : (code : Code) → ItemFault Field false bytes code → Refuses before bytes description code
   bad_values : (code : Code) → ItemFault Field true bytes code → Refuses before bytes values code
   bad_theme : (code : Code) → ItemFault Last true bytes code → Refuses before bytes theme code
@@ -129,8 +130,8 @@ abbrev pub length_number : List ℕ → ℕ
 length_number bytes = number_of (order_of bytes) w32 bytes
 
 -- the first fault of the bytes
-pub data FirstFault (bytes : List ℕ) : Place → Type 0 where
-  number_cut : length bytes < number_bytes → FirstFault bytes (fault 0 codes.NumberCut)
-  limit_header : number_bytes ≤ length bytes → longest_text < length_number bytes → FirstFault bytes (fault 0 (codes.LimitHeader (length_number bytes)))
-  header_cut : number_bytes ≤ length bytes → length_number bytes ≤ longest_text → length bytes < number_bytes + length_number bytes → FirstFault bytes (fault number_bytes codes.HeaderCut)
-  in_text : (at : ℕ) (code : Code) → length_number bytes ≤ longest_text → number_bytes + length_number bytes ≤ length bytes → TextFault (take (number_bytes + length_number bytes) bytes) at code → FirstFault bytes (fault at code)
+pub data FirstHeaderFault (bytes : List ℕ) : Place → Type 0 where
+  number_cut : length bytes < number_bytes → FirstHeaderFault bytes (fault 0 codes.NumberCut)
+  limit_header : number_bytes ≤ length bytes → longest_text < length_number bytes → FirstHeaderFault bytes (fault 0 (codes.LimitHeader (length_number bytes)))
+  header_cut : number_bytes ≤ length bytes → length_number bytes ≤ longest_text → length bytes < number_bytes + length_number bytes → FirstHeaderFault bytes (fault number_bytes codes.HeaderCut)
+  in_text : (at : ℕ) (code : Code) → length_number bytes ≤ longest_text → number_bytes + length_number bytes ≤ length bytes → TextFault (take (number_bytes + length_number bytes) bytes) at code → FirstHeaderFault bytes (fault at code)

@@ -1,25 +1,15 @@
 -- What the items of a column definition say (MIL-STD-2407, 5.4, table header: column definitions).
 use Rattle.std.specs.Prelude.{ℕ, ◌&&◌, not, bytes_eq, List, [], ◌∷◌, length, Option, Some, None, nat_le, ◌==◌, if◌then◌else◌}
 use Rattle.std.specs.Char.{is_ascii_digit, is_ascii_uppercase, encode_utf8}
-use Rattle.std.specs.List.{list_all, find}
+use Rattle.std.specs.List.{list_all}
 use Rattle.std.specs.Str.Parse.{digits_value}
 use Rattle.std.specs.Prelude.{codes as text}
-use Rattle.vpf_triplet.specs.declared.kinds.Kind.{Kind}
-use Rattle.vpf_triplet.specs.declared.kinds.Kind.TheVariants as kinds
+use Rattle.vpf_base.specs.Limits.{most_values}
 use Rattle.vpf_triplet.specs.declared.kinds.Count.{Count}
 use Rattle.vpf_triplet.specs.declared.kinds.Count.TheVariants.{Fixed, Star}
-use Rattle.vpf_triplet.specs.Kinds.{kind_text}
 use Rattle.vpf_head.specs.declared.columns.Key.{Key}
 use Rattle.vpf_head.specs.declared.columns.Key.TheVariants.{Primary, Unique, Many, Other}
 use Rattle.vpf_head.specs.Bytes.{hyphen, star, space}
-
--- every kind
-abbrev pub every_kind : List Kind
-every_kind = kinds.T ∷ kinds.L ∷ kinds.M ∷ kinds.N ∷ kinds.F ∷ kinds.R ∷ kinds.S ∷ kinds.I ∷ kinds.D ∷ kinds.X ∷ kinds.K ∷ kinds.C ∷ kinds.B ∷ kinds.Z ∷ kinds.Y ∷ []
-
--- the kind whose letter the item is
-abbrev pub kind_of : List ℕ → Option Kind
-kind_of item = find (λ kind. bytes_eq item (kind_text kind)) every_kind
 
 -- the letter of a key in a header
 abbrev pub key_text : Key → List ℕ
@@ -46,10 +36,6 @@ key_of item = None
 abbrev pub after_spaces : List ℕ → List ℕ
 after_spaces [] = []
 after_spaces (b ∷ item) = if b == space then after_spaces item else b ∷ item
-
--- the largest count, as many bytes as a file may have
-abbrev pub most_values : ℕ
-most_values = 67108864
 
 -- the count that digits give
 abbrev pub digits_count : List ℕ → Option Count

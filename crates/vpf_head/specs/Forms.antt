@@ -23,7 +23,3 @@ is_separator Last b = b == comma || b == colon
 -- a control byte stands in the item
 abbrev pub holds_control : List ℕ → Bool
 holds_control item = list_any is_ascii_control item
-
--- the longest name of a column or a file
-abbrev pub longest_name : ℕ
-longest_name = 255

@@ -1,10 +1,12 @@
 -- Reading the items of a header text, one after another. Offsets count the file's bytes, and the text ends where the list ends.
 use Rattle.std.specs.Prelude.{ℕ, ◌+◌, List, length, drop, take, Option, Some, None, Result, Ok, Err, nat_lt, if◌then◌else◌, position, slice_index}
+use Rattle.vpf_base.specs.Limits.{longest_name}
+use Rattle.vpf_base.specs.Results.{◌>>=◌}
 use Rattle.vpf_triplet.specs.declared.places.Place.{Place}
 use Rattle.vpf_triplet.specs.declared.places.Code.TheVariants as codes
-use Rattle.vpf_triplet.specs.Places.{◌>>=◌, fault}
+use Rattle.vpf_triplet.specs.Places.{fault}
 use Rattle.vpf_head.specs.declared.items.Form.{Form}
-use Rattle.vpf_head.specs.Forms.{is_stop, is_separator, holds_control, longest_name}
+use Rattle.vpf_head.specs.Forms.{is_stop, is_separator, holds_control}
 
 -- an item: its text, the byte that ended it, and the offset past that byte
 pub record Item : Type 0 where

@@ -1,13 +1,14 @@
 -- Making a header of parts: its canonical text has to be read as these parts (MIL-STD-2407, 5.4, table header).
 use Rattle.std.specs.Prelude.{ℕ, ◌+◌, Bool, true, false, List, [], ◌∷◌, length, Option, Result, Ok, Err, bytes_eq, nat_lt, ◌==◌, if◌then◌else◌}
 use Rattle.std.specs.Option.{option_eq}
-use Rattle.vpf_triplet.specs.declared.kinds.Kind.{Kind}
+use Rattle.vpf_base.specs.Limits.{longest_text}
+use Rattle.vpf_base.specs.Results.{◌>>=◌}
 use Rattle.vpf_triplet.specs.declared.kinds.Count.{Count}
 use Rattle.vpf_triplet.specs.declared.kinds.Count.TheVariants.{Fixed, Star}
 use Rattle.vpf_triplet.specs.declared.places.Place.{Place}
 use Rattle.vpf_triplet.specs.declared.places.Code.TheVariants as codes
-use Rattle.vpf_triplet.specs.Kinds.{kind_text, count_text}
-use Rattle.vpf_triplet.specs.Places.{◌>>=◌, fault}
+use Rattle.vpf_triplet.specs.Kinds.{kind_text, count_text, same_kind}
+use Rattle.vpf_triplet.specs.Places.{fault}
 use Rattle.vpf_head.specs.declared.columns.Key.{Key}
 use Rattle.vpf_head.specs.declared.columns.Key.TheVariants.{Primary, Unique, Many, Other}
 use Rattle.vpf_head.specs.Canonical.{name_text, canonical_text, canonical_header}
@@ -15,11 +16,7 @@ use Rattle.vpf_head.specs.Fields.{key_text}
 use Rattle.vpf_head.specs.Head.{Head, Col}
 use Rattle.vpf_head.specs.Reading.{header_of}
 use Rattle.vpf_head.specs.Spelling.{mark_of}
-use Rattle.vpf_head.specs.Texts.{number_bytes, longest_text}
-
--- the two are one kind, which their letters tell
-abbrev pub same_kind : Kind → Kind → Bool
-same_kind k l = bytes_eq (kind_text k) (kind_text l)
+use Rattle.vpf_head.specs.Texts.{number_bytes}
 
 -- the two are one count
 abbrev pub same_count : Count → Count → Bool
@@ -76,8 +73,8 @@ read_as_given given read = do
   Ok given
 
 -- the file of the canonical text, which may not be too long
-unfoldable pub file_of : Head → Result (List ℕ) Place
-file_of given =
+unfoldable pub text_file : Head → Result (List ℕ) Place
+text_file given =
     if nat_lt longest_text (length (canonical_text given)) then Err (fault 0 (codes.LimitHeader (length (canonical_text given))))
     else Ok (canonical_header given)
 
@@ -85,6 +82,6 @@ file_of given =
 -- another.
 unfoldable pub new_of : Head → Result Head Place
 new_of given = do
-  file ← file_of given
+  file ← text_file given
   read ← header_of file
   read_as_given given read.0

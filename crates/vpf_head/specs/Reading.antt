@@ -2,6 +2,8 @@
 use Rattle.std.specs.Prelude.{ℕ, zero, suc, ◌+◌, Bool, not, nat_eq, List, [], ◌∷◌, ◌++◌, length, drop, take, Option, Some, None, is_some, Result, Ok, Err, nat_lt, ◌==◌, if◌then◌else◌, slice_get, position}
 use Rattle.std.specs.List.{list_any, starts_with}
 use Rattle.std.specs.Int.{w32}
+use Rattle.vpf_base.specs.Limits.{longest_text, most_columns}
+use Rattle.vpf_base.specs.Results.{◌>>=◌}
 use Rattle.vpf_triplet.specs.declared.orders.Order.{Order}
 use Rattle.vpf_triplet.specs.declared.orders.Order.TheVariants.{Little, Big}
 use Rattle.vpf_triplet.specs.declared.kinds.Kind.{Kind}
@@ -9,16 +11,16 @@ use Rattle.vpf_triplet.specs.declared.kinds.Count.{Count}
 use Rattle.vpf_triplet.specs.declared.places.Place.{Place}
 use Rattle.vpf_triplet.specs.declared.places.Code.{Code}
 use Rattle.vpf_triplet.specs.declared.places.Code.TheVariants as codes
-use Rattle.vpf_triplet.specs.Kinds.{allows}
+use Rattle.vpf_triplet.specs.Kinds.{allows, kind_of}
 use Rattle.vpf_triplet.specs.Numbers.{number_of}
-use Rattle.vpf_triplet.specs.Places.{◌>>=◌, fault}
+use Rattle.vpf_triplet.specs.Places.{fault}
 use Rattle.vpf_head.specs.declared.columns.Key.{Key}
 use Rattle.vpf_head.specs.declared.items.Form.TheVariants.{Heading, Name, Field, Last}
 use Rattle.vpf_head.specs.Bytes.{semicolon, colon}
 use Rattle.vpf_head.specs.Head.{Head, Col, place_of, holds_data}
-use Rattle.vpf_head.specs.Fields.{kind_of, key_of, count_in, present}
+use Rattle.vpf_head.specs.Fields.{key_of, count_in, present}
 use Rattle.vpf_head.specs.Items.{text_at, name_at}
-use Rattle.vpf_head.specs.Texts.{number_bytes, longest_text, most_columns, big_mark, is_marked, is_blank}
+use Rattle.vpf_head.specs.Texts.{number_bytes, big_mark, has_mark, is_blank}
 
 -- a value that is there, or the code at this offset
 abbrev pub wanted : {X : Type 0} → ℕ → Code → Option X → Result X Place
@@ -114,7 +116,7 @@ close_at columns text at = if list_any holds_data columns then end_at text (at +
 
 -- the offset of the table's description
 abbrev pub after_mark : List ℕ → ℕ
-after_mark text = if is_marked (drop number_bytes text) then number_bytes + length big_mark else number_bytes
+after_mark text = if has_mark (drop number_bytes text) then number_bytes + length big_mark else number_bytes
 
 -- the order of a file's numbers
 abbrev pub order_of : List ℕ → Order

@@ -1,17 +1,17 @@
 -- What is true of each header: a table can rely on its columns, and its canonical text is read again as it.
 use Rattle.std.specs.Prelude.{◌≡◌, ℕ, ◌<◌, ◌≤◌, true, List, length, Option, Some}
 use Rattle.std.specs.List.{list_any, IsDistinct, All}
+use Rattle.vpf_base.specs.Limits.{most_values, longest_text, most_columns}
 use Rattle.vpf_triplet.specs.declared.kinds.Count.{Count}
 use Rattle.vpf_triplet.specs.declared.kinds.Count.TheVariants.{Fixed, Star}
 use Rattle.vpf_triplet.specs.Kinds.{allows}
 use Rattle.vpf_head.specs.declared.items.Form.{Form}
 use Rattle.vpf_head.specs.declared.items.Form.TheVariants.{Heading, Name, Field, Last}
 use Rattle.vpf_head.specs.Canonical.{name_text}
-use Rattle.vpf_head.specs.Fields.{most_values, key_text, key_of, present}
+use Rattle.vpf_head.specs.Fields.{key_text, key_of, present}
 use Rattle.vpf_head.specs.Folding.{same_name}
 use Rattle.vpf_head.specs.Head.{Head, Col, names, holds_data}
 use Rattle.vpf_head.specs.Spelling.{IsText, IsName}
-use Rattle.vpf_head.specs.Texts.{longest_text, most_columns}
 
 -- a count from 1 to the most
 abbrev pub IsInBounds : Count → Type 0

@@ -3,6 +3,7 @@ use Rattle.std.specs.Prelude.{◌≡◌, ℕ, ◌<◌, ◌≤◌, ◌⊎◌, tru
 use Rattle.std.specs.Int.{w32}
 use Rattle.std.specs.List.{list_any, list_all}
 use Rattle.std.specs.Str.Parse.{IsNumeral, digits_value}
+use Rattle.vpf_base.specs.Limits.{most_values, longest_name, longest_text, most_columns}
 use Rattle.vpf_triplet.specs.declared.orders.Order.{Order}
 use Rattle.vpf_triplet.specs.declared.orders.Order.TheVariants.{Little}
 use Rattle.vpf_triplet.specs.declared.kinds.Count.{Count}
@@ -13,9 +14,9 @@ use Rattle.vpf_head.specs.declared.items.Form.{Form}
 use Rattle.vpf_head.specs.declared.items.Form.TheVariants.{Heading, Name, Field, Last}
 use Rattle.vpf_head.specs.Bytes.{semicolon, comma, colon, equals, space, star}
 use Rattle.vpf_head.specs.Head.{Head, Col, place_of, holds_data}
-use Rattle.vpf_head.specs.Fields.{letter_key, most_values, present}
-use Rattle.vpf_head.specs.Forms.{is_stop, holds_control, longest_name}
-use Rattle.vpf_head.specs.Texts.{longest_text, most_columns, is_marked, is_blank}
+use Rattle.vpf_head.specs.Fields.{letter_key, present}
+use Rattle.vpf_head.specs.Forms.{is_stop, holds_control}
+use Rattle.vpf_head.specs.Texts.{has_mark, is_blank}
 
 -- an item: no byte of it ends it
 abbrev pub IsOpen : Form → List ℕ → Type 0
@@ -104,7 +105,7 @@ mark_of order = order_text order ++ semicolon ∷ []
 
 -- the mark of the order stands before the items, or is missing: the order is then L, and the items don't begin like a mark
 abbrev pub IsMark : Order → List ℕ → List ℕ → Type 0
-IsMark order mark items = (mark ≡ mark_of order) ⊎ ((mark ≡ []) × (order ≡ Little) × (is_marked items ≡ false))
+IsMark order mark items = (mark ≡ mark_of order) ⊎ ((mark ≡ []) × (order ≡ Little) × (has_mark items ≡ false))
 
 -- the bytes are a header text of these parts
 pub record IsHeaderText (h : Head) (bytes : List ℕ) : Type 0 where

@@ -17,16 +17,8 @@ abbrev pub big_mark : List ℕ
 big_mark = text "M;"
 
 -- a text begins with a mark
-abbrev pub is_marked : List ℕ → Bool
-is_marked text = starts_with nat_eq text little_mark || starts_with nat_eq text big_mark
-
--- the longest header text
-abbrev pub longest_text : ℕ
-longest_text = 65536
-
--- the most columns of a table
-abbrev pub most_columns : ℕ
-most_columns = 256
+abbrev pub has_mark : List ℕ → Bool
+has_mark text = starts_with nat_eq text little_mark || starts_with nat_eq text big_mark
 
 -- what may follow the columns
 abbrev pub is_blank : ℕ → Bool

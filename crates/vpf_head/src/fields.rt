@@ -5,37 +5,12 @@ ghost use Rattle.std.specs.Char.{is_ascii_digit};
 ghost use Rattle.std.specs.List.{list_all};
 ghost use Rattle.std.specs.Option.{option_copied};
 ghost use Rattle.std.specs.Str.Parse.{digits_value};
-ghost use Rattle.vpf_head.specs.Fields.{kind_of, letter_key, key_of, after_spaces, most_values, digits_count, count_in, present};
+ghost use Rattle.vpf_base.specs.Limits.{most_values};
+ghost use Rattle.vpf_head.specs.Fields.{letter_key, key_of, after_spaces, digits_count, count_in, present};
 
 use crate::columns::Key;
+use vpf_base::limits::MOST_VALUES;
 use vpf_triplet::{Count, Kind};
-
-/// The largest count of a column.
-const MOST_VALUES: u32 = 67_108_864;
-
-/// The kind whose letter the item is.
-pub fn kind_of(item: &[u8]) -> Option<Kind>
-    ensures { result ≡ kind_of item.now }
-{
-    match item {
-        b"T" => Some(Kind::T),
-        b"L" => Some(Kind::L),
-        b"M" => Some(Kind::M),
-        b"N" => Some(Kind::N),
-        b"F" => Some(Kind::F),
-        b"R" => Some(Kind::R),
-        b"S" => Some(Kind::S),
-        b"I" => Some(Kind::I),
-        b"D" => Some(Kind::D),
-        b"X" => Some(Kind::X),
-        b"K" => Some(Kind::K),
-        b"C" => Some(Kind::C),
-        b"B" => Some(Kind::B),
-        b"Z" => Some(Kind::Z),
-        b"Y" => Some(Kind::Y),
-        _ => None,
-    }
-}
 
 fn letter_key(letter: u8) -> Option<Key>
     ensures { result ≡ letter_key letter }

@@ -3,12 +3,13 @@
 ghost use Rattle.std.specs.Prelude.{◌≡◌, ◌+◌, ◌<◌, ◌≤◌, ◌++◌, ◌||◌, not, IfOk, IfSome, OnOk, Some, map, length, position, take, vec_len};
 ghost use Rattle.std.specs.List.{list_any};
 ghost use Rattle.indexmap.specs.IndexMap.{values, index_map_len};
+ghost use Rattle.vpf_base.specs.Limits.{longest_text};
 ghost use Rattle.vpf_triplet.specs.Places.{Gives, Answers};
 ghost use Rattle.vpf_head.specs.Canonical.{canonical_header, canonical_text};
 ghost use Rattle.vpf_head.specs.Head.{is_data, is_triplet, is_star, with_kind};
 ghost use Rattle.vpf_head.specs.Making.{new_of};
 ghost use Rattle.vpf_head.specs.Reading.{end_at, after_mark, order_of, head_at, header_of};
-ghost use Rattle.vpf_head.specs.Texts.{is_blank, longest_text};
+ghost use Rattle.vpf_head.specs.Texts.{is_blank};
 ghost use Rattle.vpf_head.specs.Views.{col, head_given, AreNamed};
 
 use crate::columns::Column;
@@ -16,10 +17,11 @@ use crate::fields::present;
 use crate::items::{Form, name_at, text_at};
 use crate::making::{Parts, columns_of, file_of, next_after_name, next_after_text, past_columns};
 use crate::names::ColumnName;
-use crate::reading::{Columns, LONGEST_TEXT, column_of, columns_at};
+use crate::reading::{Columns, column_of, columns_at};
 use crate::writing::{columns_len, name_len, put_columns, put_item, put_start};
 use std::alloc::{AllocError, Global};
 use std::marker::Model;
+use vpf_base::limits::LONGEST_TEXT;
 use vpf_triplet::{Code, Count, Kind, Order, Place, PlaceError};
 
 /// How many bytes the length number has.
@@ -227,14 +229,14 @@ impl<'a> Header<'a> {
     ghost use Rattle.vpf_triplet.specs.declared.kinds.Count.TheVariants.{Fixed};
     ghost use Rattle.vpf_triplet.specs.Places.{Answers, ForPlace};
     ghost use Rattle.vpf_head.specs.Canonical.{canonical_header, canonical_text};
-    ghost use Rattle.vpf_head.specs.Deciding.{Begins};
-    ghost use Rattle.vpf_head.specs.Faults.{FirstFault};
+    ghost use Rattle.vpf_head.specs.Deciding.{BeginsHeader};
+    ghost use Rattle.vpf_head.specs.Faults.{FirstHeaderFault};
     ghost use Rattle.vpf_head.specs.Head.{Head, names_rows, place_of, varies_in, with_kind};
     ghost use Rattle.vpf_head.specs.Making.{new_of};
     ghost use Rattle.vpf_head.specs.Reading.{header_of};
     ghost use Rattle.vpf_head.specs.Soundness.{IsSound};
     ghost use Rattle.vpf_head.specs.Spelling.{IsHeader};
-    ghost use Rattle.vpf_head.specs.Texts.{longest_text};
+    ghost use Rattle.vpf_base.specs.Limits.{longest_text};
     ghost use Rattle.vpf_head.specs.Views.{col, head_of_parts};
 
     /// The header of a file, and the offset of its first row in bytes. Refused exactly where the file begins with no
@@ -244,11 +246,11 @@ impl<'a> Header<'a> {
         // What is read is spelled so, up to the first row.
         ensures found { IfOk result (λ r. IsHeader r.0 (take r.1 bytes.now)) }
         // What is spelled so is read, whatever rows follow.
-        ensures only { (h : Head) (text rest : List ℕ) → Begins bytes.now h text rest → Answers (λ r. r) result (Ok (h, length text)) }
+        ensures only { (h : Head) (text rest : List ℕ) → BeginsHeader bytes.now h text rest → Answers (λ r. r) result (Ok (h, length text)) }
         // The header and where it ends, or the first fault.
         ensures exact { Answers (λ r. r) result (header_of bytes.now) }
         // What is refused has this first fault.
-        ensures refused { IfErr result (ForPlace (FirstFault bytes.now)) }
+        ensures refused { IfErr result (ForPlace (FirstHeaderFault bytes.now)) }
         // The first row begins inside the file or at its end.
         ensures inside { IfOk result (λ r. r.1 ≤ length bytes.now) }
     {
@@ -270,7 +272,8 @@ impl<'a> Header<'a> {
         // Its file spells it.
         ensures spelled { IfOk result (λ h. IsHeader h (canonical_header h)) }
         // Parts that their file spells are not refused.
-        ensures only { let given = head_of_parts order description.now (option_copied narrative.entry) columns.entry.items in IsHeader given (canonical_header given) → Answers (λ h. h) result (Ok given) }
+        ensures only { let given = head_of_parts order description.now (option_copied narrative.entry) columns.entry.items in IsHeader given
+            (canonical_header given) → Answers (λ h. h) result (Ok given) }
         // The header, or the fault of its file, or the first part that differs.
         ensures exact { Answers (λ h. h) result (new_of (head_of_parts order description.now (option_copied narrative.entry) columns.entry.items)) }
     {

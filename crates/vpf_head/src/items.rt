@@ -6,10 +6,8 @@ ghost use Rattle.vpf_head.specs.Items.{item_at, text_at, name_at};
 ghost use Rattle.vpf_head.specs.Forms.{is_stop, is_separator, holds_control};
 ghost use Rattle.vpf_head.specs.Views.{item};
 
+use vpf_base::limits::LONGEST_NAME;
 use vpf_triplet::{Code, Place};
-
-/// The longest name of a column or a file.
-const LONGEST_NAME: usize = 255;
 
 /// Which bytes end an item, and which of them may.
 #[derive(Clone, Copy, Debug, PartialEq, Eq)]

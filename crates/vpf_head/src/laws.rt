@@ -1,35 +1,36 @@
 //! Laws about the definitions of headers alone.
 
 ghost use Rattle.std.specs.Prelude.{◌≡◌, ◌≤◌, ◌++◌, ℕ, List, length, slice_get, take, IfSome, IsTrue, Ok, Err};
-ghost use Rattle.vpf_triplet.specs.Numbers.{IsBytes};
+ghost use Rattle.vpf_base.specs.Limits.{longest_text};
+ghost use Rattle.vpf_base.specs.Bytes.{IsBytes};
 ghost use Rattle.vpf_triplet.specs.declared.kinds.Count.TheVariants.{Fixed};
 ghost use Rattle.vpf_triplet.specs.declared.kinds.Kind.{Kind};
 ghost use Rattle.vpf_triplet.specs.declared.orders.Order.{Order};
 ghost use Rattle.vpf_triplet.specs.declared.places.Place.{Place};
 ghost use Rattle.vpf_head.specs.Canonical.{canonical_header, canonical_text};
-ghost use Rattle.vpf_head.specs.Deciding.{Begins, Decides};
-ghost use Rattle.vpf_head.specs.Faults.{FirstFault};
+ghost use Rattle.vpf_head.specs.Deciding.{BeginsHeader, DecidesHeader};
+ghost use Rattle.vpf_head.specs.Faults.{FirstHeaderFault};
 ghost use Rattle.vpf_head.specs.Head.{Head, names_rows, with_kind};
 ghost use Rattle.vpf_head.specs.Making.{new_of};
 ghost use Rattle.vpf_head.specs.Reading.{header_of};
 ghost use Rattle.vpf_head.specs.Soundness.{IsSound};
 ghost use Rattle.vpf_head.specs.Spelling.{IsHeader};
-ghost use Rattle.vpf_head.specs.Texts.{longest_text};
 
 /// Each list of bytes begins with the spelling of exactly one header, or has exactly one first
 /// fault, and never both. So no spelling is a proper beginning of another.
 pub fn headers_decide()
-    ensures { (bytes : List ℕ) → IsBytes bytes → Decides bytes }
+    ensures { (bytes : List ℕ) → IsBytes bytes → DecidesHeader bytes }
 {}
 
 /// What is spelled as a header is read as that header, whatever follows, and the first row begins where the spelling ends.
 pub fn spelled_is_read()
-    ensures { (bytes : List ℕ) (h : Head) (text rest : List ℕ) → Begins bytes h text rest → header_of bytes ≡ Ok (h, length text) }
+    ensures { (bytes : List ℕ) (h : Head) (text rest : List ℕ) → BeginsHeader bytes h text rest → header_of bytes ≡ Ok (h, length text) }
 {}
 
 /// What is read as a header is spelled so, up to where the first row begins.
 pub fn read_is_spelled()
-    ensures { (bytes : List ℕ) (h : Head) (start : ℕ) → IsBytes bytes → header_of bytes ≡ Ok (h, start) → (start ≤ length bytes) × IsHeader h (take start bytes) }
+    ensures { (bytes : List ℕ) (h : Head) (start : ℕ) → IsBytes bytes → header_of bytes ≡ Ok (h, start)
+        → (start ≤ length bytes) × IsHeader h (take start bytes) }
 {}
 
 /// A header that is read has from 1 to 256 columns, one at least of which holds data. Their counts are from 1 up and such
@@ -43,22 +44,24 @@ pub fn read_headers_are_sound()
 pub fn sound_headers_stay_sound()
     ensures as_read { (bytes : List ℕ) (h : Head) (start : ℕ) (order : Order) → header_of bytes ≡ Ok (h, start) → IsSound (record h { order = order }) }
     ensures in_each_order { (h : Head) (order : Order) → IsSound h → IsSound (record h { order = order }) }
-    ensures in_each_kind { (h : Head) (c : ℕ) (kind : Kind) → IfSome (slice_get h.columns c) (λ column. column.count ≡ Fixed 1) → IsTrue (names_rows kind) → IsSound h → IsSound (record h { columns = with_kind c kind h.columns }) }
+    ensures in_each_kind { (h : Head) (c : ℕ) (kind : Kind) → IfSome (slice_get h.columns c) (λ column. column.count ≡ Fixed 1) → IsTrue (names_rows kind)
+        → IsSound h → IsSound (record h { columns = with_kind c kind h.columns }) }
 {}
 
 /// The canonical text of a sound header, where it isn't too long, spells the header behind its length number, and is read
 /// again as it, whatever follows. It is as long in the other order.
 pub fn canonical_is_read()
     ensures spelled { (h : Head) → IsSound h → length (canonical_text h) ≤ longest_text → IsHeader h (canonical_header h) }
-    ensures read_again { (h : Head) (rest : List ℕ) → IsSound h → length (canonical_text h) ≤ longest_text → header_of (canonical_header h ++ rest) ≡ Ok (h, length (canonical_header h)) }
+    ensures read_again { (h : Head) (rest : List ℕ) → IsSound h → length (canonical_text h) ≤ longest_text
+        → header_of (canonical_header h ++ rest) ≡ Ok (h, length (canonical_header h)) }
     ensures as_long { (h : Head) (order : Order) → length (canonical_text (record h { order = order })) ≡ length (canonical_text h) }
 {}
 
 /// The place where bytes are refused is their first fault, and only that one: the parts before it are spelled, and the next
 /// part is refused there by the first of its rules that applies.
 pub fn refusals_are_first_faults()
-    ensures only { (bytes : List ℕ) (place : Place) → header_of bytes ≡ Err place → FirstFault bytes place }
-    ensures each { (bytes : List ℕ) (place : Place) → FirstFault bytes place → header_of bytes ≡ Err place }
+    ensures only { (bytes : List ℕ) (place : Place) → header_of bytes ≡ Err place → FirstHeaderFault bytes place }
+    ensures each { (bytes : List ℕ) (place : Place) → FirstHeaderFault bytes place → header_of bytes ≡ Err place }
 {}
 
 /// Parts make a header exactly where the file of their canonical text spells them, and then it has these parts. So sound parts

@@ -4,22 +4,23 @@ ghost use Rattle.std.specs.Prelude.{◌≡◌, ◌+◌, ◌<◌, ◌≤◌, ◌^
 ghost use Rattle.std.specs.List.{IsDistinct};
 ghost use Rattle.std.specs.Option.{option_copied};
 ghost use Rattle.indexmap.specs.IndexMap.{values};
-ghost use Rattle.vpf_triplet.specs.Kinds.{count_text};
+ghost use Rattle.vpf_base.specs.Limits.{longest_text};
+ghost use Rattle.vpf_triplet.specs.Kinds.{count_text, same_kind};
 ghost use Rattle.vpf_triplet.specs.Places.{Gives, Answers};
 ghost use Rattle.vpf_head.specs.Canonical.{name_text, column_text, columns_text, canonical_text};
 ghost use Rattle.vpf_head.specs.Fields.{key_text};
 ghost use Rattle.vpf_head.specs.Folding.{same_name};
 ghost use Rattle.vpf_head.specs.Head.{names};
-ghost use Rattle.vpf_head.specs.Making.{same_kind, same_count, same_key, next_part, next_after_text, next_after_name, past_column, past_columns, file_of};
-ghost use Rattle.vpf_head.specs.Texts.{longest_text};
+ghost use Rattle.vpf_head.specs.Making.{same_count, same_key, next_part, next_after_text, next_after_name, past_column, past_columns, text_file};
 ghost use Rattle.vpf_head.specs.Views.{col, head_given, AreNamed};
 
 use crate::columns::{Column, Key};
 use crate::names::ColumnName;
-use crate::reading::{Columns, LONGEST_TEXT, column_of};
+use crate::reading::{Columns, column_of};
 use crate::writing::{count_len, key_len, kind_item, name_len, put_each, put_item, put_start};
 use indexmap::IndexMap;
 use std::alloc::{AllocError, Global};
+use vpf_base::limits::LONGEST_TEXT;
 use vpf_triplet::{Code, Count, Kind, Order, Place, PlaceError};
 
 /// The parts of which a header is to be made.
@@ -43,9 +44,9 @@ fn text_of(alloc: Global, parts: &Parts<'_, '_>) -> Result<Vec<u8>, AllocError>
 }
 
 /// The file of the parts' canonical text: its length number and the text.
-#[tactic(auto, unfolding(crate::specs::Making::file_of))]
+#[tactic(auto, unfolding(crate::specs::Making::text_file))]
 pub fn file_of(alloc: Global, parts: &Parts<'_, '_>) -> Result<Vec<u8>, PlaceError>
-    ensures exact { Answers (λ file. file.items) result (file_of (head_given parts.now)) }
+    ensures exact { Answers (λ file. file.items) result (text_file (head_given parts.now)) }
     ensures short { OnOk result (length (canonical_text (head_given parts.now)) ≤ longest_text) }
 {
     let text = text_of(alloc, parts)?;

@@ -3,25 +3,20 @@
 ghost use Rattle.std.specs.Prelude.{◌≡◌, ◌<◌, ◌≤◌, IsTrue, Some, false, [], is_some, length, map, slice_get, IfOk};
 ghost use Rattle.std.specs.Option.{option_copied};
 ghost use Rattle.indexmap.specs.IndexMap.{get, values, index_map_len};
+ghost use Rattle.vpf_base.specs.Limits.{most_columns};
 ghost use Rattle.vpf_triplet.specs.Places.{Gives, Answers};
 ghost use Rattle.vpf_head.specs.Head.{place_of};
 ghost use Rattle.vpf_head.specs.Reading.{closes, fresh_name_at, kind_at, count_at, key_at, colon_by, closed_at, narrative_at, rest_at, column_at, columns_at};
-ghost use Rattle.vpf_head.specs.Texts.{most_columns};
 ghost use Rattle.vpf_head.specs.Views.{col, key_eq, AreNamed};
 
 use crate::columns::{Column, Key};
-use crate::fields::{count_in, key_of, kind_of, present};
+use crate::fields::{count_in, key_of, present};
 use crate::items::{Form, name_at, text_at};
 use crate::names::ColumnName;
 use indexmap::IndexMap;
 use std::alloc::Global;
+use vpf_base::limits::MOST_COLUMNS;
 use vpf_triplet::{Code, Count, Kind, Place, PlaceError};
-
-/// The longest header text.
-pub const LONGEST_TEXT: u32 = 65_536;
-
-/// The most columns of a table.
-const MOST_COLUMNS: usize = 256;
 
 /// The columns of a table in their order, each under its name.
 pub type Columns<'a> = IndexMap<ColumnName<'a>, Column<'a>>;
@@ -71,7 +66,7 @@ fn kind_at(text: &[u8], at: usize) -> Result<(Kind, usize), Place>
     ensures inside { IfOk result (λ r. r.1 ≤ length text.now) }
 {
     let item = text_at(Form::Field, text, at)?;
-    match kind_of(item.text) {
+    match Kind::of_letter(item.text) {
         Some(kind) => Ok((kind, item.past)),
         None => Err(Place::in_table(at, Code::Kind)),
     }

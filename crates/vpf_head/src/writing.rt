@@ -4,13 +4,13 @@ ghost use Rattle.std.specs.Prelude.{◌≡◌, ◌<◌, ◌≤◌, ◌^◌, [], 
 ghost use Rattle.std.specs.List.{All};
 ghost use Rattle.std.specs.Option.{option_copied};
 ghost use Rattle.indexmap.specs.IndexMap.{values, index_map_len};
+ghost use Rattle.vpf_base.specs.Limits.{most_columns};
 ghost use Rattle.vpf_triplet.specs.Kinds.{kind_text, count_text};
 ghost use Rattle.vpf_head.specs.Bytes.{semicolon, comma};
 ghost use Rattle.vpf_head.specs.Canonical.{name_text, column_text, columns_text};
 ghost use Rattle.vpf_head.specs.Fields.{key_text};
 ghost use Rattle.vpf_head.specs.Soundness.{IsSpelled};
 ghost use Rattle.vpf_head.specs.Spelling.{mark_of};
-ghost use Rattle.vpf_head.specs.Texts.{most_columns};
 ghost use Rattle.vpf_head.specs.Views.{col};
 
 use crate::columns::{Column, Key};
@@ -23,23 +23,7 @@ use vpf_triplet::{Count, Kind, Order};
 pub fn kind_item(kind: Kind) -> &'static [u8]
     ensures { result.now ≡ kind_text kind }
 {
-    match kind {
-        Kind::T => b"T",
-        Kind::L => b"L",
-        Kind::M => b"M",
-        Kind::N => b"N",
-        Kind::F => b"F",
-        Kind::R => b"R",
-        Kind::S => b"S",
-        Kind::I => b"I",
-        Kind::D => b"D",
-        Kind::X => b"X",
-        Kind::K => b"K",
-        Kind::C => b"C",
-        Kind::B => b"B",
-        Kind::Z => b"Z",
-        Kind::Y => b"Y",
-    }
+    kind.letter().as_bytes()
 }
 
 /// Appends an item, and what ends it.
@@ -134,13 +118,11 @@ pub fn put_start(
     narrative: Option<&[u8]>,
     out: &mut Vec<u8>,
 ) -> Result<(), AllocError>
-    ensures ok { OnOk result (out.new.items ≡ out.old.items ++ (mark_of order ++ (description.now ++ semicolon ∷ (name_text (option_copied narrative.entry) ++ semicolon ∷ [])))) }
+    ensures ok { OnOk result (out.new.items ≡ out.old.items ++ (mark_of order ++ (description.now
+        ++ semicolon ∷ (name_text (option_copied narrative.entry) ++ semicolon ∷ [])))) }
     ensures kept { take (vec_len out.old) out.new.items ≡ out.old.items }
 {
-    match order {
-        Order::Little => put_item(b"L", b";", out)?,
-        Order::Big => put_item(b"M", b";", out)?,
-    }
+    put_item(order.letter().as_bytes(), b";", out)?;
     put_item(description, b";", out)?;
     put_name(narrative, b";", out)
 }

@@ -1,17 +1,13 @@
 -- A name without its last character.
-use Rattle.std.proofs.Common.{◌≡◌, ℕ, ◌-◌, ◌≤◌, Bool, true, false, List, [], ◌∷◌, ◌++◌, length, Option, None, Some, refl, sym, ap, ◌∙◌, arith, append-nil}
-use Rattle.std.specs.Prelude.{◌&&◌, IsUtf8, IfSome, IfNone, encode_utf8, encode_utf8_all, chars}
+use Rattle.std.proofs.Common.{◌≡◌, ℕ, ◌-◌, ◌≤◌, true, List, [], ◌∷◌, ◌++◌, length, Option, None, Some, refl, sym, ap, ◌∙◌, arith, append-nil}
+use Rattle.std.specs.Prelude.{IsUtf8, IfSome, IfNone, encode_utf8, encode_utf8_all, chars}
 use Rattle.std.specs.Char.{IsScalar}
 use Rattle.std.specs.Str.{all_scalars}
 use lib.Utf8.{scalar}
 use Rattle.std.proofs.lemmas.Str.{chars-encodes, chars-nil, encodes-append}
 use Rattle.std.proofs.lemmas.List.{length-append, take_at}
+use Rattle.vpf_base.proofs.Booleans.{both}
 use Rattle.vpf_names.specs.Indexes.{without_last}
-
-both : (a b : Bool) → (a && b) ≡ true → (a ≡ true) × (b ≡ true)
-both true true e = (refl, refl)
-both true false e = absurd cc
-both false b e = absurd cc
 
 scalars_behind : (cs : List ℕ) (c : ℕ) → all_scalars cs ≡ true → IsScalar c → all_scalars (cs ++ c ∷ []) ≡ true
 scalars_behind [] c h s = rw s refl

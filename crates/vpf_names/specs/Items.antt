@@ -3,11 +3,9 @@ use Rattle.std.specs.Prelude.{ℕ, ◌==◌, ◌&&◌, ◌||◌, nat_le, Bool, n
 use Rattle.std.specs.Char.{to_ascii_lowercase}
 use Rattle.std.specs.List.{list_all}
 use Rattle.std.specs.Str.{bytes_eq}
+use Rattle.vpf_base.specs.Bytes.{backslash}
 use Rattle.vpf_names.specs.Naming.{slash}
 use Rattle.vpf_names.specs.Folders.{folder_of}
-
-abbrev pub backslash : ℕ
-backslash = 92
 
 -- what may stand before and behind the name in its item: spaces and zeros
 abbrev pub is_padding : ℕ → Bool
@@ -41,8 +39,8 @@ abbrev pub is_dots : List ℕ → Bool
 is_dots name = bytes_eq name (codes ".") || bytes_eq name (codes "..")
 
 -- the name of a file that can lie in a folder
-abbrev pub is_plain : List ℕ → Bool
-is_plain name = not (length name == 0) && not (is_dots name) && list_all is_letter name
+abbrev pub is_plain_name : List ℕ → Bool
+is_plain_name name = not (length name == 0) && not (is_dots name) && list_all is_letter name
 
 -- the name, its ASCII letters made small
 abbrev pub small : List ℕ → List ℕ
@@ -50,7 +48,7 @@ small name = map to_ascii_lowercase name
 
 -- a name in the folder of a file
 abbrev pub beside : List ℕ → List ℕ → Option (List ℕ)
-beside file name = if is_plain name then Some (folder_of file ++ small name) else None
+beside file name = if is_plain_name name then Some (folder_of file ++ small name) else None
 
 -- The file that an item of a header names, in the folder of the table's file: without padding, and with small letters. None where no
 -- file of a folder can have that name.

@@ -19,9 +19,9 @@ abbrev pub parts_of : List ℕ → List (List ℕ)
 parts_of word = filter is_part (pieces_of word)
 
 -- parts with a slash between any two
-abbrev pub joined : List (List ℕ) → List ℕ
-joined [] = []
-joined (part ∷ parts) = part ++ flat_map (λ other. slash ∷ other) parts
+abbrev pub joined_parts : List (List ℕ) → List ℕ
+joined_parts [] = []
+joined_parts (part ∷ parts) = part ++ flat_map (λ other. slash ∷ other) parts
 
 -- the word begins at the root
 abbrev pub is_rooted : List ℕ → Bool
@@ -38,4 +38,4 @@ named (b ∷ bs) = Some (b ∷ bs)
 
 -- the file that a word names: its parts, with a slash before them where it begins at the root; none where there are no parts
 abbrev pub file_name : List ℕ → Option (List ℕ)
-file_name word = named (root_of word ++ joined (parts_of word))
+file_name word = named (root_of word ++ joined_parts (parts_of word))

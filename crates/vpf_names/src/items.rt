@@ -2,7 +2,7 @@
 
 ghost use Rattle.std.specs.Prelude.{◌≡◌, ◌++◌, IfOk, OnOk, string_bytes, true};
 ghost use Rattle.std.specs.List.{list_all};
-ghost use Rattle.vpf_names.specs.Items.{after_padding, before_padding, file_beside, is_dots, is_letter, is_padding, is_plain, small, trimmed};
+ghost use Rattle.vpf_names.specs.Items.{after_padding, before_padding, file_beside, is_dots, is_letter, is_padding, is_plain_name, small, trimmed};
 
 use crate::folders::put_folder;
 use std::alloc::{AllocError, Global};
@@ -67,7 +67,7 @@ fn is_dots(name: &[u8]) -> bool
 
 /// Whether a file can lie under the name in a folder.
 fn is_plain(name: &[u8]) -> bool
-    ensures { result ≡ is_plain name.now }
+    ensures { result ≡ is_plain_name name.now }
 {
     !name.is_empty() && !is_dots(name) && are_letters(name)
 }

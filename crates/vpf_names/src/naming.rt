@@ -1,7 +1,7 @@
 //! The files that words name.
 
 ghost use Rattle.std.specs.Prelude.{◌≡◌, ◌++◌, IfOk, OnOk, map, string_bytes};
-ghost use Rattle.vpf_names.specs.Naming.{is_part, joined, pieces_of, parts_of, file_name};
+ghost use Rattle.vpf_names.specs.Naming.{is_part, joined_parts, pieces_of, parts_of, file_name};
 
 use std::alloc::{AllocError, Global};
 use vpf_source::Name;
@@ -31,7 +31,7 @@ fn parts_of(alloc: Global, word: &str) -> Result<Vec<&str>, AllocError>
 
 /// Puts parts at the end of a text, with a slash between any two.
 fn put_joined(text: &mut String, parts: &[&str]) -> Result<(), AllocError>
-    ensures { OnOk result (string_bytes text.new ≡ string_bytes text.old ++ joined (map (λ part. part.now) parts.now)) }
+    ensures { OnOk result (string_bytes text.new ≡ string_bytes text.old ++ joined_parts (map (λ part. part.now) parts.now)) }
 {
     let Some((first, others)) = parts.split_first() else {
         return Ok(());

@@ -1,35 +1,17 @@
 -- Digits, one by one.
-use Rattle.std.proofs.Common.{◌≡◌, ℕ, zero, suc, ◌+◌, ◌-◌, ◌*◌, ◌^◌, ◌<◌, ◌≤◌, Bool, true, false, ◌&&◌, ◌||◌, List, [], ◌∷◌, length, take, get_or, refl, arith, ltb}
+use Rattle.std.proofs.Common.{◌≡◌, ℕ, ◌+◌, ◌-◌, ◌*◌, ◌^◌, ◌<◌, ◌≤◌, Bool, true, false, ◌||◌, List, [], ◌∷◌, length, take, get_or, refl, arith, ltb}
 use Rattle.std.proofs.lemmas.Bool.{false≢true, leb-true, le-ltb, lt-ltb}
 use Rattle.std.proofs.lemmas.Int.Digits.{digits_value_more, digits_value-lt}
 use Rattle.std.proofs.lemmas.Str.Parse.{digits_value-take-le}
 use Rattle.std.proofs.Math.Nat.{pow-le-pow_right}
-use Rattle.std.specs.Char.{digit_value, is_ascii_digit}
+use Rattle.std.specs.Char.{digit_value}
 use Rattle.std.specs.Int.{is_in_range}
 use Rattle.std.specs.List.{list_all}
 use Rattle.std.specs.Prelude.{nat_le}
 use Rattle.std.specs.Str.Parse.{AllDigits, digits_value}
+use Rattle.vpf_base.proofs.Booleans.{both}
+use Rattle.vpf_base.proofs.Digits.{all_at, digit_is}
 use Rattle.vpf_select.specs.Words.{is_hex}
-
-pub both : (a b : Bool) → (a && b) ≡ true → (a ≡ true) × (b ≡ true)
-both true true h = (refl, refl)
-both true false h = absurd (false≢true h)
-both false b h = absurd (false≢true h)
-
-all_at : (p : ℕ → Bool) (ds : List ℕ) (i : ℕ) → i < length ds → list_all p ds ≡ true → p (get_or ds i 0) ≡ true
-all_at p [] i lt h = absurd (omega arith)
-all_at p (d ∷ ds) zero lt h = (both (p d) (list_all p ds) h).0
-all_at p (d ∷ ds) (suc i) lt h = all_at p ds i (omega arith) (both (p d) (list_all p ds) h).1
-
--- the bytes of the digits, and what they are worth
-digit_is : (d : ℕ) → is_ascii_digit d ≡ true → (48 ≤ d) × (d ≤ 57) × (digit_value d ≡ d - 48)
-digit_is d h =
-    let t = both (nat_le 48 d) (nat_le d 57) h in
-    let low = leb-true 48 d t.0 in
-    let high = leb-true d 57 t.1 in
-    let a : ltb d 48 ≡ false = le-ltb d 48 low in
-    let b : ltb d 58 ≡ true = lt-ltb d 58 (omega arith) in
-    (low, high, rw (a, b) refl)
 
 letter_is : (d : ℕ) → is_in_range 97 102 d ≡ true → (97 ≤ d) × (d ≤ 102) × (digit_value d ≡ d - 87)
 letter_is d h =
@@ -43,14 +25,6 @@ letter_is d h =
     let g : ltb d 97 ≡ false = le-ltb d 97 low in
     let k : ltb d 123 ≡ true = lt-ltb d 123 (omega arith) in
     (low, high, rw (a, b, e, f, g, k) refl)
-
--- one digit more
-pub one_more : (ds : List ℕ) (i : ℕ) → i < length ds → list_all is_ascii_digit ds ≡ true
-    → (48 ≤ get_or ds i 0) × (get_or ds i 0 ≤ 57) × (digits_value 10 (take (i + 1) ds) ≡ digits_value 10 (take i ds) * 10 + (get_or ds i 0 - 48))
-one_more ds i lt h =
-    let d = digit_is (get_or ds i 0) (all_at is_ascii_digit ds i lt h) in
-    let value = d.2 in
-    (d.0, d.1, rw (digits_value_more 10 ds i lt, value) refl)
 
 -- a digit of base 16
 pub record HexDigit (d : ℕ) : Type 0 where

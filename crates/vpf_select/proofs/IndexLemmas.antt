@@ -2,47 +2,26 @@
 use Rattle.std.proofs.Common.{◌≡◌, ℕ, zero, suc, ◌+◌, ◌-◌, ◌<◌, Bool, true, false, cond, List, [], ◌∷◌, ◌++◌, length, Option, Some, None, Ok, append_assoc, refl, sym, ap, subst, ◌∙◌, arith}
 use Rattle.std.specs.Prelude.{slice_get, option_and_then, nat_eq}
 use Rattle.std.specs.Option.{option_or}
-use Rattle.std.proofs.lemmas.Bool.{false≢true, eqb-true}
+use Rattle.std.proofs.lemmas.Bool.{eqb-true}
 use Rattle.std.proofs.lemmas.List.{length-append}
+use Rattle.vpf_triplet.specs.Kinds.{same_kind, is_fixed}
+use Rattle.vpf_triplet.proofs.KindLemmas.{kinds_same, counts_same}
+use Rattle.vpf_base.proofs.Booleans.{both}
 use Rattle.vpf_triplet.specs.declared.kinds.Kind.{Kind}
-use Rattle.vpf_triplet.specs.declared.kinds.Kind.TheVariants as kinds
 use Rattle.vpf_triplet.specs.declared.kinds.Count.{Count}
-use Rattle.vpf_triplet.specs.declared.kinds.Count.TheVariants.{Fixed, Star}
+use Rattle.vpf_triplet.specs.declared.kinds.Count.TheVariants.{Fixed}
 use Rattle.vpf_value.specs.Values.{Value}
 use Rattle.vpf_value.specs.Fitting.{FitsCell}
 use Rattle.vpf_head.specs.Head.{Col}
-use Rattle.vpf_table.specs.Findings.{Disagreement}
+use Rattle.vpf_findings.specs.Findings.{Disagreement}
 use Rattle.vpf_table.specs.Grid.{Grid}
 use Rattle.vpf_theme.specs.Ordering.{same_value}
 use Rattle.vpf_theme.specs.Entries.{Theme, found_in}
-use Rattle.vpf_theme.specs.Findings.{cell_of, cells_of, same_kind, is_fixed, kind_line, rows_line, fits_line}
+use Rattle.vpf_theme.specs.Findings.{cell_of, cells_of, kind_line, row_count_line, fits_line}
 use Rattle.vpf_theme.specs.Agreeing.{AgreesAt, AgreesWithColumn, listed, scan_from, scan_of}
-use Rattle.vpf_select.specs.Selecting.{IsOwn, FitsColumn, first_other, selected}
-use Rattle.vpf_select.proofs.DigitLemmas.{both}
+use Rattle.vpf_select.specs.Selecting.{IsOwn, FitsColumn, first_unlike, selected}
 
 -- ---- an index of the column
-
-kinds_same : (a b : Kind) → same_kind a b ≡ true → a ≡ b
-kinds_same kinds.T kinds.T h = refl
-kinds_same kinds.L kinds.L h = refl
-kinds_same kinds.M kinds.M h = refl
-kinds_same kinds.N kinds.N h = refl
-kinds_same kinds.F kinds.F h = refl
-kinds_same kinds.R kinds.R h = refl
-kinds_same kinds.S kinds.S h = refl
-kinds_same kinds.I kinds.I h = refl
-kinds_same kinds.D kinds.D h = refl
-kinds_same kinds.X kinds.X h = refl
-kinds_same kinds.K kinds.K h = refl
-kinds_same kinds.C kinds.C h = refl
-kinds_same kinds.B kinds.B h = refl
-kinds_same kinds.Z kinds.Z h = refl
-kinds_same kinds.Y kinds.Y h = refl
-kinds_same a b h = absurd (false≢true h)
-
-counts_same : (n : ℕ) (count : Count) → is_fixed n count ≡ true → count ≡ Fixed n
-counts_same n (Fixed m) h = ap Fixed (sym (eqb-true n m h))
-counts_same n Star h = absurd (false≢true h)
 
 no_line : (t : Bool) (d : Disagreement) → cond {A = Option Disagreement} t None (Some d) ≡ None → t ≡ true
 no_line true d h = refl
@@ -60,7 +39,7 @@ record Fitting (t : Theme) (column : Col) (n : ℕ) : Type 0 where
 
 fitting : (t : Theme) (column : Col) (n : ℕ) → fits_line t column n ≡ None → Fitting t column n
 fitting t column n h =
-    let o = or_none (kind_line t column) (rows_line t column n) h in
+    let o = or_none (kind_line t column) (row_count_line t column n) h in
     let k = both (same_kind t.kind column.kind) (is_fixed t.count column.count) (no_line _ _ o.0) in
     let r = no_line (nat_eq t.rows n) _ o.1 in
     record { kind = kinds_same t.kind column.kind k.0; count = counts_same t.count column.count k.1; rows = eqb-true t.rows n r }
@@ -91,11 +70,11 @@ at_length (x ∷ pre) cells cell = at_more x pre cells cell (at_length pre cells
     at_more : (x : Value) (pre cells : List Value) (cell : Value) → cell_of (pre ++ cell ∷ cells) (length pre + 1) ≡ cell → cell_of (x ∷ pre ++ cell ∷ cells) (suc (length pre) + 1) ≡ cell
     at_more x pre cells cell h = let e : length pre + 1 - 1 ≡ length pre = omega arith in let f : suc (length pre) + 1 - 1 ≡ suc (length pre) = omega arith in let d = rw e at h in rw f d
 
-scan_case : (b : Bool) (v : Value) (all : List Value) (k : ℕ) (rest : List ℕ) → (b ≡ true → same_value (cell_of all k) v ≡ true) → first_other v all rest ≡ None → first_other v all (cond b (k ∷ rest) rest) ≡ None
+scan_case : (b : Bool) (v : Value) (all : List Value) (k : ℕ) (rest : List ℕ) → (b ≡ true → same_value (cell_of all k) v ≡ true) → first_unlike v all rest ≡ None → first_unlike v all (cond b (k ∷ rest) rest) ≡ None
 scan_case true v all k rest h done = rw (h refl) done
 scan_case false v all k rest h done = done
 
-scan_passes : (v : Value) (pre cells : List Value) → first_other v (pre ++ cells) (scan_from (length pre + 1) v cells) ≡ None
+scan_passes : (v : Value) (pre cells : List Value) → first_unlike v (pre ++ cells) (scan_from (length pre + 1) v cells) ≡ None
 scan_passes v pre [] = refl
 scan_passes v pre (cell ∷ cells) =
     let next = scan_passes v (pre ++ cell ∷ []) cells in

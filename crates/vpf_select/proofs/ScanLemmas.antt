@@ -1,9 +1,9 @@
 -- The rows that are looked at, one after another.
-use Rattle.std.proofs.Common.{◌≡◌, ℕ, zero, suc, ◌+◌, ◌-◌, ◌<◌, ◌≤◌, Bool, true, false, List, [], ◌∷◌, ◌++◌, map, length, get_or, Option, Some, None, append_assoc, refl, sym, ap, subst, ◌∙◌, arith}
-use Rattle.std.specs.Prelude.{find, slice_get, slice_index_or}
+use Rattle.std.proofs.Common.{◌≡◌, ℕ, zero, suc, ◌+◌, ◌-◌, ◌<◌, Bool, true, false, List, [], ◌∷◌, ◌++◌, map, length, get_or, Some, append_assoc, refl, sym, ap, ◌∙◌, arith}
+use Rattle.std.specs.Prelude.{slice_get, slice_index_or}
 use Rattle.std.proofs.lemmas.List.{append-nil}
-use Rattle.std.proofs.lemmas.List.Elements.{All-rest}
 use Rattle.std.proofs.lemmas.Option.{get_or_from_slice_get}
+use Rattle.vpf_theme.proofs.WalkLemmas.{row_first, rows_rest}
 use Rattle.vpf_value.specs.Values.{Value, Nothing}
 use Rattle.vpf_table.specs.Grid.{Grid, Row}
 use Rattle.vpf_theme.specs.Ordering.{same_value}
@@ -12,7 +12,7 @@ use Rattle.vpf_theme.specs.Agreeing.{scan_from}
 use Rattle.vpf_theme.specs.KeyLaws.{same_yes, same_no}
 use Rattle.vpf_theme.specs.Views.{AreRows}
 use Rattle.vpf_select.specs.Passing.{first_unmet, met_by}
-use Rattle.vpf_select.specs.Selecting.{first_other}
+use Rattle.vpf_select.specs.Selecting.{first_unlike}
 
 -- the cell of a row at the position of a column
 abbrev pub cell_in : ℕ → Row → Value
@@ -51,12 +51,6 @@ met_more v c met more whole bit row cell rows rest steps at is pushed done =
 
 -- ---- the rows of an entry
 
-pub row_first : (n row : ℕ) (rows rest : List ℕ) → rows ≡ row ∷ rest → AreRows n rows → (1 ≤ row) × (row ≤ n)
-row_first n row rows rest e h = (subst (AreRows n) e h) zero 0 (omega arith)
-
-pub rows_rest : (n row : ℕ) (rows rest : List ℕ) → rows ≡ row ∷ rest → AreRows n rows → AreRows n rest
-rows_rest n row rows rest e h = All-rest (λ r. (1 ≤ r) × (r ≤ n)) row rest rows e h
-
 pub found_more : (row : ℕ) (found more rows rest whole : List ℕ) → rows ≡ row ∷ rest → more ≡ found ++ row ∷ [] → found ++ rows ≡ whole → more ++ rest ≡ whole
 found_more row found more rows rest whole steps pushed done = let d = rw steps at done in rw (pushed, append_assoc) d
 
@@ -69,15 +63,6 @@ map_at (r ∷ rows) (suc k) c row h = map_at rows k c row h
 pub cell_seen : (grid : Grid) (c row : ℕ) (seen : Row) (cell : Value) → slice_get grid.rows (row - 1) ≡ Some seen → slice_get seen c ≡ Some cell → cell_of (cells_of grid c) row ≡ cell
 cell_seen grid c row seen cell h at = map_at grid.rows (row - 1) c seen h ∙ get_or_from_slice_get seen c cell Nothing at
 
-pub find_pass : (p : ℕ → Bool) (row : ℕ) (rows rest : List ℕ) (whole : Option ℕ) → rows ≡ row ∷ rest → find p rows ≡ whole → p row ≡ false → find p rest ≡ whole
-find_pass p row rows rest whole e h q = let k = rw e at h in rw q at k
-
-pub find_stop : (p : ℕ → Bool) (row : ℕ) (rows rest : List ℕ) (whole : Option ℕ) → rows ≡ row ∷ rest → find p rows ≡ whole → p row ≡ true → whole ≡ Some row
-find_stop p row rows rest whole e h q = let k = rw e at h in let m = rw q at k in sym m
-
-pub find_end : (p : ℕ → Bool) (rows : List ℕ) (whole : Option ℕ) → rows ≡ [] → find p rows ≡ whole → whole ≡ None
-find_end p rows whole e h = let k = rw e at h in sym k
-
 -- ---- the rows that meet the test, and those that are listed
 
 -- a row of the table meets the test where its cell has the value
@@ -86,7 +71,7 @@ met_at v [] k h = absurd (omega arith)
 met_at v (cell ∷ cells) zero h = refl
 met_at v (cell ∷ cells) (suc k) h = met_at v cells k (omega arith)
 
-pub unmet_other : (v : Value) (cells : List Value) (rows : List ℕ) → AreRows (length cells) rows → first_unmet (met_by v cells) rows ≡ first_other v cells rows
+pub unmet_other : (v : Value) (cells : List Value) (rows : List ℕ) → AreRows (length cells) rows → first_unmet (met_by v cells) rows ≡ first_unlike v cells rows
 unmet_other v cells [] h = refl
 unmet_other v cells (row ∷ rows) h =
     let first = row_first (length cells) row (row ∷ rows) rows refl h in

@@ -7,6 +7,8 @@ use Rattle.std.specs.List.{list_all}
 use Rattle.std.specs.Str.Parse.{digits_value, starts_with_minus}
 use Rattle.std.proofs.lemmas.Bool.{leb-true, ltb-true, eqb-true}
 use Rattle.std.proofs.lemmas.List.{length-append, length-replicate}
+use Rattle.vpf_head.specs.Bytes.{space}
+use Rattle.vpf_base.proofs.Booleans.{both}
 use Rattle.vpf_triplet.specs.declared.kinds.Kind.{Kind}
 use Rattle.vpf_triplet.specs.declared.kinds.Kind.TheVariants as kinds
 use Rattle.vpf_triplet.specs.declared.kinds.Count.{Count}
@@ -14,8 +16,8 @@ use Rattle.vpf_triplet.specs.declared.kinds.Count.TheVariants.{Fixed, Star}
 use Rattle.vpf_triplet.specs.Kinds.{allows}
 use Rattle.vpf_value.specs.Values.{Value, TextOf, Word4Of, Word8Of, NumberOf, DateOf, date_bytes}
 use Rattle.vpf_value.specs.Fitting.{FitsText, FitsWord4, FitsWord8, FitsNumber, FitsDate, FitsKind, FitsCell}
-use Rattle.vpf_select.specs.Words.{space, letter_w, filled, text_in, digits_in, negative, positive, number_in, is_hex, word_in, value_in}
-use Rattle.vpf_select.proofs.DigitLemmas.{both, hex_below}
+use Rattle.vpf_select.specs.Words.{letter_w, filled, text_in, digits_in, negative, positive, number_in, is_hex, word_in, value_in}
+use Rattle.vpf_select.proofs.DigitLemmas.{hex_below}
 
 -- where something is made of an option, it was there
 from_map : {A B : Type 0} (f : A → B) (o : Option A) (P : B → Type 0) (b : B) → option_map f o ≡ Some b → ((a : A) → o ≡ Some a → P (f a)) → P b

@@ -4,6 +4,7 @@ use Rattle.std.specs.Char.{is_ascii_digit}
 use Rattle.std.specs.Int.{is_in_range}
 use Rattle.std.specs.List.{list_all}
 use Rattle.std.specs.Str.Parse.{digits_value, starts_with_minus}
+use Rattle.vpf_head.specs.Bytes.{space}
 use Rattle.vpf_triplet.specs.declared.kinds.Kind.{Kind}
 use Rattle.vpf_triplet.specs.declared.kinds.Kind.TheVariants as kinds
 use Rattle.vpf_triplet.specs.declared.kinds.Count.{Count}
@@ -11,9 +12,6 @@ use Rattle.vpf_triplet.specs.declared.kinds.Count.TheVariants.{Fixed, Star}
 use Rattle.vpf_value.specs.Values.{Value, TextOf, Word4Of, Word8Of, NumberOf, DateOf, date_bytes}
 use Rattle.vpf_select.specs.declared.value.ValueError.{ValueError}
 use Rattle.vpf_select.specs.declared.value.ValueError.TheVariants as errors
-
-abbrev pub space : ℕ
-space = 32
 
 abbrev pub letter_w : ℕ
 letter_w = 119

@@ -5,7 +5,7 @@ ghost use Rattle.vpf_value.specs.Values.{view};
 ghost use Rattle.vpf_theme.specs.Findings.{cells_of};
 ghost use Rattle.vpf_theme.specs.Views.{AreRows};
 ghost use Rattle.vpf_select.specs.Passing.{first_unmet, met_by};
-ghost use Rattle.vpf_select.specs.Selecting.{Compares, FitsColumn, IsOwn, RefusesRow, Selects, selected, unless_other};
+ghost use Rattle.vpf_select.specs.Selecting.{Compares, FitsColumn, IsOwn, RefusesRow, Selects, selected, unless_unlike};
 
 use crate::scanning::Test;
 use crate::selecting::SelectError;
@@ -39,7 +39,7 @@ fn rows_met<L: Ledger>(
 /// The rows of an entry, or the first of them that doesn't meet the test.
 fn all_met(alloc: Global, met: &[bool], hits: Hits<'_>) -> Result<Vec<u32>, SelectError>
     requires { AreRows (length met.now) hits.left }
-    ensures value { Selects (λ v. v.items) result (unless_other hits.entry.left (first_unmet met.now hits.entry.left)) }
+    ensures value { Selects (λ v. v.items) result (unless_unlike hits.entry.left (first_unmet met.now hits.entry.left)) }
     ensures refused { RefusesRow (length met.now) result }
 {
     let mut found = Vec::new(alloc);
@@ -72,7 +72,7 @@ pub fn select_in_one_pass<L: Ledger, M: Ledger>(
     ensures refused { RefusesRow (length table.now.rows) result }
     ensures more { steps.old ≤ steps.new }
     ensures cost { steps.new ≤ steps.old + length table.now.rows }
-    ensures compared { Compares (Some theme.now) entries.old entries.new }
+    ensures compared { Compares (Some theme.now) (view test.now.value) entries.old entries.new }
 {
     let Some(hits) = theme.find(&test.value, entries) else {
         return Ok(Vec::new(alloc));

@@ -1,6 +1,6 @@
 //! The plain scan.
 
-ghost use Rattle.std.specs.Prelude.{◌≡◌, ◌<◌, ◌≤◌, ◌+◌, IfOk, length};
+ghost use Rattle.std.specs.Prelude.{◌≡◌, ◌<◌, ◌≤◌, ◌+◌, IfOk, OnOk, length};
 ghost use Rattle.vpf_value.specs.Values.{view};
 ghost use Rattle.vpf_theme.specs.Findings.{cells_of};
 ghost use Rattle.vpf_theme.specs.Agreeing.{scan_of};
@@ -20,7 +20,8 @@ pub struct Test<'a> {
     pub value: Cell<'a>,
 }
 
-/// The numbers of the rows that meet the test, rising, counted from 1. Each row is looked at once, with a tick.
+/// The numbers of the rows that meet the test, rising, counted from 1. Each row is looked at once, with a tick: where memory runs
+/// out, only those up to that.
 pub fn scan<L: Ledger>(
     alloc: Global,
     table: &TableView<'_>,
@@ -31,6 +32,7 @@ pub fn scan<L: Ledger>(
     ensures value { IfOk result (λ rows. rows.items ≡ scan_of (view test.now.value) (cells_of table.now test.now.column)) }
     ensures more { steps.old ≤ steps.new }
     ensures cost { steps.new ≤ steps.old + length table.now.rows }
+    ensures ticked { OnOk result (steps.new ≡ steps.old + length table.now.rows) }
 {
     let _rows = table.len();
     let mut found = Vec::new(alloc);

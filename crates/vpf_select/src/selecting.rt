@@ -96,7 +96,7 @@ pub fn select<L: Ledger, M: Ledger>(
     ensures refused { RefusesRow (length table.now.rows) result }
     ensures more { steps.old ≤ steps.new }
     ensures cost { steps.new ≤ steps.old + most_looks (option_copied theme.entry) (view test.now.value) table.now }
-    ensures compared { Compares (option_copied theme.entry) entries.old entries.new }
+    ensures compared { Compares (option_copied theme.entry) (view test.now.value) entries.old entries.new }
 {
     let Some(theme) = theme else {
         return Ok(scan(alloc, table, test, steps)?);

@@ -1,7 +1,8 @@
 //! The folders of the computer and its standard output, which tell contracts nothing of what they hold.
 
-ghost use Rattle.std.specs.Prelude.{◌≡◌, ◌≤◌, ℕ, None};
+ghost use Rattle.std.specs.Prelude.{◌≡◌, ◌≤◌, ℕ, None, OnOk};
 ghost use Rattle.std.specs.Io.{ReadsAtMost, WritesAtMost};
+ghost use Rattle.std.specs.Io.KnownBytes.{Appends};
 ghost use Rattle.vpf_source.specs.Causes.{next_count};
 
 use crate::error::{DeviceError, Failed};
@@ -69,7 +70,9 @@ impl<R: Files> FolderTree<R> {
 }
 
 /// Writes all bytes, in as many writes as it needs. A write that takes none of them is an error.
-fn write_whole<W: Write>(file: &mut W, bytes: &[u8]) -> io::Result<()> {
+fn write_whole<W: Write>(file: &mut W, bytes: &[u8]) -> io::Result<()>
+    ensures { OnOk result (Appends (W.contents file.old) (W.contents file.new) bytes.now) }
+{
     let mut done = 0;
     while done < bytes.len() {
         let count = file.write(&bytes[done..])?;
@@ -136,6 +139,7 @@ impl<R: Print> StdSink<R> {
 
     /// Counts a fault.
     fn fault(&mut self) -> DeviceError
+        ensures failed { result ≡ DeviceError.Failed }
         ensures counted { self.new ≡ next_count self.old }
         ensures later { self.old ≤ self.new }
     {

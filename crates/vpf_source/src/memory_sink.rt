@@ -3,7 +3,7 @@
 ghost use Rattle.std.specs.Prelude.{◌≡◌, ◌≤◌, ◌<◌, [], Some, length, min, IsTrue, IsErrOf, IfOk, ◌↔◌};
 ghost use Rattle.std.specs.Io.KnownBytes.{WriteAppends};
 ghost use Rattle.vpf_source.specs.Calls.{after_call, next_fails, no_calls};
-ghost use Rattle.vpf_source.specs.Causes.{Rose};
+ghost use Rattle.vpf_source.specs.Causes.{Rose, Stood};
 
 use crate::calls::CallLog;
 use crate::error::DeviceError;
@@ -60,6 +60,7 @@ impl Sink for MemSink {
         ensures bytes { WriteAppends (Some (sink_bytes self.old)) (Some (sink_bytes self.new)) result piece.now }
         ensures later { (sink_calls self.old).faults ≤ (sink_calls self.new).faults }
         ensures failed { IsErrOf result DeviceError.Failed → Rose (sink_calls self.old).faults (sink_calls self.new).faults }
+        ensures stood { ¬ IsErrOf result DeviceError.Failed → Stood (sink_calls self.old).faults (sink_calls self.new).faults }
 
         ensures fails { IsErrOf result DeviceError.Failed ↔ IsTrue (next_fails (sink_calls self.old)) }
         ensures calls { sink_calls self.new ≡ after_call (sink_calls self.old) }

@@ -4,7 +4,7 @@ ghost use Rattle.std.specs.Prelude.{◌≡◌, ◌≤◌, ◌<◌, ◌-◌, Some
 ghost use Rattle.std.specs.Option.{option_copied};
 ghost use Rattle.std.specs.Io.{ReadsAtMost};
 ghost use Rattle.vpf_source.specs.Calls.{after_call, next_fails, no_calls};
-ghost use Rattle.vpf_source.specs.Causes.{Rose};
+ghost use Rattle.vpf_source.specs.Causes.{Rose, Stood};
 ghost use Rattle.vpf_source.specs.Files.{ReadsFrom, ReadsFile, SameElsewhere, TellsSize, bytes_of, no_files, with_file};
 
 use crate::calls::CallLog;
@@ -85,13 +85,17 @@ impl Tree for MemTree {
 
     ghost files = { λ tree. Some (tree_files tree) };
 
+    ghost reads = { λ tree. Some (tree_files tree) };
+
     ghost faults = { λ tree. (tree_calls tree).faults };
 
     fn size(&mut self, name: &str) -> Result<Option<u64>, Failed>
         ensures size { TellsSize (Some (tree_files self.old)) name.now result }
         ensures files { tree_files self.new ≡ tree_files self.old }
+        ensures reads { tree_files self.new ≡ tree_files self.old }
         ensures later { (tree_calls self.old).faults ≤ (tree_calls self.new).faults }
         ensures failed { OnErr result (Rose (tree_calls self.old).faults (tree_calls self.new).faults) }
+        ensures stood { OnOk result (Stood (tree_calls self.old).faults (tree_calls self.new).faults) }
 
         ensures fails { IsErr result ↔ IsTrue (next_fails (tree_calls self.old)) }
         ensures calls { tree_calls self.new ≡ after_call (tree_calls self.old) }
@@ -108,9 +112,12 @@ impl Tree for MemTree {
     fn read_at(&mut self, name: &str, at: u64, buf: &mut [u8]) -> Result<usize, Failed>
         ensures within { ReadsAtMost result buf.new }
         ensures bytes { ReadsFile (Some (tree_files self.old)) name.now at result buf.new }
+        ensures read { ReadsFile (Some (tree_files self.old)) name.now at result buf.new }
         ensures files { tree_files self.new ≡ tree_files self.old }
+        ensures reads { tree_files self.new ≡ tree_files self.old }
         ensures later { (tree_calls self.old).faults ≤ (tree_calls self.new).faults }
         ensures failed { OnErr result (Rose (tree_calls self.old).faults (tree_calls self.new).faults) }
+        ensures stood { OnOk result (Stood (tree_calls self.old).faults (tree_calls self.new).faults) }
 
         ensures fails { IsErr result ↔ IsTrue (next_fails (tree_calls self.old)) }
         ensures calls { tree_calls self.new ≡ after_call (tree_calls self.old) }
@@ -132,6 +139,7 @@ impl Tree for MemTree {
         ensures none { IsErrOf result DeviceError.NoMemory → Some (tree_files self.new) ≡ Some (tree_files self.old) }
         ensures later { (tree_calls self.old).faults ≤ (tree_calls self.new).faults }
         ensures failed { IsErrOf result DeviceError.Failed → Rose (tree_calls self.old).faults (tree_calls self.new).faults }
+        ensures stood { ¬ IsErrOf result DeviceError.Failed → Stood (tree_calls self.old).faults (tree_calls self.new).faults }
 
         ensures fails { IsErrOf result DeviceError.Failed ↔ IsTrue (next_fails (tree_calls self.old)) }
         ensures calls { tree_calls self.new ≡ after_call (tree_calls self.old) }

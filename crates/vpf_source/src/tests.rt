@@ -1,6 +1,6 @@
 //! Loads and writes over the objects in memory, and one test of each adapter over the real outside.
 
-ghost use Rattle.std.specs.Prelude.{◌≡◌, ◌≤◌, ◌<◌, ◌+◌, None};
+ghost use Rattle.std.specs.Prelude.{◌≡◌, ◌≤◌, ◌<◌, ◌+◌, None, Some, [], ◌∷◌};
 
 use super::*;
 use std::alloc::{AllocError, Global};
@@ -98,12 +98,14 @@ fn fails_where_a_call_fails(rt: HostRuntime) -> Result<(), Fail> {
     Ok(())
 }
 
-/// A tree that tells nothing, and gives one byte of each file where it told a size of five.
+/// A tree that does not tell its files, and gives one byte of each where it told a size of five.
 #[derive(Drop)]
 struct ShortTree;
 
 impl Tree for ShortTree {
     ghost files = { λ _. None };
+
+    ghost reads = { λ _. Some (λ _. Some (97 ∷ [])) };
 
     ghost faults = { λ _. 0 };
 

@@ -3,16 +3,16 @@ use Rattle.std.proofs.Common.{◌≡◌, ℕ, suc, ◌+◌, ◌<◌, List, [], �
 use Rattle.std.specs.Prelude.{slice_get, IsOk}
 use Rattle.std.proofs.lemmas.List.{length-drop, drop_more}
 use Rattle.std.proofs.lemmas.Option.{slice_get-get_or}
+use Rattle.vpf_base.proofs.Lists.{next_item}
+use Rattle.vpf_base.proofs.Results.{ok_is, bind_ok}
+use Rattle.vpf_base.specs.Results.{◌>>=◌}
 use Rattle.vpf_triplet.specs.declared.orders.Order.{Order}
 use Rattle.vpf_triplet.specs.declared.places.Place.{Place}
 use Rattle.vpf_value.specs.Values.{Value}
 use Rattle.vpf_head.specs.Head.{Col}
-use Rattle.vpf_triplet.specs.Places.{◌>>=◌}
 use Rattle.vpf_table.specs.Grid.{Row}
 use Rattle.vpf_table.specs.Reading.{cell_in, row_at}
-use Rattle.vpf_table.specs.Walking.{row_of, past_of}
-use Rattle.vpf_table.proofs.WalkLemmas.{ok_is, next_item}
-use Rattle.vpf_table.proofs.Parts.{bind_ok}
+use Rattle.vpf_table.specs.Walking.{end_of, row_of, past_of}
 
 pub read_is : (r : Result (Row × ℕ) Place) → IsOk r → r ≡ Ok (row_of r, past_of r)
 read_is (Ok x) h = refl
@@ -32,13 +32,13 @@ unfolding row_at
 opens o c cs bytes at vs past e =
     let a = bind_ok (cell_in o c bytes at) (λ first. row_at o cs bytes first.1 >>= λ others. Ok (first.0 ∷ others.0, others.1)) (vs, past) e in
     let b = bind_ok (row_at o cs bytes a.0.1) (λ others. Ok (a.0.0 ∷ others.0, others.1)) (vs, past) a.2 in
-    let same = ok_is (a.0.0 ∷ b.0.0, b.0.1) (vs, past) b.2 in
+    let same = ok_is {x = (a.0.0 ∷ b.0.0, b.0.1)} {y = (vs, past)} b.2 in
     let end : b.0.1 ≡ past = ap (λ (y : Row × ℕ). y.1) same in
     record { value = a.0.0; next = a.0.1; others = b.0.0; cell = a.1; rest = b.1 ∙ ap (λ (n : ℕ). Ok (b.0.0, n)) end; is = sym (ap (λ (y : Row × ℕ). y.0) same) }
 
 pub length-row : (o : Order) (cs : List Col) (bytes : List ℕ) (at : ℕ) (vs : Row) (past : ℕ) → row_at o cs bytes at ≡ Ok (vs, past) → length vs ≡ length cs
 unfolding row_at
-length-row o [] bytes at vs past e = ap (λ (y : Row × ℕ). length y.0) (sym (ok_is ([], at) (vs, past) e))
+length-row o [] bytes at vs past e = ap (λ (y : Row × ℕ). length y.0) (sym (ok_is {x = ([], at)} {y = (vs, past)} e))
 length-row o (c ∷ cs) bytes at vs past e =
     let s = opens o c cs bytes at vs past e in
     ap length s.is ∙ ap suc (length-row o cs bytes s.next s.others past s.rest)
@@ -65,7 +65,7 @@ is_ok_from (Ok y) x e = refl
 is_ok_from (Err p) x e = absurd cc
 
 pub same_found : {A : Type 0} (r : Result A Place) (x y : A) → r ≡ Ok x → r ≡ Ok y → x ≡ y
-same_found r x y e f = ok_is x y (sym e ∙ f)
+same_found r x y e f = ok_is {x = x} {y = y} (sym e ∙ f)
 
 -- the next cell of a row whose cells from column i on are spelled
 next_cell : (o : Order) (cs : List Col) (bytes : List ℕ) (at i : ℕ) (c : Col) → slice_get cs i ≡ Some c → (let r = row_at o (drop i cs) bytes at in r ≡ Ok (row_of r, past_of r))
@@ -95,3 +95,13 @@ pub none_left : (o : Order) (cs : List Col) (bytes : List ℕ) (at : ℕ) → cs
 unfolding row_at
 none_left o [] bytes at e = refl
 none_left o (c ∷ cs) bytes at e = absurd cc
+
+-- the next cell ends where it is read to end
+pub ends_at : (o : Order) (c : Col) (bytes : List ℕ) (here next past : ℕ) (value : Value) → cell_in o c bytes here ≡ Ok (value, next) → end_of (cell_in o c bytes here) ≡ Ok past → next ≡ past
+ends_at o c bytes here next past value e f = ok_is {x = next} {y = past} (rw e at f)
+
+-- the row ends behind its last column
+pub ends_here : (o : Order) (cs : List Col) (bytes : List ℕ) (here : ℕ) (row : Row) (past : ℕ) → cs ≡ [] → row_at o cs bytes here ≡ Ok (row, past) → here ≡ past
+unfolding row_at
+ends_here o [] bytes here row past e h = ap (λ (y : Row × ℕ). y.1) (ok_is {x = ([], here)} {y = (row, past)} h)
+ends_here o (c ∷ cs) bytes here row past e h = absurd cc

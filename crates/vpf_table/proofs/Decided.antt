@@ -1,8 +1,9 @@
 -- Bytes are one table, or have one first fault.
 use Rattle.std.proofs.Common.{Result, ◌≡◌, ℕ, List, Option, Ok, Err, refl, sym, ◌∙◌, inl, inr, ◌⊎◌}
 use Rattle.std.specs.Prelude.{IfSome}
+use Rattle.vpf_base.proofs.Results.{ok_is}
+use Rattle.vpf_base.specs.Bytes.{IsBytes}
 use Rattle.vpf_triplet.specs.declared.places.Place.{Place}
-use Rattle.vpf_triplet.specs.Numbers.{IsBytes}
 use Rattle.vpf_table.specs.Deciding.{Decides}
 use Rattle.vpf_table.specs.Faults.{FirstFault}
 use Rattle.vpf_table.specs.Grid.{Grid}
@@ -12,7 +13,6 @@ use Rattle.vpf_table.specs.Spans.{IsOpened}
 use Rattle.vpf_table.proofs.FaultLaws.{opening_faults}
 use Rattle.vpf_table.proofs.RefusalLaws.{opening_refused}
 use Rattle.vpf_table.proofs.SpanLaws.{opened_again, opened_takes}
-use Rattle.vpf_table.proofs.WalkLemmas.{ok_is}
 
 either_of : CellAndHeaderLaws → IndexLaws → (bytes : List ℕ) (index : Option (List ℕ)) (r : Result Grid Place) → IsBytes bytes → IfSome index IsBytes → opened_of bytes index ≡ r
     → ((g : Grid) × IsOpened g bytes index) ⊎ ((place : Place) × FirstFault bytes index place)
@@ -29,6 +29,6 @@ pub opening_decided : CellAndHeaderLaws → IndexLaws → (bytes : List ℕ) (in
 opening_decided laws ix bytes index fits fits2 = record {
   either = either_of laws ix bytes index (opened_of bytes index) fits fits2 refl;
   never_both = λ g p t f. ok_err _ g p (opened_again laws ix bytes index g t) (opening_refused laws ix bytes index p f);
-  one_table = λ g h t u. ok_is g h (sym (opened_again laws ix bytes index g t) ∙ opened_again laws ix bytes index h u);
+  one_table = λ g h t u. ok_is {x = g} {y = h} (sym (opened_again laws ix bytes index g t) ∙ opened_again laws ix bytes index h u);
   one_fault = λ p q e f. err_err _ p q (opening_refused laws ix bytes index p e) (opening_refused laws ix bytes index q f);
 }

@@ -3,12 +3,16 @@ use Rattle.std.proofs.Common.{◌≡◌, ℕ, zero, suc, ◌+◌, ◌-◌, ◌*�
 use Rattle.std.specs.Prelude.{◌≢◌, ◌==◌, ◌&&◌, IfSome, slice_range}
 use Rattle.std.proofs.lemmas.Bool.{leb-false, eqb-true, eqb-false, eq-eqb}
 use Rattle.std.proofs.lemmas.List.{drop-drop, take-append-drop, length-append, length-drop, length-take-le}
+use Rattle.vpf_base.specs.Limits.{most_rows}
+use Rattle.vpf_base.proofs.ByteLists.{IsBytes-drop}
+use Rattle.vpf_base.specs.Results.{◌>>=◌}
+use Rattle.vpf_base.specs.Bytes.{IsBytes}
+use Rattle.vpf_base.proofs.Results.{failed, err_is, no_ok}
 use Rattle.vpf_triplet.specs.declared.orders.Order.{Order}
 use Rattle.vpf_triplet.specs.declared.places.Place.{Place}
 use Rattle.vpf_triplet.specs.declared.places.Code.{Code}
 use Rattle.vpf_triplet.specs.declared.places.Code.TheVariants as codes
-use Rattle.vpf_triplet.specs.Numbers.{IsBytes}
-use Rattle.vpf_triplet.specs.Places.{◌>>=◌, fault, index_fault}
+use Rattle.vpf_triplet.specs.Places.{fault, index_fault}
 use Rattle.vpf_value.specs.Values.{Value}
 use Rattle.vpf_value.specs.Reading.{cell_from}
 use Rattle.vpf_head.specs.Head.{Head, Col}
@@ -21,20 +25,11 @@ use Rattle.vpf_table.specs.Faults.{Begins, Stops, TableFault, Differs, FirstFaul
 use Rattle.vpf_table.specs.Grid.{Row, Grid}
 use Rattle.vpf_table.specs.Lower.{CellAndHeaderLaws, IndexLaws}
 use Rattle.vpf_table.specs.Opening.{row_spans, first_other, unless_other, owned, opened_of}
-use Rattle.vpf_table.specs.Reading.{most_rows, lifted, row_at, rows_at, table_of}
+use Rattle.vpf_table.specs.Reading.{lifted, row_at, rows_at, table_of}
 use Rattle.vpf_table.specs.Spelling.{IsRow, IsRows}
-use Rattle.vpf_table.proofs.RowLaws.{IsBytes-drop, row_takes}
+use Rattle.vpf_table.proofs.RowLaws.{row_takes}
 use Rattle.vpf_table.proofs.SpanLaws.{length-row_spans, lying}
 use Rattle.vpf_table.proofs.TableLaws.{table_takes}
-
-abbrev failed : {A : Type 0} → Place → Result A Place
-failed p = Err p
-
-err_is : {A : Type 0} {p q : Place} → failed {A = A} p ≡ Err q → p ≡ q
-err_is e = cc
-
-no_ok : {A : Type 0} (x : A) (p : Place) → Ok x ≡ failed p → ⊥
-no_ok x p e = cc
 
 -- ---- cells of a row
 
@@ -223,8 +218,8 @@ owned_fault laws ix bytes index g es p fits fits2 table read e = by (length es =
     entry l None q f = absurd (no_ok g p f)
     entry l (Some k) q f =
         let d = differs 0 es (row_spans bytes g) k l q in
-        let at : indexes.entry_start d.0 ≡ 8 + 8 * k = omega (arith, d.1) in
-        let is : index_fault (indexes.entry_start d.0) codes.IndexRow ≡ p = ap (λ (i : ℕ). index_fault i codes.IndexRow) at ∙ err_is f in
+        let at : indexes.index_entry_start d.0 ≡ 8 + 8 * k = omega (arith, d.1) in
+        let is : index_fault (indexes.index_entry_start d.0) codes.IndexRow ≡ p = ap (λ (i : ℕ). index_fault i codes.IndexRow) at ∙ err_is f in
         subst (FirstFault bytes (Some index)) is (faults.other_entry g index es (row_spans bytes g) d.0 (lying laws bytes g fits table) spelled l d.2)
 
     by : (t : Bool) → (length es == length (row_spans bytes g)) ≡ t → cond t (unless_other g (first_other 0 es (row_spans bytes g))) (Err (index_fault 0 codes.IndexCount)) ≡ failed p → FirstFault bytes (Some index) p

@@ -3,6 +3,10 @@ use Rattle.std.proofs.Common.{◌≡◌, ℕ, zero, suc, ◌+◌, ◌-◌, ◌*�
 use Rattle.std.specs.Prelude.{slice_get, IsOk}
 use Rattle.std.proofs.lemmas.Bool.{leb-false, cases_lt}
 use Rattle.std.proofs.lemmas.List.{length-drop}
+use Rattle.vpf_base.specs.Limits.{most_rows}
+use Rattle.vpf_base.proofs.Booleans.{tested}
+use Rattle.vpf_base.proofs.Results.{ok_is, bind_ok}
+use Rattle.vpf_base.specs.Results.{◌>>=◌}
 use Rattle.vpf_triplet.specs.declared.orders.Order.{Order}
 use Rattle.vpf_triplet.specs.declared.places.Place.{Place}
 use Rattle.vpf_triplet.specs.declared.places.Code.{Code}
@@ -10,17 +14,17 @@ use Rattle.vpf_triplet.specs.declared.places.Code.TheVariants as codes
 use Rattle.vpf_triplet.specs.declared.places.Code.TheVariants.{CellCut}
 use Rattle.vpf_triplet.specs.declared.kinds.Kind.{Kind}
 use Rattle.vpf_triplet.specs.declared.kinds.Count.{Count}
-use Rattle.vpf_triplet.specs.Places.{◌>>=◌, fault}
+use Rattle.vpf_triplet.specs.Places.{fault}
 use Rattle.vpf_value.specs.Values.{Value}
 use Rattle.vpf_value.specs.Reading.{cell_from}
 use Rattle.vpf_value.specs.Widths.{cell_width, TakesWidth}
 use Rattle.vpf_head.specs.Head.{Col}
 use Rattle.vpf_table.specs.Grid.{Row}
-use Rattle.vpf_table.specs.Reading.{lifted, cell_in, row_at, rows_at, most_rows}
+use Rattle.vpf_table.specs.Reading.{lifted, cell_in, row_at, rows_at}
 use Rattle.vpf_table.specs.Walking.{rows_of, end_of, counted}
 use Rattle.vpf_table.specs.Widths.{add_width, width_of}
-use Rattle.vpf_table.proofs.WalkLemmas.{ok_is, cell_passed, row_passed}
-use Rattle.vpf_table.proofs.Parts.{bind_ok, lifted_ok, rows, tested}
+use Rattle.vpf_table.proofs.WalkLemmas.{cell_passed, row_passed}
+use Rattle.vpf_table.proofs.Parts.{lifted_ok, rows}
 use Rattle.vpf_table.proofs.CellOf.{opens}
 
 abbrev found : Value × ℕ → Result (Value × ℕ) Code
@@ -55,6 +59,19 @@ cell_whole cells o c bytes at w f le =
     let z = (cells o c.kind c.count (drop at bytes) w f).whole (omega (arith, length-drop at bytes)) in
     whole_by at w z.0 (cell_from o c.kind c.count (drop at bytes)) z.1
 
+cut_fails : (at : ℕ) (r : Result (Value × ℕ) Code) (code : Code) → r ≡ Err code → IsOk (lifted at r) → ⊥
+cut_fails at (Ok x) code e ok = cc
+cut_fails at (Err q) code e ok = cc
+
+-- a cell of one width that is known to be read ends there
+pub cell_past : FixedCells → (o : Order) (c : Col) (bytes : List ℕ) (at w : ℕ) → cell_width c.kind c.count ≡ Some w → at ≤ length bytes → IsOk (cell_in o c bytes at) → (end_of (cell_in o c bytes at) ≡ Ok (at + w)) × (at + w ≤ length bytes)
+cell_past cells o c bytes at w f inside ok =
+    let rest = drop at bytes in
+    elim (cases_lt (length rest) w) [
+      | inl lt ↦ absurd (cut_fails at (cell_from o c.kind c.count rest) CellCut ((cells o c.kind c.count rest w f).cut lt) ok)
+      | inr le ↦ let z = (cells o c.kind c.count rest w f).whole le in (whole_by at w z.0 (cell_from o c.kind c.count rest) z.1, omega (arith, le, length-drop at bytes, inside))
+    ]
+
 pub added : (a b : Option ℕ) (w : ℕ) → add_width a b ≡ Some w → (x : ℕ) × (y : ℕ) × (a ≡ Some x) × (b ≡ Some y) × (x + y ≡ w)
 added None b w e = absurd cc
 added (Some a) None w e = absurd cc
@@ -62,7 +79,7 @@ added (Some a) (Some b) w e = (a, b, refl, refl, some_is (a + b) w e)
 
 pub row_len : FixedCells → (o : Order) (cs : List Col) (bytes : List ℕ) (at : ℕ) (r : Row) (n w : ℕ) → width_of cs ≡ Some w → row_at o cs bytes at ≡ Ok (r, n) → n ≡ at + w
 unfolding row_at
-row_len cells o [] bytes at r n w f e = omega (arith, some_is 0 w f, ap (λ (x : Row × ℕ). x.1) (ok_is ([], at) (r, n) e))
+row_len cells o [] bytes at r n w f e = omega (arith, some_is 0 w f, ap (λ (x : Row × ℕ). x.1) (ok_is {x = ([], at)} {y = (r, n)} e))
 row_len cells o (c ∷ cs) bytes at r n w f e =
     let a = added (cell_width c.kind c.count) (width_of cs) w f in
     let s = opens o c cs bytes at r n e in
@@ -93,16 +110,16 @@ pub row_stands : FixedCells → (m : ℕ) (o : Order) (cs : List Col) (bytes : L
 unfolding rows_at
 row_stands cells zero o cs bytes at rs w k f e h =
     elim (tested (leb (length bytes) at) (rows []) (Err (fault at (codes.LimitRows (most_rows + 1)))) (rows rs) e) [
-      | inl t ↦ absurd (let z = ok_is [] rs t.1 in omega (arith, ap length z))
+      | inl t ↦ absurd (let z = ok_is {x = []} {y = rs} t.1 in omega (arith, ap length z))
       | inr t ↦ absurd (let f = t.1 in cc)
     ]
 row_stands cells (suc m) o cs bytes at rs w k f e h =
     elim (tested (leb (length bytes) at) (rows []) (row_at o cs bytes at >>= λ r. rows_at m o cs bytes r.1 >>= λ others. Ok (r.0 ∷ others)) (rows rs) e) [
-      | inl t ↦ absurd (let z = ok_is [] rs t.1 in omega (arith, ap length z))
+      | inl t ↦ absurd (let z = ok_is {x = []} {y = rs} t.1 in omega (arith, ap length z))
       | inr t ↦
           let a = bind_ok (row_at o cs bytes at) (λ r. rows_at m o cs bytes r.1 >>= λ others. Ok (r.0 ∷ others)) rs t.1 in
           let b = bind_ok (rows_at m o cs bytes a.0.1) (λ others. Ok (a.0.0 ∷ others)) rs a.2 in
-          let is : a.0.0 ∷ b.0 ≡ rs = ok_is (a.0.0 ∷ b.0) rs b.2 in
+          let is : a.0.0 ∷ b.0 ≡ rs = ok_is {x = (a.0.0 ∷ b.0)} {y = rs} b.2 in
           let next : a.0.1 ≡ at + w = row_len cells o cs bytes at a.0.0 a.0.1 w f a.1 in
           let more : at < length bytes = leb-false _ _ t.0 in
           subst (λ (x : List Row). Stands o cs bytes (at + k * w) x k) is
@@ -157,7 +174,7 @@ rows_whole cells (suc k) m before o cs bytes at w f some le inside =
     first ∙ others ∙ ap (λ (x : ℕ). counted x (rows_at (m - 1 - k) o cs bytes (at + w + k * w))) b ∙ ap (λ (x : ℕ). counted (before + suc k) (rows_at x o cs bytes (at + w + k * w))) n ∙ ap (λ (x : ℕ). counted (before + suc k) (rows_at (m - suc k) o cs bytes x)) a
 
 ends_by : FixedCells → (o : Order) (cs : List Col) (bytes : List ℕ) (at n w : ℕ) (r : Result (Row × ℕ) Place) → width_of cs ≡ Some w → row_at o cs bytes at ≡ r → (let e : Result ℕ Place = Ok n in e) ≡ end_of r → n ≡ at + w
-ends_by cells o cs bytes at n w (Ok x) f e h = ok_is n x.1 h ∙ row_len cells o cs bytes at x.0 x.1 w f e
+ends_by cells o cs bytes at n w (Ok x) f e h = ok_is {x = n} {y = x.1} h ∙ row_len cells o cs bytes at x.0 x.1 w f e
 ends_by cells o cs bytes at n w (Err p) f e h = absurd cc
 
 -- where a row of this width ends

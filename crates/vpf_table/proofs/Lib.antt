@@ -15,13 +15,6 @@ pub mod SpanLaws
 pub mod FaultLaws
 pub mod RefusalLaws
 pub mod Decided
-pub mod RowTexts
-pub mod WriteLimits
-pub mod Cutting
-pub mod WholeTables
 pub mod ReadRows
-pub mod WritingLaws
-pub mod Pieces
-pub mod Blocks
-pub mod FixedRows
-pub mod InPlaceFiles
+pub mod OneSpelling
+pub mod CanonicalTables

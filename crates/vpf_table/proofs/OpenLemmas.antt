@@ -1,5 +1,7 @@
 use Rattle.std.proofs.Common.{◌≡◌, ℕ, ◌+◌, List, length, Option, Result, Ok, Err, refl, ap, subst, arith}
 use Rattle.std.specs.Prelude.{IfOk, IfErr}
+use Rattle.vpf_base.specs.Limits.{most_rows}
+use Rattle.vpf_base.proofs.Results.{done}
 use Rattle.vpf_triplet.specs.declared.places.Place.{Place}
 use Rattle.vpf_triplet.specs.declared.places.PlaceError.{PlaceError}
 use Rattle.vpf_triplet.specs.declared.places.PlaceError.TheVariants as errors
@@ -10,7 +12,7 @@ use Rattle.vpf_table.specs.Opening.{opened_of}
 use Rattle.vpf_table.specs.Spans.{IsOpened}
 use Rattle.vpf_head.specs.Reading.{header_of}
 use Rattle.vpf_table.specs.Grid.{Row, Grid}
-use Rattle.vpf_table.specs.Reading.{most_rows, rows_at, table_of}
+use Rattle.vpf_table.specs.Reading.{rows_at, table_of}
 use Rattle.vpf_table.specs.Walking.{counted, rows_of}
 
 pub head_fails : (e : PlaceError) (bytes : List ℕ) → Fails e (header_of bytes) → Fails e (table_of bytes)
@@ -21,9 +23,6 @@ head_fails (errors.Place p) bytes h = rw h refl
 pub counted_err : (r : Result (List Row) Place) (p : Place) → Err p ≡ counted 0 r → r ≡ Err p
 counted_err (Ok rs) p e = absurd cc
 counted_err (Err q) p e = let k : q ≡ p = cc in ap (λ (x : Place). Err x) k
-
-abbrev done : {A : Type 0} → A → Result A Place
-done x = Ok x
 
 pub counted_ok : (r : Result (List Row) Place) (n : ℕ) → done n ≡ counted 0 r → (r ≡ Ok (rows_of r)) × (n ≡ length (rows_of r))
 counted_ok (Ok rs) n e = let k : n ≡ 0 + length rs = cc in (refl, omega arith)
@@ -52,3 +51,8 @@ pub refused_is_faulty : (r : Result Grid PlaceError) (bytes : List ℕ) (index :
 refused_is_faulty (Ok g) bytes index faulty e = tt
 refused_is_faulty (Err errors.NoMemory) bytes index faulty e = tt
 refused_is_faulty (Err (errors.Place p)) bytes index faulty e = faulty p e
+
+-- a table whose header and rows are read so
+pub table_read : (bytes : List ℕ) (h : Head) (start : ℕ) (rows : List Row) → header_of bytes ≡ Ok (h, start) → rows_at most_rows h.order h.columns bytes start ≡ Ok rows → table_of bytes ≡ Ok (record { head = h; rows = rows })
+unfolding table_of
+table_read bytes h start rows e f = rw (e, f) refl

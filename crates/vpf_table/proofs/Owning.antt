@@ -1,13 +1,12 @@
 -- An index is the table's own, or has its first fault.
-use Rattle.std.proofs.Common.{◌≡◌, ℕ, ◌+◌, ◌*◌, Bool, true, false, cond, List, length, Option, Some, None, Result, Ok, Err, refl, sym, ap, ◌∙◌}
-use Rattle.std.specs.Prelude.{IfSome, ◌==◌}
+use Rattle.std.proofs.Common.{◌≡◌, ℕ, ◌+◌, ◌*◌, Bool, true, false, cond, List, length, Option, Some, None, Result, Ok, Err, refl, ap}
+use Rattle.std.specs.Prelude.{◌==◌}
 use Rattle.std.proofs.lemmas.Bool.{eqb-true, eq-eqb, ne_eqb}
+use Rattle.vpf_base.specs.Results.{◌>>=◌}
 use Rattle.vpf_triplet.specs.declared.orders.Order.{Order}
 use Rattle.vpf_triplet.specs.declared.places.Place.{Place}
-use Rattle.vpf_triplet.specs.declared.places.PlaceError.{PlaceError}
-use Rattle.vpf_triplet.specs.declared.places.PlaceError.TheVariants as errors
 use Rattle.vpf_triplet.specs.declared.places.Code.TheVariants as codes
-use Rattle.vpf_triplet.specs.Places.{◌>>=◌, index_fault, Fails}
+use Rattle.vpf_triplet.specs.Places.{index_fault, Gives}
 use Rattle.vpf_head.specs.Reading.{header_of}
 use Rattle.vpf_varindex.specs.Reading.{index_at}
 use Rattle.vpf_table.specs.Grid.{Grid}
@@ -42,6 +41,10 @@ entry_differs o index es ss p e l h = rw (e, eq-eqb _ _ l) (failed_by (Some es) 
 
 pub is_own : (o : Order) (index : List ℕ) (es ss : List (ℕ × ℕ)) → index_at o index ≡ Ok es → length es ≡ length ss → fine ≡ checked (first_other 0 es ss) → own_entries o ss (Some index) ≡ Ok (Some es)
 is_own o index es ss e l h = rw (e, eq-eqb _ _ l, none_other (first_other 0 es ss) h) refl
+
+-- what is told of these offsets and lengths is told of the same
+pub told_by : (r : Result (Unit {0}) Place) (es spans ss : List (ℕ × ℕ)) (o : Option ℕ) → ss ≡ spans → first_other 0 es spans ≡ o → r ≡ checked o → r ≡ checked (first_other 0 es ss)
+told_by r es spans ss o e f h = rw (e, f) h
 
 -- ---- as a table is opened with it
 
@@ -78,33 +81,11 @@ owned_is g h es ss e =
 pub owned_self : (g : Grid) (ss : List (ℕ × ℕ)) → owned g ss ss ≡ Ok g
 owned_self g ss = rw (eq-eqb (length ss) (length ss) refl, other_self 0 ss) refl
 
-own_by : (r : Result (List (ℕ × ℕ)) Place) (ss : List (ℕ × ℕ)) (x : Option (List (ℕ × ℕ))) → own_of r ss ≡ Ok x → IfSome x (λ es. es ≡ ss)
-own_by (Ok es) ss None e = absurd (let k = (ok_by (Some es) None (Some es) (length es == length ss) (first_other 0 es ss) (index_fault 0 codes.IndexCount) e).2 in cc)
-own_by (Ok es) ss (Some fs) e =
-    let k = ok_by (Some es) (Some fs) (Some es) (length es == length ss) (first_other 0 es ss) (index_fault 0 codes.IndexCount) e in
-    let same : es ≡ fs = let z = k.2 in cc in
-    sym same ∙ same_spans 0 es ss (eqb-true _ _ k.0) k.1
-own_by (Err p) ss x e = absurd cc
-
-pub own_is : (o : Order) (ss : List (ℕ × ℕ)) (index : Option (List ℕ)) (x : Option (List (ℕ × ℕ))) → own_entries o ss index ≡ Ok x → IfSome x (λ es. es ≡ ss)
-own_is o ss None None e = tt
-own_is o ss None (Some es) e = absurd cc
-own_is o ss (Some index) x e = own_by (index_at o index) ss x e
-
-pub table_fails : (e : PlaceError) (bytes : List ℕ) (index : Option (List ℕ)) → Fails e (table_of bytes) → Fails e (opened_of bytes index)
-table_fails errors.NoMemory bytes index h = tt
-table_fails (errors.Place p) bytes None h = h
-table_fails (errors.Place p) bytes (Some index) h = rw h refl
-
-spans_are : (bytes : List ℕ) (g : Grid) (start : ℕ) → header_of bytes ≡ Ok (g.head, start) → row_spans bytes g ≡ spans_at (length g.rows) g.head.order g.head.columns bytes start
+pub spans_are : (bytes : List ℕ) (g : Grid) (start : ℕ) → header_of bytes ≡ Ok (g.head, start) → row_spans bytes g ≡ spans_at (length g.rows) g.head.order g.head.columns bytes start
 spans_are bytes g start e = rw e refl
 
-pub index_fails : (bytes : List ℕ) (g : Grid) (start : ℕ) (index : Option (List ℕ)) (p : Place) → header_of bytes ≡ Ok (g.head, start) → table_of bytes ≡ Ok g
-    → own_entries g.head.order (spans_at (length g.rows) g.head.order g.head.columns bytes start) index ≡ Err p → opened_of bytes index ≡ Err p
-index_fails bytes g start None p e t h = absurd cc
-index_fails bytes g start (Some index) p e t h = rw (t, spans_are bytes g start e) (fails_by g (index_at g.head.order index) _ p h)
-
-pub index_opens : (bytes : List ℕ) (g : Grid) (start : ℕ) (index : Option (List ℕ)) (x : Option (List (ℕ × ℕ))) → header_of bytes ≡ Ok (g.head, start) → table_of bytes ≡ Ok g
-    → own_entries g.head.order (spans_at (length g.rows) g.head.order g.head.columns bytes start) index ≡ Ok x → opened_of bytes index ≡ Ok g
-index_opens bytes g start None x e t h = t
-index_opens bytes g start (Some index) x e t h = rw (t, spans_are bytes g start e) (opens_by g (index_at g.head.order index) _ x h)
+-- a table that was read is opened with an index where these are its own entries, and refused where the index is
+pub given_own : (bytes : List ℕ) (g : Grid) (index : List ℕ) (r : Result (List (ℕ × ℕ)) Place) → table_of bytes ≡ Ok g
+    → Gives (λ (es : List (ℕ × ℕ)). Some es) r (own_entries g.head.order (row_spans bytes g) (Some index)) → Gives (λ (es : List (ℕ × ℕ)). g) r (opened_of bytes (Some index))
+given_own bytes g index (Ok es) t h = rw t (opens_by g (index_at g.head.order index) (row_spans bytes g) (Some es) h)
+given_own bytes g index (Err p) t h = rw t (fails_by g (index_at g.head.order index) (row_spans bytes g) p h)

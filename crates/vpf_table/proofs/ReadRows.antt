@@ -3,11 +3,12 @@ use Rattle.std.specs.Prelude.{All, IsOk, IsTrue}
 use Rattle.std.proofs.Common.{◌≡◌, ℕ, ◌-◌, ◌≤◌, List, [], ◌∷◌, length, drop, ap, arith}
 use Rattle.std.proofs.lemmas.List.{length-append, length-drop}
 use Rattle.std.proofs.lemmas.List.Elements.{All-head, All-tail, All-nil, All-cons}
+use Rattle.vpf_base.specs.Limits.{most_rows}
+use Rattle.vpf_base.specs.Bytes.{IsBytes}
 use Rattle.vpf_triplet.specs.declared.orders.Order.{Order}
 use Rattle.vpf_triplet.specs.declared.kinds.Kind.{Kind}
 use Rattle.vpf_triplet.specs.declared.kinds.Count.{Count}
 use Rattle.vpf_triplet.specs.Kinds.{allows}
-use Rattle.vpf_triplet.specs.Numbers.{IsBytes}
 use Rattle.vpf_value.specs.Values.{Value}
 use Rattle.vpf_value.specs.Spelling.{IsCell}
 use Rattle.vpf_value.specs.Fitting.{FitsCell}
@@ -15,7 +16,7 @@ use Rattle.vpf_value.specs.Canonical.{spelled}
 use Rattle.vpf_head.specs.Head.{Col}
 use Rattle.vpf_head.specs.Soundness.{IsCounted}
 use Rattle.vpf_table.specs.Grid.{Row}
-use Rattle.vpf_table.specs.Reading.{most_rows, rows_at}
+use Rattle.vpf_table.specs.Reading.{rows_at}
 use Rattle.vpf_table.specs.Walking.{rows_of}
 use Rattle.vpf_table.specs.Spelling.{IsRow, IsRows}
 use Rattle.vpf_table.specs.Canonical.{FitsRow, row_text, rows_text}

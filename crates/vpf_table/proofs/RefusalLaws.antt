@@ -3,6 +3,7 @@ use Rattle.std.proofs.Common.{◌≡◌, ℕ, zero, suc, ◌+◌, ◌-◌, ◌*�
 use Rattle.std.specs.Prelude.{◌==◌, ◌&&◌}
 use Rattle.std.proofs.lemmas.Bool.{lt-leb, eq-eqb, ne_eqb}
 use Rattle.std.proofs.lemmas.List.{drop_at, drop-drop, length-append, length-drop}
+use Rattle.vpf_base.specs.Limits.{most_rows}
 use Rattle.vpf_triplet.specs.declared.orders.Order.{Order}
 use Rattle.vpf_triplet.specs.declared.places.Place.{Place}
 use Rattle.vpf_triplet.specs.declared.places.Code.{Code}
@@ -18,7 +19,7 @@ use Rattle.vpf_table.specs.Faults.{Begins, Stops, TableFault, Differs, FirstFaul
 use Rattle.vpf_table.specs.Grid.{Row, Grid}
 use Rattle.vpf_table.specs.Lower.{CellAndHeaderLaws, IndexLaws}
 use Rattle.vpf_table.specs.Opening.{row_spans, first_other, opened_of}
-use Rattle.vpf_table.specs.Reading.{most_rows, row_at, rows_at, table_of}
+use Rattle.vpf_table.specs.Reading.{row_at, rows_at, table_of}
 use Rattle.vpf_table.specs.Spelling.{IsRow, IsRows}
 use Rattle.vpf_table.proofs.FaultLaws.{same_pair, same_self}
 use Rattle.vpf_table.proofs.RowLaws.{HasRoom, row_again}
@@ -28,7 +29,7 @@ use Rattle.vpf_table.proofs.TableLaws.{has_room, table_again}
 -- ---- cells of a row
 
 row_by : CellAndHeaderLaws → (o : Order) (before : List Col) (next : Col) (after : List Col) (cells : Row) (bytes : List ℕ) (at : ℕ) (text rest : List ℕ) (code : Code) → drop at bytes ≡ text ++ rest → IsRow o before cells text
-    → values.FirstFault o next.kind next.count rest code → row_at o (before ++ next ∷ after) bytes at ≡ Err (fault (at + length text) code)
+    → values.FirstCellFault o next.kind next.count rest code → row_at o (before ++ next ∷ after) bytes at ≡ Err (fault (at + length text) code)
 unfolding row_at
 row_by laws o [] next after [] bytes at text rest code e h f =
     let here : drop at bytes ≡ rest = e ∙ ap (λ (t : List ℕ). t ++ rest) h in

@@ -2,27 +2,28 @@
 use Rattle.std.proofs.Common.{◌≡◌, ℕ, zero, suc, ◌+◌, ◌-◌, ◌<◌, ◌≤◌, leb, List, [], ◌∷◌, ◌++◌, length, drop, Ok, Err, refl, sym, ap, subst, ◌∙◌, append_assoc, arith, take-add, inl, inr}
 use Rattle.std.specs.Prelude.{slice_range}
 use Rattle.std.proofs.lemmas.Bool.{lt-leb, le-leb, leb-true}
-use Rattle.std.proofs.lemmas.List.{drop_at, drop-drop, take-append-drop, length-append, length-drop, get_or-drop, drop_all}
+use Rattle.std.proofs.lemmas.List.{drop_at, drop-drop, take-append-drop, length-append, length-drop, drop_all}
+use Rattle.vpf_base.specs.Limits.{most_rows}
+use Rattle.vpf_base.proofs.Booleans.{tested}
+use Rattle.vpf_base.proofs.Results.{ok_is, bind_ok}
+use Rattle.vpf_base.specs.Results.{◌>>=◌}
+use Rattle.vpf_base.specs.Bytes.{IsBytes}
+use Rattle.vpf_base.proofs.ByteLists.{IsBytes-drop}
 use Rattle.vpf_triplet.specs.declared.orders.Order.{Order}
 use Rattle.vpf_triplet.specs.declared.places.Code.TheVariants as codes
-use Rattle.vpf_triplet.specs.Numbers.{IsBytes}
-use Rattle.vpf_triplet.specs.Places.{◌>>=◌, fault}
+use Rattle.vpf_triplet.specs.Places.{fault}
 use Rattle.vpf_value.specs.Reading.{cell_from}
 use Rattle.vpf_value.specs.Spelling.{IsCell}
 use Rattle.vpf_head.specs.Head.{Col}
 use Rattle.vpf_table.specs.Grid.{Row}
-use Rattle.vpf_table.specs.Reading.{most_rows, cell_in, row_at, rows_at}
+use Rattle.vpf_table.specs.Reading.{cell_in, row_at, rows_at}
 use Rattle.vpf_table.specs.Spelling.{IsRow, IsRows}
 use Rattle.vpf_table.specs.Lower.{CellAndHeaderLaws}
-use Rattle.vpf_table.proofs.WalkLemmas.{ok_is}
-use Rattle.vpf_table.proofs.Parts.{bind_ok, lifted_ok, rows, tested}
+use Rattle.vpf_table.proofs.Parts.{lifted_ok, rows}
 
 -- rows of these columns take at least a byte each
 abbrev pub HasRoom : Order → List Col → Type 0
 HasRoom o cs = (r : Row) (x : List ℕ) → IsRow o cs r x → 0 < length x
-
-pub IsBytes-drop : (n : ℕ) (bytes : List ℕ) → IsBytes bytes → IsBytes (drop n bytes)
-IsBytes-drop n bytes h i = rw get_or-drop (h (n + i))
 
 -- a range of the bytes in two parts
 range_parts : (bytes : List ℕ) (a m n : ℕ) → a ≤ m → m ≤ n → slice_range bytes a n ≡ slice_range bytes a m ++ slice_range bytes m n
@@ -51,7 +52,7 @@ pub row_takes : CellAndHeaderLaws → (o : Order) (cs : List Col) (bytes : List 
 unfolding row_at
 row_takes laws o [] bytes at r n fits h e =
     let z : at - at ≡ 0 = omega arith in
-    subst (λ (x : Row × ℕ). (at ≤ x.1) × (x.1 ≤ length bytes) × IsRow o [] x.0 (slice_range bytes at x.1)) (ok_is ([], at) (r, n) e) (omega arith, h, rw z refl)
+    subst (λ (x : Row × ℕ). (at ≤ x.1) × (x.1 ≤ length bytes) × IsRow o [] x.0 (slice_range bytes at x.1)) (ok_is {x = ([], at)} {y = (r, n)} e) (omega arith, h, rw z refl)
 row_takes laws o (c ∷ cs) bytes at r n fits h e =
     let a = bind_ok (cell_in o c bytes at) (λ first. row_at o cs bytes first.1 >>= λ others. Ok (first.0 ∷ others.0, others.1)) (r, n) e in
     let x = a.0 in
@@ -63,7 +64,7 @@ row_takes laws o (c ∷ cs) bytes at r n fits h e =
     let others = row_takes laws o cs bytes x.1 b.0.0 b.0.1 fits inside b.1 in
     let low : at ≤ x.1 = omega (arith, l.2) in
     let cell : IsCell o c.kind c.count x.0 (slice_range bytes at x.1) = rw k t.1 in
-    subst (λ (y : Row × ℕ). (at ≤ y.1) × (y.1 ≤ length bytes) × IsRow o (c ∷ cs) y.0 (slice_range bytes at y.1)) (ok_is (x.0 ∷ b.0.0, b.0.1) (r, n) b.2)
+    subst (λ (y : Row × ℕ). (at ≤ y.1) × (y.1 ≤ length bytes) × IsRow o (c ∷ cs) y.0 (slice_range bytes at y.1)) (ok_is {x = (x.0 ∷ b.0.0, b.0.1)} {y = (r, n)} b.2)
     (omega (arith, others.0), others.1, (slice_range bytes at x.1, slice_range bytes x.1 b.0.1, range_parts bytes at x.1 b.0.1 low others.0, cell, others.2))
 
 -- ---- rows
@@ -92,12 +93,12 @@ pub rows_take : CellAndHeaderLaws → (m : ℕ) (o : Order) (cs : List Col) (byt
 unfolding rows_at
 rows_take laws zero o cs bytes at rs fits h e =
     elim (tested (leb (length bytes) at) (rows []) (Err (fault at (codes.LimitRows (most_rows + 1)))) (rows rs) e) [
-      | inl t ↦ subst (λ (x : List Row). (length x ≤ 0) × IsRows o cs x (drop at bytes)) (ok_is [] rs t.1) (omega arith, drop_all at bytes (leb-true _ _ t.0))
+      | inl t ↦ subst (λ (x : List Row). (length x ≤ 0) × IsRows o cs x (drop at bytes)) (ok_is {x = []} {y = rs} t.1) (omega arith, drop_all at bytes (leb-true _ _ t.0))
       | inr t ↦ absurd (let f = t.1 in cc)
     ]
 rows_take laws (suc m) o cs bytes at rs fits h e =
     elim (tested (leb (length bytes) at) (rows []) (row_at o cs bytes at >>= λ r. rows_at m o cs bytes r.1 >>= λ others. Ok (r.0 ∷ others)) (rows rs) e) [
-      | inl t ↦ subst (λ (x : List Row). (length x ≤ suc m) × IsRows o cs x (drop at bytes)) (ok_is [] rs t.1) (omega arith, drop_all at bytes (leb-true _ _ t.0))
+      | inl t ↦ subst (λ (x : List Row). (length x ≤ suc m) × IsRows o cs x (drop at bytes)) (ok_is {x = []} {y = rs} t.1) (omega arith, drop_all at bytes (leb-true _ _ t.0))
       | inr t ↦
           let a = bind_ok (row_at o cs bytes at) (λ r. rows_at m o cs bytes r.1 >>= λ others. Ok (r.0 ∷ others)) rs t.1 in
           let b = bind_ok (rows_at m o cs bytes a.0.1) (λ others. Ok (a.0.0 ∷ others)) rs a.2 in
@@ -105,6 +106,6 @@ rows_take laws (suc m) o cs bytes at rs fits h e =
           let others = rows_take laws m o cs bytes a.0.1 b.0 fits row.1 b.1 in
           let k : at + (a.0.1 - at) ≡ a.0.1 = omega (arith, row.0) in
           let split : drop at bytes ≡ slice_range bytes at a.0.1 ++ drop a.0.1 bytes = sym (take-append-drop (a.0.1 - at) (drop at bytes)) ∙ ap (λ (d : List ℕ). slice_range bytes at a.0.1 ++ d) (drop-drop (a.0.1 - at) at bytes ∙ ap (λ (n : ℕ). drop n bytes) k) in
-          subst (λ (x : List Row). (length x ≤ suc m) × IsRows o cs x (drop at bytes)) (ok_is (a.0.0 ∷ b.0) rs b.2)
+          subst (λ (x : List Row). (length x ≤ suc m) × IsRows o cs x (drop at bytes)) (ok_is {x = (a.0.0 ∷ b.0)} {y = rs} b.2)
           (omega (arith, others.0), (slice_range bytes at a.0.1, drop a.0.1 bytes, split, row.2, others.1))
     ]

@@ -2,10 +2,10 @@
 use Rattle.std.proofs.Common.{◌≡◌, ℕ, zero, suc, ◌-◌, ◌<◌, ◌≤◌, List, [], ◌∷◌, length, Result, Ok, Err, refl, arith}
 use Rattle.std.specs.Prelude.{IsOk}
 use Rattle.std.proofs.lemmas.Bool.{lt-leb, le-leb}
+use Rattle.vpf_base.specs.Results.{◌>>=◌}
 use Rattle.vpf_triplet.specs.declared.orders.Order.{Order}
 use Rattle.vpf_triplet.specs.declared.places.Place.{Place}
 use Rattle.vpf_head.specs.Head.{Col}
-use Rattle.vpf_triplet.specs.Places.{◌>>=◌}
 use Rattle.vpf_table.specs.Grid.{Row}
 use Rattle.vpf_table.specs.Reading.{row_at, rows_at}
 use Rattle.vpf_table.specs.Walking.{row_of, past_of, rows_of}

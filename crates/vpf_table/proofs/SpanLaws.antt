@@ -4,22 +4,25 @@ use Rattle.std.specs.Prelude.{All, IfSome, slice_get, slice_range}
 use Rattle.std.proofs.lemmas.List.{drop_at, take_at, drop-drop, take-append-drop, length-append, length-drop, length-take-le, drop_all}
 use Rattle.std.proofs.lemmas.List.Elements.{All-nil, All-cons}
 use Rattle.std.proofs.lemmas.Bool.{leb-true}
+use Rattle.vpf_base.specs.Limits.{most_rows}
+use Rattle.vpf_base.proofs.Booleans.{tested}
+use Rattle.vpf_base.proofs.Results.{ok_is, bind_ok}
+use Rattle.vpf_base.specs.Results.{◌>>=◌}
+use Rattle.vpf_base.specs.Bytes.{IsBytes}
 use Rattle.vpf_triplet.specs.declared.orders.Order.{Order}
 use Rattle.vpf_triplet.specs.declared.places.Code.TheVariants as codes
-use Rattle.vpf_triplet.specs.Numbers.{IsBytes}
-use Rattle.vpf_triplet.specs.Places.{◌>>=◌, fault}
+use Rattle.vpf_triplet.specs.Places.{fault}
 use Rattle.vpf_head.specs.Head.{Head, Col}
 use Rattle.vpf_head.specs.Reading.{header_of}
 use Rattle.vpf_varindex.specs.Reading.{index_at}
 use Rattle.vpf_varindex.specs.RowIndex.{row_index, HasSpan, IsRowIndex}
 use Rattle.vpf_table.specs.Grid.{Row, Grid}
-use Rattle.vpf_table.specs.Reading.{most_rows, row_at, rows_at, table_of}
+use Rattle.vpf_table.specs.Reading.{row_at, rows_at, table_of}
 use Rattle.vpf_table.specs.Spelling.{IsRow, IsRows, IsTable}
 use Rattle.vpf_table.specs.Opening.{spans_at, start_of, row_spans, owned, opened_of}
 use Rattle.vpf_table.specs.Spans.{AreSpans, LieAt, IsIndexed, IsOpened}
 use Rattle.vpf_table.specs.Lower.{CellAndHeaderLaws, IndexLaws}
-use Rattle.vpf_table.proofs.WalkLemmas.{ok_is}
-use Rattle.vpf_table.proofs.Parts.{bind_ok, rows, tested}
+use Rattle.vpf_table.proofs.Parts.{rows}
 use Rattle.vpf_table.proofs.CellOf.{is_ok_from}
 use Rattle.vpf_table.proofs.RowLaws.{row_again, row_takes}
 use Rattle.vpf_table.proofs.RowsFew.{rows_few}
@@ -61,12 +64,12 @@ pub spans_take : CellAndHeaderLaws → (m : ℕ) (o : Order) (cs : List Col) (by
 unfolding rows_at spans_at
 spans_take laws zero o cs bytes at rs fits h e =
     elim (tested (leb (length bytes) at) (rows []) (Err (fault at (codes.LimitRows (most_rows + 1)))) (rows rs) e) [
-      | inl t ↦ subst (λ (x : List Row). AreSpans o cs x at (drop at bytes) (spans_at (length x) o cs bytes at)) (ok_is [] rs t.1) (drop_all at bytes (leb-true _ _ t.0))
+      | inl t ↦ subst (λ (x : List Row). AreSpans o cs x at (drop at bytes) (spans_at (length x) o cs bytes at)) (ok_is {x = []} {y = rs} t.1) (drop_all at bytes (leb-true _ _ t.0))
       | inr t ↦ absurd (let f = t.1 in cc)
     ]
 spans_take laws (suc m) o cs bytes at rs fits h e =
     elim (tested (leb (length bytes) at) (rows []) (row_at o cs bytes at >>= λ r. rows_at m o cs bytes r.1 >>= λ others. Ok (r.0 ∷ others)) (rows rs) e) [
-      | inl t ↦ subst (λ (x : List Row). AreSpans o cs x at (drop at bytes) (spans_at (length x) o cs bytes at)) (ok_is [] rs t.1) (drop_all at bytes (leb-true _ _ t.0))
+      | inl t ↦ subst (λ (x : List Row). AreSpans o cs x at (drop at bytes) (spans_at (length x) o cs bytes at)) (ok_is {x = []} {y = rs} t.1) (drop_all at bytes (leb-true _ _ t.0))
       | inr t ↦
           let a = bind_ok (row_at o cs bytes at) (λ r. rows_at m o cs bytes r.1 >>= λ others. Ok (r.0 ∷ others)) rs t.1 in
           let b = bind_ok (rows_at m o cs bytes a.0.1) (λ others. Ok (a.0.0 ∷ others)) rs a.2 in
@@ -81,7 +84,7 @@ spans_take laws (suc m) o cs bytes at rs fits h e =
           let rest : AreSpans o cs b.0 (at + length x) (drop a.0.1 bytes) (spans_at (length b.0) o cs bytes a.0.1) = subst (λ (n : ℕ). AreSpans o cs b.0 n (drop a.0.1 bytes) (spans_at (length b.0) o cs bytes a.0.1)) past others in
           let all : AreSpans o cs (a.0.0 ∷ b.0) at (drop at bytes) ((at, length x) ∷ spans_at (length b.0) o cs bytes a.0.1) = (x, drop a.0.1 bytes, split, row.2, refl, rest) in
           let here : AreSpans o cs (a.0.0 ∷ b.0) at (drop at bytes) (spans_at (length (a.0.0 ∷ b.0)) o cs bytes at) = subst (λ (ss : List (ℕ × ℕ)). AreSpans o cs (a.0.0 ∷ b.0) at (drop at bytes) ss) (sym spans) all in
-          subst (λ (rr : List Row). AreSpans o cs rr at (drop at bytes) (spans_at (length rr) o cs bytes at)) (ok_is (a.0.0 ∷ b.0) rs b.2) here
+          subst (λ (rr : List Row). AreSpans o cs rr at (drop at bytes) (spans_at (length rr) o cs bytes at)) (ok_is {x = (a.0.0 ∷ b.0)} {y = rs} b.2) here
     ]
 
 -- ---- tables
@@ -121,7 +124,7 @@ parts_of bytes g e =
     let a = bind_ok (header_of bytes) (λ h. rows_at most_rows h.0.order h.0.columns bytes h.1 >>= λ rs. Ok (record { head = h.0; rows = rs })) g e in
     let h = a.0 in
     let b = bind_ok (rows_at most_rows h.0.order h.0.columns bytes h.1) (λ rs. Ok (record { head = h.0; rows = rs })) g a.2 in
-    record { head = h.0; start = h.1; rows = b.0; header = a.1; read = b.1; is = ok_is (record { head = h.0; rows = b.0 }) g b.2 }
+    record { head = h.0; start = h.1; rows = b.0; header = a.1; read = b.1; is = ok_is {x = (record { head = h.0; rows = b.0 })} {y = g} b.2 }
 
 -- the rows of a table that is read lie at their spans
 pub record Lies (g : Grid) (bytes : List ℕ) : Type 0 where

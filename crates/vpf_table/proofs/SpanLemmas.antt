@@ -2,6 +2,8 @@
 use Rattle.std.proofs.Common.{◌≡◌, ℕ, zero, suc, ◌+◌, ◌-◌, ◌<◌, ◌≤◌, Bool, true, false, cond, List, [], ◌∷◌, length, drop, Option, Some, None, Result, Ok, Err, refl, sym, ap, subst, ◌∙◌, arith, nat_eq}
 use Rattle.std.specs.Prelude.{IsOk, slice_get, ◌&&◌}
 use Rattle.std.proofs.lemmas.Bool.{eqb-true, eq-eqb}
+use Rattle.vpf_base.proofs.Results.{ok_is, done}
+use Rattle.vpf_base.proofs.Lists.{next_item}
 use Rattle.vpf_triplet.specs.declared.orders.Order.{Order}
 use Rattle.vpf_triplet.specs.declared.places.Place.{Place}
 use Rattle.vpf_value.specs.Reading.{cell_from}
@@ -14,12 +16,11 @@ use Rattle.vpf_table.proofs.CellOf.{opens}
 use Rattle.vpf_table.proofs.Parts.{lifted_ok}
 use Rattle.vpf_table.proofs.RowsOpen.{rows_open}
 use Rattle.vpf_table.proofs.RowSteps.{begins}
-use Rattle.vpf_table.proofs.WalkLemmas.{next_item, ok_is, done}
 
 -- a row ends no earlier than it begins
 pub row_after : (o : Order) (cs : List Col) (bytes : List ℕ) (at : ℕ) (r : Row) (n : ℕ) → row_at o cs bytes at ≡ Ok (r, n) → at ≤ n
 unfolding row_at
-row_after o [] bytes at r n e = omega (arith, ap (λ (x : Row × ℕ). x.1) (ok_is ([], at) (r, n) e))
+row_after o [] bytes at r n e = omega (arith, ap (λ (x : Row × ℕ). x.1) (ok_is {x = ([], at)} {y = (r, n)} e))
 row_after o (c ∷ cs) bytes at r n e =
     let s = opens o c cs bytes at r n e in
     let l = lifted_ok at (cell_from o c.kind c.count (drop at bytes)) (s.value, s.next) s.cell in

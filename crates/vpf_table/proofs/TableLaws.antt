@@ -4,23 +4,23 @@ use Rattle.std.specs.Prelude.{◌||◌, ◌≢◌, All}
 use Rattle.std.specs.List.{list_any}
 use Rattle.std.proofs.lemmas.List.{drop_at, take-append-drop, length-append}
 use Rattle.std.proofs.lemmas.List.Elements.{All-head, All-tail}
+use Rattle.vpf_base.specs.Limits.{most_rows}
+use Rattle.vpf_base.proofs.Results.{ok_is, bind_ok}
+use Rattle.vpf_base.specs.Results.{◌>>=◌}
+use Rattle.vpf_base.specs.Bytes.{IsBytes}
 use Rattle.vpf_triplet.specs.declared.orders.Order.{Order}
 use Rattle.vpf_triplet.specs.declared.kinds.Kind.{Kind}
 use Rattle.vpf_triplet.specs.declared.kinds.Kind.TheVariants as kinds
 use Rattle.vpf_triplet.specs.declared.kinds.Count.{Count}
 use Rattle.vpf_triplet.specs.declared.kinds.Count.TheVariants.{Fixed}
-use Rattle.vpf_triplet.specs.Numbers.{IsBytes}
-use Rattle.vpf_triplet.specs.Places.{◌>>=◌}
 use Rattle.vpf_value.specs.Values.{Value}
 use Rattle.vpf_head.specs.Head.{Head, Col, is_data, holds_data}
 use Rattle.vpf_head.specs.Reading.{header_of}
 use Rattle.vpf_head.specs.Soundness.{IsInBounds, IsCounted, IsSound}
 use Rattle.vpf_table.specs.Grid.{Row, Grid}
-use Rattle.vpf_table.specs.Reading.{most_rows, rows_at, table_of}
+use Rattle.vpf_table.specs.Reading.{rows_at, table_of}
 use Rattle.vpf_table.specs.Spelling.{IsRow, IsTable}
 use Rattle.vpf_table.specs.Lower.{CellAndHeaderLaws}
-use Rattle.vpf_table.proofs.WalkLemmas.{ok_is}
-use Rattle.vpf_table.proofs.Parts.{bind_ok}
 use Rattle.vpf_table.proofs.RowLaws.{HasRoom, rows_again, rows_take}
 
 data_is_not_x : (kind : Kind) → is_data kind ≡ true → kind ≢ kinds.X
@@ -66,4 +66,4 @@ table_takes laws bytes g fits e =
     let head = laws.header_is_spelled bytes h.0 h.1 fits a.1 in
     let rows = rows_take laws most_rows h.0.order h.0.columns bytes h.1 b.0 fits head.0 b.1 in
     let table : IsTable made bytes = record { front = take h.1 bytes; rest = drop h.1 bytes; parts = sym (take-append-drop h.1 bytes); header = head.1; rows = rows.1; most = rows.0 } in
-    subst (λ (x : Grid). IsTable x bytes) (ok_is made g b.2) table
+    subst (λ (x : Grid). IsTable x bytes) (ok_is {x = made} {y = g} b.2) table

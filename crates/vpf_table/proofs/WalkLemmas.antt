@@ -1,27 +1,18 @@
 -- Walking over cells and rows, as loops do.
-use Rattle.std.proofs.Common.{◌≡◌, ℕ, zero, suc, ◌+◌, ◌-◌, ◌<◌, ◌≤◌, List, [], ◌∷◌, length, drop, Some, Result, Ok, Err, refl, sym, ap, ◌∙◌, arith}
-use Rattle.std.specs.Prelude.{slice_get}
-use Rattle.std.proofs.lemmas.List.{drop_more}
+use Rattle.std.proofs.Common.{◌≡◌, ℕ, zero, suc, ◌+◌, ◌-◌, ◌<◌, ◌≤◌, List, [], ◌∷◌, length, Result, Ok, Err, refl, sym, ap, ◌∙◌, arith}
 use Rattle.std.proofs.lemmas.Bool.{lt-leb, le-leb}
-use Rattle.std.proofs.lemmas.Option.{slice_get_within, get_or_from_slice_get}
+use Rattle.vpf_base.specs.Limits.{most_rows}
+use Rattle.vpf_base.specs.Results.{◌>>=◌}
+use Rattle.vpf_base.proofs.Results.{done, ok_is}
 use Rattle.vpf_triplet.specs.declared.orders.Order.{Order}
 use Rattle.vpf_triplet.specs.declared.places.Place.{Place}
 use Rattle.vpf_triplet.specs.declared.places.Code.TheVariants as codes
 use Rattle.vpf_value.specs.Values.{Value}
 use Rattle.vpf_head.specs.Head.{Col}
-use Rattle.vpf_triplet.specs.Places.{◌>>=◌, fault}
+use Rattle.vpf_triplet.specs.Places.{fault}
 use Rattle.vpf_table.specs.Grid.{Row}
-use Rattle.vpf_table.specs.Reading.{cell_in, row_at, rows_at, most_rows}
+use Rattle.vpf_table.specs.Reading.{cell_in, row_at, rows_at}
 use Rattle.vpf_table.specs.Walking.{end_of, counted}
-
-pub next_item : {X : Type 0} (xs : List X) (i : ℕ) (x : X) → slice_get xs i ≡ Some x → drop i xs ≡ x ∷ drop (i + 1) xs
-next_item xs i x e = drop_more xs i x (slice_get_within xs i x e) ∙ ap (λ y. y ∷ drop (i + 1) xs) (get_or_from_slice_get xs i x x e)
-
-abbrev pub done : {A : Type 0} → A → Result A Place
-done x = Ok x
-
-pub ok_is : {A : Type 0} (x y : A) → done x ≡ done y → x ≡ y
-ok_is x y e = cc
 
 rest_end : (x : Value) (s : Result (Row × ℕ) Place) → end_of (s >>= λ others. Ok (x ∷ others.0, others.1)) ≡ end_of s
 rest_end x (Ok r) = refl
@@ -29,15 +20,12 @@ rest_end x (Err p) = refl
 
 step_by : (o : Order) (cs : List Col) (bytes : List ℕ) (r : Result (Value × ℕ) Place) (n : ℕ) → done n ≡ end_of r
     → end_of (r >>= λ first. row_at o cs bytes first.1 >>= λ others. Ok (first.0 ∷ others.0, others.1)) ≡ end_of (row_at o cs bytes n)
-step_by o cs bytes (Ok x) n e = rest_end x.0 (row_at o cs bytes x.1) ∙ ap (λ (k : ℕ). end_of (row_at o cs bytes k)) (sym (ok_is n x.1 e))
+step_by o cs bytes (Ok x) n e = rest_end x.0 (row_at o cs bytes x.1) ∙ ap (λ (k : ℕ). end_of (row_at o cs bytes k)) (sym (ok_is {x = n} {y = x.1} e))
 step_by o cs bytes (Err p) n e = absurd cc
 
 pub cell_passed : (o : Order) (c : Col) (cs : List Col) (bytes : List ℕ) (at n : ℕ) → done n ≡ end_of (cell_in o c bytes at) → end_of (row_at o (c ∷ cs) bytes at) ≡ end_of (row_at o cs bytes n)
 unfolding row_at
 cell_passed o c cs bytes at n e = step_by o cs bytes (cell_in o c bytes at) n e
-
-failed : {A : Type 0} → Place → Result A Place
-failed p = Err p
 
 stop_by : (o : Order) (cs : List Col) (bytes : List ℕ) (r : Result (Value × ℕ) Place) (p : Place) → Err p ≡ end_of r
     → end_of (r >>= λ first. row_at o cs bytes first.1 >>= λ others. Ok (first.0 ∷ others.0, others.1)) ≡ Err p
@@ -61,7 +49,7 @@ more_count before r (Err p) = refl
 
 row_step : (m before : ℕ) (o : Order) (cs : List Col) (bytes : List ℕ) (r : Result (Row × ℕ) Place) (n : ℕ) → done n ≡ end_of r
     → counted before (r >>= λ x. rows_at m o cs bytes x.1 >>= λ rs. Ok (x.0 ∷ rs)) ≡ counted (before + 1) (rows_at m o cs bytes n)
-row_step m before o cs bytes (Ok x) n e = more_count before x.0 (rows_at m o cs bytes x.1) ∙ ap (λ (k : ℕ). counted (before + 1) (rows_at m o cs bytes k)) (sym (ok_is n x.1 e))
+row_step m before o cs bytes (Ok x) n e = more_count before x.0 (rows_at m o cs bytes x.1) ∙ ap (λ (k : ℕ). counted (before + 1) (rows_at m o cs bytes k)) (sym (ok_is {x = n} {y = x.1} e))
 row_step m before o cs bytes (Err p) n e = absurd cc
 
 pub row_passed : (m before : ℕ) (o : Order) (cs : List Col) (bytes : List ℕ) (at n : ℕ) → (m ≡ 0 → ⊥) → at < length bytes → done n ≡ end_of (row_at o cs bytes at)

@@ -1,11 +1,11 @@
 -- The canonical bytes of a table (MIL-STD-2407, 5.4, VPF table encoding) and of its variable-length index.
-use Rattle.std.specs.Prelude.{ℕ, zero, suc, ◌+◌, ◌/◌, List, [], ◌∷◌, ◌++◌, length, take, drop, Option, Some, None, if◌then◌else◌, All}
-use Rattle.std.specs.List.{flat_map}
+use Rattle.std.specs.Prelude.{ℕ, ◌+◌, ◌<◌, ◌≤◌, ◌^◌, List, [], ◌∷◌, ◌++◌, length, Option, Some, None, if◌then◌else◌, All}
+use Rattle.vpf_base.specs.Limits.{longest_text, most_rows}
 use Rattle.vpf_triplet.specs.declared.orders.Order.{Order}
 use Rattle.vpf_value.specs.Canonical.{spelled}
 use Rattle.vpf_value.specs.Fitting.{FitsCell}
 use Rattle.vpf_head.specs.Canonical.{canonical_text, canonical_header}
-use Rattle.vpf_head.specs.Head.{Head, Col, varies_in}
+use Rattle.vpf_head.specs.Head.{Col, varies_in}
 use Rattle.vpf_head.specs.Soundness.{IsSound}
 use Rattle.vpf_varindex.specs.RowIndex.{row_index}
 use Rattle.vpf_table.specs.Grid.{Row, Grid}
@@ -57,15 +57,8 @@ canonical_index g =
 abbrev pub in_order : Order → Grid → Grid
 in_order o g = record { head = record g.head { order = o }; rows = g.rows }
 
--- cells in so many rows of so many, from the first on
-unfoldable pub cut : ℕ → ℕ → Row → List Row
-cut width zero cells = []
-cut width (suc rows) cells = take width cells ∷ cut width rows (drop width cells)
-
--- the cells of rows, one row after another
-abbrev pub joined : List Row → Row
-joined rows = flat_map (λ row. row) rows
-
--- the table whose rows are these cells, cut after each last column
-abbrev pub grid_of_cells : Head → Row → Grid
-grid_of_cells h cells = record { head = h; rows = cut (length h.columns) (length cells / length h.columns) cells }
+-- the header text and the rows are few enough to be read, and the bytes for an index to tell where each row lies
+pub record IsSmall (g : Grid) : Type 0 where
+  pub text : length (canonical_text g.head) ≤ longest_text
+  pub rows : length g.rows ≤ most_rows
+  pub bytes : length (canonical_table g) < 2 ^ 32

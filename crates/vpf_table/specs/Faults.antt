@@ -2,6 +2,7 @@
 -- it are spelled, and the next part is refused there by the first of its rules that applies (MIL-STD-2407, 5.4, VPF table
 -- encoding and variable-length index file).
 use Rattle.std.specs.Prelude.{◌≡◌, ◌≢◌, ℕ, ◌+◌, ◌<◌, List, ◌∷◌, ◌++◌, length, take, drop, Option, Some, slice_get}
+use Rattle.vpf_base.specs.Limits.{most_rows}
 use Rattle.vpf_triplet.specs.declared.orders.Order.{Order}
 use Rattle.vpf_triplet.specs.declared.places.Place.{Place}
 use Rattle.vpf_triplet.specs.declared.places.Code.TheVariants as codes
@@ -13,7 +14,6 @@ use Rattle.vpf_head.specs.Spelling.{IsHeader}
 use Rattle.vpf_varindex.specs.Faults as indexes
 use Rattle.vpf_varindex.specs.RowIndex.{IsRowIndex}
 use Rattle.vpf_table.specs.Grid.{Row, Grid}
-use Rattle.vpf_table.specs.Reading.{most_rows}
 use Rattle.vpf_table.specs.Spans.{LieAt}
 use Rattle.vpf_table.specs.Spelling.{IsRow, IsRows, IsTable}
 
@@ -39,12 +39,12 @@ pub record Stops (o : Order) (cs : List Col) (bytes : List ℕ) (at : ℕ) (plac
   pub columns : cs ≡ before ++ next ∷ after
   pub parts : drop at bytes ≡ text ++ rest
   pub spelled : IsRow o before cells text
-  pub refused : values.FirstFault o next.kind next.count rest place.code
+  pub refused : values.FirstCellFault o next.kind next.count rest place.code
   pub there : place ≡ fault (at + length text) place.code
 
 -- the first fault of the table's own file
 pub data TableFault (bytes : List ℕ) : Place → Type 0 where
-  in_header : (place : Place) → headers.FirstFault bytes place → TableFault bytes place
+  in_header : (place : Place) → headers.FirstHeaderFault bytes place → TableFault bytes place
   in_row : (h : Head) (rows : List Row) (at : ℕ) (place : Place) → Begins bytes h rows at → length rows < most_rows → Stops h.order h.columns bytes at place → TableFault bytes place
   too_many : (h : Head) (rows : List Row) (at : ℕ) → Begins bytes h rows at → length rows ≡ most_rows → TableFault bytes (fault at (codes.LimitRows (most_rows + 1)))
 
@@ -57,7 +57,7 @@ pub record Differs (k : ℕ) (entries spans : List (ℕ × ℕ)) : Type 0 where
 -- the first fault of the table and, where it has none, of the index that is given with it
 pub data FirstFault (bytes : List ℕ) : Option (List ℕ) → Place → Type 0 where
   in_table : (index : Option (List ℕ)) (place : Place) → TableFault bytes place → FirstFault bytes index place
-  in_index : (g : Grid) (index : List ℕ) (place : Place) → IsTable g bytes → indexes.FirstFault g.head.order index place → FirstFault bytes (Some index) place
+  in_index : (g : Grid) (index : List ℕ) (place : Place) → IsTable g bytes → indexes.FirstIndexFault g.head.order index place → FirstFault bytes (Some index) place
   other_count : (g : Grid) (index : List ℕ) (entries : List (ℕ × ℕ)) → IsTable g bytes → IsRowIndex g.head.order entries index → length entries ≢ length g.rows → FirstFault bytes (Some index) (index_fault 0 codes.IndexCount)
   other_entry : (g : Grid) (index : List ℕ) (entries spans : List (ℕ × ℕ)) (k : ℕ) → LieAt g bytes spans → IsRowIndex g.head.order entries index → length entries ≡ length spans → Differs k entries spans
-      → FirstFault bytes (Some index) (index_fault (indexes.entry_start k) codes.IndexRow)
+      → FirstFault bytes (Some index) (index_fault (indexes.index_entry_start k) codes.IndexRow)

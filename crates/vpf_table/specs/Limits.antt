@@ -18,8 +18,8 @@ bound_text bounds.Rows = codes "rows"
 bound_text bounds.Tiles = codes "tiles"
 
 -- the word of the bound, and the number that passed it
-abbrev pub limit_text : Limit → List ℕ
-limit_text limit = bound_text limit.what ++ (codes " " ++ decimal limit.found)
+abbrev pub passed_text : Limit → List ℕ
+passed_text limit = bound_text limit.what ++ (codes " " ++ decimal limit.found)
 
 -- the bound that a code tells to be passed, with the number that passed it
 abbrev pub limit_of : Code → Option Limit

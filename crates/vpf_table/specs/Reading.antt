@@ -1,19 +1,17 @@
 -- Reading a table from its first byte to its last, up to the first fault. Offsets are those of the file.
 use Rattle.std.specs.Prelude.{ℕ, zero, suc, ◌+◌, List, [], ◌∷◌, length, drop, Result, Ok, Err, nat_le, if◌then◌else◌}
+use Rattle.vpf_base.specs.Limits.{most_rows}
+use Rattle.vpf_base.specs.Results.{◌>>=◌}
 use Rattle.vpf_triplet.specs.declared.orders.Order.{Order}
 use Rattle.vpf_triplet.specs.declared.places.Place.{Place}
 use Rattle.vpf_triplet.specs.declared.places.Code.{Code}
 use Rattle.vpf_triplet.specs.declared.places.Code.TheVariants as codes
-use Rattle.vpf_triplet.specs.Places.{◌>>=◌, fault}
+use Rattle.vpf_triplet.specs.Places.{fault}
 use Rattle.vpf_value.specs.Values.{Value}
 use Rattle.vpf_value.specs.Reading.{cell_from}
 use Rattle.vpf_head.specs.Head.{Col}
 use Rattle.vpf_head.specs.Reading.{header_of}
 use Rattle.vpf_table.specs.Grid.{Row, Grid}
-
--- the most rows of a table
-abbrev pub most_rows : ℕ
-most_rows = 16777215
 
 -- what begins at `at`, with its end and its fault at their offsets in the file
 abbrev pub lifted : {X : Type 0} → ℕ → Result (X × ℕ) Code → Result (X × ℕ) Place

@@ -1,12 +1,12 @@
 -- Where the rows of a table lie in its file, and the index that says so (MIL-STD-2407, 5.4, variable-length index file),
 -- apart from reading.
 use Rattle.std.specs.Prelude.{◌≡◌, ℕ, ◌+◌, ◌≤◌, List, [], ◌∷◌, ◌++◌, length, Option, Some, None}
+use Rattle.vpf_base.specs.Limits.{most_rows}
 use Rattle.vpf_triplet.specs.declared.orders.Order.{Order}
 use Rattle.vpf_head.specs.Head.{Col}
 use Rattle.vpf_head.specs.Spelling.{IsHeader}
 use Rattle.vpf_varindex.specs.RowIndex.{IsRowIndex}
 use Rattle.vpf_table.specs.Grid.{Row, Grid}
-use Rattle.vpf_table.specs.Reading.{most_rows}
 use Rattle.vpf_table.specs.Spelling.{IsRow, IsTable}
 
 -- row after row, and nothing else, the first at `at`: the offset and the length of the spelling of each

@@ -1,11 +1,11 @@
 -- The grammar of rows and tables (MIL-STD-2407, 5.4, VPF table encoding), apart from reading.
 use Rattle.std.specs.Prelude.{◌≡◌, ℕ, ◌≤◌, List, [], ◌∷◌, ◌++◌, length}
+use Rattle.vpf_base.specs.Limits.{most_rows}
 use Rattle.vpf_triplet.specs.declared.orders.Order.{Order}
 use Rattle.vpf_value.specs.Spelling.{IsCell}
 use Rattle.vpf_head.specs.Head.{Col}
 use Rattle.vpf_head.specs.Spelling.{IsHeader}
 use Rattle.vpf_table.specs.Grid.{Row, Grid}
-use Rattle.vpf_table.specs.Reading.{most_rows}
 
 -- one spelling of a cell for each column, and nothing else
 abbrev pub IsRow : Order → List Col → Row → List ℕ → Type 0

@@ -1,20 +1,19 @@
 //! How many rows there are, or the first fault among them.
 
 ghost use Rattle.std.specs.Prelude.{◌≡◌, ◌≤◌, ◌<◌, Some, IfSome, length};
-ghost use Rattle.vpf_table.specs.Reading.{most_rows, rows_at};
+ghost use Rattle.vpf_base.specs.Limits.{most_rows};
+ghost use Rattle.vpf_table.specs.Reading.{rows_at};
 ghost use Rattle.vpf_table.specs.Walking.{counted};
 ghost use Rattle.vpf_table.specs.Widths.{width_of};
 
 use crate::walking::skip_row;
+use vpf_base::limits::MOST_ROWS;
 use vpf_head::Header;
 use vpf_triplet::{Code, Place};
 use vpf_value::laws::fixed_cells;
 
-/// The most rows of a table.
-const MOST_ROWS: u32 = 16_777_215;
-
 /// The row past the most.
-const TOO_MANY_ROWS: u64 = 16_777_216;
+const TOO_MANY_ROWS: u64 = MOST_ROWS as u64 + 1;
 
 fn walked_count(header: &Header<'_>, bytes: &[u8], at: usize) -> Result<u32, Place>
     requires { at ≤ length bytes.now }

@@ -1,21 +1,16 @@
 //! An index against the rows that it must stand for.
 
-ghost use Rattle.std.specs.Prelude.{◌≡◌, ◌≤◌, ◌-◌, ◌==◌, ◌&&◌, IsOk, IfOk, IfSome, Some, length};
+ghost use Rattle.std.specs.Prelude.{◌≡◌, ◌≤◌, ◌-◌, ◌==◌, ◌&&◌, IfSome};
 ghost use Rattle.std.specs.Option.{option_copied};
-ghost use Rattle.vpf_triplet.specs.Numbers.{IsBytes};
-ghost use Rattle.vpf_triplet.specs.Places.{Gives};
-ghost use Rattle.vpf_table.specs.Opening.{first_other, own_entries, spans_at, unless_other};
-ghost use Rattle.vpf_table.specs.Reading.{most_rows, rows_at};
-ghost use Rattle.vpf_table.specs.Walking.{rows_of};
-ghost use Rattle.vpf_table.specs.Widths.{width_of};
+ghost use Rattle.vpf_base.specs.Bytes.{IsBytes};
 
+use crate::table_file::TableFile;
 use crate::walking::next_row;
-use vpf_head::Header;
 use vpf_triplet::{Code, Place};
 use vpf_varindex::IndexView;
 
 /// What a slice of bytes holds are bytes.
-fn has_bytes(bytes: &[u8])
+pub fn has_bytes(bytes: &[u8])
     ensures { IsBytes bytes.now }
 {}
 
@@ -37,61 +32,45 @@ fn is_span(entry: (u32, u32), at: usize, past: usize) -> bool
     offset as usize == at && length as usize == past - at
 }
 
-/// Whether each entry of an index is the offset and the length of its row.
-fn check_entries(
-    header: &Header<'_>,
-    bytes: &[u8],
-    start: usize,
-    width: Option<usize>,
-    index: &IndexView<'_>,
-) -> Result<(), Place>
-    requires read { IsOk (rows_at most_rows header.now.order header.now.columns bytes.now start) }
-    requires begun { start ≤ length bytes.now }
-    requires fixed { IfSome width (λ w. width_of header.now.columns ≡ Some w) }
-    requires count { length index.now ≡ length (rows_of (rows_at most_rows header.now.order header.now.columns bytes.now start)) }
-    ensures { result ≡ unless_other tt (first_other 0 index.now (spans_at (length index.now) header.now.order header.now.columns bytes.now start)) }
-{
-    let _end = bytes.len();
-    let mut at = start;
-    for k in 0..index.len() {
-        let past = next_row(header, bytes, at, width);
-        if !is_span(index.entry(k + 1), at, past) {
-            return Err(Place::in_index(8 + 8 * k as usize, Code::IndexRow));
-        }
-        at = past;
-    }
-    Ok(())
-}
+impl<'a> TableFile<'a> {
+    ghost use Rattle.std.specs.Prelude.{◌≡◌, IfOk, Some, length};
+    ghost use Rattle.vpf_triplet.specs.Places.{Gives};
+    ghost use Rattle.vpf_table.specs.Opening.{first_other, own_entries, row_spans, unless_other};
 
-/// The index of these rows, where one is given: as many entries as there are rows, each its row's offset and length. Else
-/// its first fault.
-pub fn own_index<'a>(
-    header: &Header<'_>,
-    bytes: &[u8],
-    start: usize,
-    rows: u32,
-    width: Option<usize>,
-    index: Option<&'a [u8]>,
-) -> Result<Option<IndexView<'a>>, Place>
-    requires read { IsOk (rows_at most_rows header.now.order header.now.columns bytes.now start) }
-    requires count { rows ≡ length (rows_of (rows_at most_rows header.now.order header.now.columns bytes.now start)) }
-    requires begun { start ≤ length bytes.now }
-    requires fixed { IfSome width (λ w. width_of header.now.columns ≡ Some w) }
-    ensures own { IfOk result (λ found. IfSome found (λ entries. entries ≡ spans_at rows header.now.order header.now.columns bytes.now start)) }
-    ensures exact { Gives (λ found. found) result (own_entries header.now.order (spans_at rows header.now.order header.now.columns bytes.now start) (option_copied index.entry)) }
-{
-    let Some(given) = index else {
-        return Ok(None);
-    };
-    let index = match IndexView::open(given, header.order()) {
-        Ok(index) => index,
-        Err(place) => return Err(place),
-    };
-    if index.len() != rows {
-        return Err(Place::in_index(0, Code::IndexCount));
+    /// Whether each entry of an index is the offset and the length of its row.
+    fn check_entries(&self, index: &IndexView<'_>) -> Result<(), Place>
+        requires { length index.now ≡ length self.now.grid.rows }
+        ensures { result ≡ unless_other tt (first_other 0 index.now (row_spans self.now.bytes self.now.grid)) }
+    {
+        let _end = self.bytes.len();
+        let mut at = self.start;
+        for k in 0..index.len() {
+            let past = next_row(&self.header, self.bytes, at, self.width);
+            if !is_span(index.entry(k + 1), at, past) {
+                return Err(Place::in_index(8 + 8 * k as usize, Code::IndexRow));
+            }
+            at = past;
+        }
+        Ok(())
     }
-    match check_entries(header, bytes, start, width, &index) {
-        Ok(()) => Ok(Some(index)),
-        Err(place) => Err(place),
+
+    /// The entries of an index of these rows: as many as there are rows, each its row's offset and length. Else its first
+    /// fault.
+    pub(crate) fn own_entries(&self, index: &'a [u8]) -> Result<IndexView<'a>, Place>
+        ensures own { IfOk result (λ entries. entries ≡ row_spans self.now.bytes self.now.grid) }
+        ensures exact { Gives (λ entries. Some entries) result (own_entries self.now.grid.head.order (row_spans self.now.bytes self.now.grid)
+            (Some index.now)) }
+    {
+        let entries = match IndexView::open(index, self.header().order()) {
+            Ok(entries) => entries,
+            Err(place) => return Err(place),
+        };
+        if entries.len() != self.len() {
+            return Err(Place::in_index(0, Code::IndexCount));
+        }
+        match self.check_entries(&entries) {
+            Ok(()) => Ok(entries),
+            Err(place) => Err(place),
+        }
     }
 }

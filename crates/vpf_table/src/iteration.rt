@@ -4,6 +4,7 @@ use crate::laws::cells_and_headers;
 use crate::row::RowView;
 use crate::walking::next_row;
 use std::marker::Model;
+use vpf_base::limits::MOST_ROWS;
 use vpf_head::Header;
 use vpf_value::laws::spelled_fits;
 
@@ -33,7 +34,8 @@ impl<'t, 'a> Model for Rows<'t, 'a> {
 impl<'t, 'a> Rows<'t, 'a> {
     ghost use Rattle.std.specs.Prelude.{◌≡◌, ◌≤◌, All, IsOk, IfSome, Some, length};
     ghost use Rattle.vpf_table.specs.Canonical.{FitsRow};
-    ghost use Rattle.vpf_table.specs.Reading.{most_rows, rows_at};
+    ghost use Rattle.vpf_base.specs.Limits.{most_rows};
+    ghost use Rattle.vpf_table.specs.Reading.{rows_at};
     ghost use Rattle.vpf_table.specs.Walking.{rows_of};
     ghost use Rattle.vpf_table.specs.Widths.{width_of};
 
@@ -59,7 +61,7 @@ impl<'t, 'a> Rows<'t, 'a> {
             bytes,
             at,
             width,
-            left: 16_777_215,
+            left: MOST_ROWS,
         }
     }
 }

@@ -1,15 +1,16 @@
 //! Laws about the definitions of tables alone.
 
-ghost use Rattle.std.specs.Prelude.{◌≡◌, ◌<◌, ◌+◌, ◌%◌, ◌^◌, ℕ, All, List, Option, IfSome, Ok, Err, Some, None, length, slice_get, slice_range};
+ghost use Rattle.std.specs.Prelude.{◌≡◌, ◌<◌, ◌+◌, ◌^◌, ℕ, All, List, Option, IfSome, Ok, Err, Some, length, slice_get, slice_range};
+ghost use Rattle.vpf_base.specs.Bytes.{IsBytes};
 ghost use Rattle.vpf_triplet.specs.declared.orders.Order.{Order};
 ghost use Rattle.vpf_triplet.specs.declared.places.Place.{Place};
-ghost use Rattle.vpf_triplet.specs.Numbers.{IsBytes};
 ghost use Rattle.vpf_varindex.specs.RowIndex.{row_index, HasSpan};
 ghost use Rattle.vpf_table.specs.Grid.{Grid, Row};
-ghost use Rattle.vpf_table.specs.Canonical.{IsWritable, canonical_table, canonical_spans, canonical_index, in_order, joined, grid_of_cells};
-ghost use Rattle.vpf_table.specs.Writing.{first_limit};
+ghost use Rattle.vpf_head.specs.Head.{Col};
+ghost use Rattle.vpf_table.specs.Canonical.{IsSmall, IsWritable, canonical_table, canonical_spans, canonical_index, in_order, rows_text};
+ghost use Rattle.vpf_table.specs.Widths.{width_of};
 ghost use Rattle.vpf_table.specs.Reading.{table_of};
-ghost use Rattle.vpf_table.specs.Spelling.{IsRow, IsTable};
+ghost use Rattle.vpf_table.specs.Spelling.{IsRow, IsRows, IsTable};
 ghost use Rattle.vpf_table.specs.Deciding.{Decides};
 ghost use Rattle.vpf_table.specs.Faults.{FirstFault};
 ghost use Rattle.vpf_table.specs.Opening.{opened_of, row_spans};
@@ -76,13 +77,13 @@ pub fn read_is_writable()
     headers::sound_headers_stay_sound();
 }
 
-/// The canonical table of a header and rows that pass no limit is spelled so, and is read as that table. Its rows lie where
+/// The canonical table of a header and rows that are few enough is spelled so, and is read as that table. Its rows lie where
 /// its canonical index tells, and it is opened with that index.
-pub fn written_is_read()
-    ensures spelled { (g : Grid) → IsWritable g → first_limit g ≡ None → IsTable g (canonical_table g) }
-    ensures read_again { (g : Grid) → IsWritable g → first_limit g ≡ None → table_of (canonical_table g) ≡ Ok g }
-    ensures spans { (g : Grid) → IsWritable g → first_limit g ≡ None → row_spans (canonical_table g) g ≡ canonical_spans g }
-    ensures opened_again { (g : Grid) → IsWritable g → first_limit g ≡ None → opened_of (canonical_table g) (canonical_index g) ≡ Ok g }
+pub fn canonical_is_read()
+    ensures spelled { (g : Grid) → IsWritable g → IsSmall g → IsTable g (canonical_table g) }
+    ensures read_again { (g : Grid) → IsWritable g → IsSmall g → table_of (canonical_table g) ≡ Ok g }
+    ensures spans { (g : Grid) → IsWritable g → IsSmall g → row_spans (canonical_table g) g ≡ canonical_spans g }
+    ensures opened_again { (g : Grid) → IsWritable g → IsSmall g → opened_of (canonical_table g) (canonical_index g) ≡ Ok g }
 {
     own_index_is_taken();
     cells_and_headers();
@@ -90,29 +91,19 @@ pub fn written_is_read()
     headers::canonical_is_read();
 }
 
-/// A table passes the same limits in either order. Where it passes none, writing it in one order, reading that, and writing
-/// what is read in the table's own order gives its canonical bytes and index.
-pub fn written_twice_is_canonical()
-    ensures limits { (g : Grid) (order : Order) → first_limit (in_order order g) ≡ first_limit g }
-    ensures table { (g h : Grid) (order : Order) → IsWritable g → first_limit g ≡ None → table_of (canonical_table (in_order order g)) ≡ Ok h → canonical_table (in_order g.head.order h) ≡ canonical_table g }
-    ensures index { (g h : Grid) (order : Order) → IsWritable g → first_limit g ≡ None → table_of (canonical_table (in_order order g)) ≡ Ok h → canonical_index (in_order g.head.order h) ≡ canonical_index g }
+/// Rows of one width have no spelling but the canonical one.
+pub fn fixed_rows_are_canonical()
+    ensures { (order : Order) (columns : List Col) (rows : List Row) (bytes : List ℕ) (width : ℕ) → width_of columns ≡ Some width
+        → IsRows order columns rows bytes → bytes ≡ rows_text order columns rows }
 {
-    cells_and_headers();
     cells::fitting_is_written();
-    headers::canonical_is_read();
-    headers::sound_headers_stay_sound();
 }
-
-/// The cells of a table's rows, one row after another, are cut into these rows again.
-pub fn joined_rows_are_cut()
-    ensures whole { (g : Grid) → IsWritable g → length (joined g.rows) % length g.head.columns ≡ 0 }
-    ensures rows { (g : Grid) → IsWritable g → grid_of_cells g.head (joined g.rows) ≡ g }
-{}
 
 /// The place where a table is refused, or the index that is given with it, is the first fault, and only that one: the parts
 /// before it are spelled, and the next part is refused there by the first of its rules that applies.
 pub fn refusals_are_first_faults()
-    ensures only { (bytes : List ℕ) (index : Option (List ℕ)) (place : Place) → IsBytes bytes → IfSome index IsBytes → opened_of bytes index ≡ Err place → FirstFault bytes index place }
+    ensures only { (bytes : List ℕ) (index : Option (List ℕ)) (place : Place) → IsBytes bytes → IfSome index IsBytes → opened_of bytes index ≡ Err place
+        → FirstFault bytes index place }
     ensures each { (bytes : List ℕ) (index : Option (List ℕ)) (place : Place) → FirstFault bytes index place → opened_of bytes index ≡ Err place }
 {
     cells_and_headers();
@@ -129,7 +120,8 @@ pub fn spelled_is_opened()
 
 /// What is opened as a table, with its index where one is given, is spelled so.
 pub fn opened_is_spelled()
-    ensures { (bytes : List ℕ) (index : Option (List ℕ)) (g : Grid) → IsBytes bytes → IfSome index IsBytes → opened_of bytes index ≡ Ok g → IsOpened g bytes index }
+    ensures { (bytes : List ℕ) (index : Option (List ℕ)) (g : Grid) → IsBytes bytes → IfSome index IsBytes → opened_of bytes index ≡ Ok g
+        → IsOpened g bytes index }
 {
     cells_and_headers();
     laws_of_indexes();
@@ -143,7 +135,8 @@ pub fn opened_is_read()
 /// Each row of a table has an offset and a length, and the bytes that lie there spell it.
 pub fn rows_lie_at_their_spans()
     ensures each { (bytes : List ℕ) (g : Grid) → length (row_spans bytes g) ≡ length g.rows }
-    ensures spelled { (bytes : List ℕ) (g : Grid) (k : ℕ) (row : Row) (span : ℕ × ℕ) → IsBytes bytes → table_of bytes ≡ Ok g → slice_get g.rows k ≡ Some row → slice_get (row_spans bytes g) k ≡ Some span
+    ensures spelled { (bytes : List ℕ) (g : Grid) (k : ℕ) (row : Row) (span : ℕ × ℕ) → IsBytes bytes → table_of bytes ≡ Ok g
+        → slice_get g.rows k ≡ Some row → slice_get (row_spans bytes g) k ≡ Some span
         → IsRow g.head.order g.head.columns row (slice_range bytes span.0 (span.0 + span.1)) }
 {
     cells_and_headers();
@@ -152,7 +145,8 @@ pub fn rows_lie_at_their_spans()
 /// The index that is written for the offsets and lengths of a table's rows is taken as its own, whatever its second number.
 /// In a table of fewer than 2^32 bytes each fits its entry.
 pub fn own_index_is_taken()
-    ensures taken { (bytes : List ℕ) (g : Grid) (second : ℕ) → table_of bytes ≡ Ok g → All HasSpan (row_spans bytes g) → opened_of bytes (Some (row_index g.head.order second (row_spans bytes g))) ≡ Ok g }
+    ensures taken { (bytes : List ℕ) (g : Grid) (second : ℕ) → table_of bytes ≡ Ok g → All HasSpan (row_spans bytes g)
+        → opened_of bytes (Some (row_index g.head.order second (row_spans bytes g))) ≡ Ok g }
     ensures small { (bytes : List ℕ) (g : Grid) → IsBytes bytes → table_of bytes ≡ Ok g → length bytes < 2 ^ 32 → All HasSpan (row_spans bytes g) }
 {
     cells_and_headers();

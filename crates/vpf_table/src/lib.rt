@@ -1,32 +1,24 @@
 //! Tables of a Vector Product Format library: the header and the rows of a file, read where they lie.
 #![tactic(auto)]
 
-mod cell_list;
 mod counting;
-mod draft;
-mod finding;
-mod in_place;
+mod fixed_rows;
 mod indexing;
 mod iteration;
 pub mod laws;
 mod limit;
 mod places_of_rows;
-mod rewriting;
 mod row;
+mod table_file;
 #[cfg(test)]
 mod tests;
-#[cfg(test)]
-mod tests_of_writing;
-mod turning;
 mod view;
 mod walking;
-mod writing;
 
-pub use cell_list::CellList;
-pub use finding::{ColumnAt, Finding, Seen, SeenWord, TableName};
-pub use in_place::Turning;
+pub use fixed_rows::FixedRows;
 pub use iteration::Rows;
 pub use limit::{Bound, Limit};
 pub use row::{Cells, RowView};
+pub use table_file::TableFile;
 pub use view::TableView;
-pub use writing::{WriteError, Written, write};
+pub use vpf_findings::{ColumnAt, FindError, Finding, OwnFinding, Seen, SeenWord, TableName};

@@ -82,9 +82,9 @@ impl Limit {
 
 impl fmt::Display for Limit {
     ghost use Rattle.std.specs.Prelude.{Some};
-    ghost use Rattle.vpf_table.specs.Limits.{limit_text};
+    ghost use Rattle.vpf_table.specs.Limits.{passed_text};
 
-    ghost output = { λ limit. Some (limit_text limit) };
+    ghost output = { λ limit. Some (passed_text limit) };
 
     fn fmt<W: fmt::Write>(&self, f: &mut fmt::Formatter<W>) -> fmt::Result {
         let Limit { what, found } = *self;

@@ -1,95 +1,65 @@
 //! Where a row begins, by its number.
 
-ghost use Rattle.std.specs.Prelude.{◌≡◌, ◌≤◌, ◌<◌, Some, IsOk, IfSome, length, slice_get};
-ghost use Rattle.vpf_table.specs.Opening.{spans_at};
-ghost use Rattle.vpf_table.specs.Reading.{most_rows, row_at, rows_at};
-ghost use Rattle.vpf_table.specs.Walking.{row_of, rows_of};
-ghost use Rattle.vpf_table.specs.Widths.{width_of};
-
+use crate::table_file::TableFile;
 use crate::walking::sure_end;
-use vpf_head::Header;
 use vpf_value::laws::fixed_cells;
 use vpf_varindex::IndexView;
 
-/// Where row `k`, counted from 0, begins among rows of one width.
-fn fixed_place(header: &Header<'_>, bytes: &[u8], start: usize, width: usize, k: u32) -> usize
-    requires read { IsOk (rows_at most_rows header.now.order header.now.columns bytes.now start) }
-    requires fixed { width_of header.now.columns ≡ Some width }
-    requires within { k < length (rows_of (rows_at most_rows header.now.order header.now.columns bytes.now start)) }
-    ensures inside { result ≤ length bytes.now }
-    ensures row { IsOk (row_at header.now.order header.now.columns bytes.now result) }
-    ensures item { slice_get (rows_of (rows_at most_rows header.now.order header.now.columns bytes.now start)) k
-        ≡ Some (row_of (row_at header.now.order header.now.columns bytes.now result)) }
-{
-    fixed_cells();
-    let _end = bytes.len();
-    start + k as usize * width
-}
+impl<'a> TableFile<'a> {
+    ghost use Rattle.std.specs.Prelude.{◌≡◌, ◌<◌, IfSome, Some, length};
+    ghost use Rattle.vpf_table.specs.FileTables.{StandsAt};
+    ghost use Rattle.vpf_table.specs.Opening.{row_spans};
+    ghost use Rattle.vpf_table.specs.Widths.{width_of};
 
-/// Where row `k`, counted from 0, begins, by the index of the rows.
-fn indexed_place(
-    header: &Header<'_>,
-    bytes: &[u8],
-    start: usize,
-    index: &IndexView<'_>,
-    k: u32,
-) -> usize
-    requires read { IsOk (rows_at most_rows header.now.order header.now.columns bytes.now start) }
-    requires own { index.now ≡ spans_at (length (rows_of (rows_at most_rows header.now.order header.now.columns bytes.now start))) header.now.order header.now.columns bytes.now start }
-    requires within { k < length (rows_of (rows_at most_rows header.now.order header.now.columns bytes.now start)) }
-    ensures inside { result ≤ length bytes.now }
-    ensures row { IsOk (row_at header.now.order header.now.columns bytes.now result) }
-    ensures item { slice_get (rows_of (rows_at most_rows header.now.order header.now.columns bytes.now start)) k
-        ≡ Some (row_of (row_at header.now.order header.now.columns bytes.now result)) }
-{
-    // A number of entries fits its type.
-    let _entries = index.len();
-    let (offset, _) = index.entry(k + 1);
-    offset as usize
-}
+    /// Where row `k`, counted from 0, begins among rows of one width.
+    fn fixed_place(&self, width: usize, k: u32) -> usize
+        requires fixed { width_of self.now.grid.head.columns ≡ Some width }
+        requires within { k < length self.now.grid.rows }
+        ensures { StandsAt self.now k result }
+    {
+        fixed_cells();
+        let _end = self.bytes.len();
+        self.start + k as usize * width
+    }
 
-/// Where row `k`, counted from 0, begins, by a walk from the first.
-fn walked_place(header: &Header<'_>, bytes: &[u8], start: usize, k: u32) -> usize
-    requires read { IsOk (rows_at most_rows header.now.order header.now.columns bytes.now start) }
-    requires begun { start ≤ length bytes.now }
-    requires within { k < length (rows_of (rows_at most_rows header.now.order header.now.columns bytes.now start)) }
-    ensures inside { result ≤ length bytes.now }
-    ensures row { IsOk (row_at header.now.order header.now.columns bytes.now result) }
-    ensures item { slice_get (rows_of (rows_at most_rows header.now.order header.now.columns bytes.now start)) k
-        ≡ Some (row_of (row_at header.now.order header.now.columns bytes.now result)) }
-{
-    let mut at = start;
-    for _i in 0..k {
-        at = sure_end(header, bytes, at);
+    /// Where row `k`, counted from 0, begins, by the index of the rows.
+    fn indexed_place(&self, index: &IndexView<'_>, k: u32) -> usize
+        requires own { index.now ≡ row_spans self.now.bytes self.now.grid }
+        requires within { k < length self.now.grid.rows }
+        ensures { StandsAt self.now k result }
+    {
+        let _start = self.start;
+        // A number of entries fits its type.
+        let _entries = index.len();
+        let (offset, _) = index.entry(k + 1);
+        offset as usize
     }
-    at
-}
 
-/// Where row `k`, counted from 0, begins: in constant time where the rows have one width or an index, and by a walk from
-/// the first where they have neither.
-pub fn place_of_row(
-    header: &Header<'_>,
-    bytes: &[u8],
-    start: usize,
-    width: Option<usize>,
-    index: &Option<IndexView<'_>>,
-    k: u32,
-) -> usize
-    requires read { IsOk (rows_at most_rows header.now.order header.now.columns bytes.now start) }
-    requires begun { start ≤ length bytes.now }
-    requires fixed { IfSome width (λ w. width_of header.now.columns ≡ Some w) }
-    requires own { IfSome index.now (λ entries. entries ≡ spans_at (length (rows_of (rows_at most_rows header.now.order header.now.columns bytes.now start))) header.now.order header.now.columns bytes.now start) }
-    requires within { k < length (rows_of (rows_at most_rows header.now.order header.now.columns bytes.now start)) }
-    ensures inside { result ≤ length bytes.now }
-    ensures row { IsOk (row_at header.now.order header.now.columns bytes.now result) }
-    ensures item { slice_get (rows_of (rows_at most_rows header.now.order header.now.columns bytes.now start)) k
-        ≡ Some (row_of (row_at header.now.order header.now.columns bytes.now result)) }
-{
-    if let Some(width) = width {
-        return fixed_place(header, bytes, start, width, k);
+    /// Where row `k`, counted from 0, begins, by a walk from the first.
+    fn walked_place(&self, k: u32) -> usize
+        requires { k < length self.now.grid.rows }
+        ensures { StandsAt self.now k result }
+    {
+        let mut at = self.start;
+        for _i in 0..k {
+            at = sure_end(&self.header, self.bytes, at);
+        }
+        at
     }
-    if let Some(index) = index {
-        return indexed_place(header, bytes, start, index, k);
+
+    /// Where row `k`, counted from 0, begins: in constant time where the rows have one width or an index, and by a walk from
+    /// the first where they have neither.
+    pub(crate) fn place_of_row(&self, index: &Option<IndexView<'_>>, k: u32) -> usize
+        requires own { IfSome index.now (λ entries. entries ≡ row_spans self.now.bytes self.now.grid) }
+        requires within { k < length self.now.grid.rows }
+        ensures { StandsAt self.now k result }
+    {
+        if let Some(width) = self.width {
+            return self.fixed_place(width, k);
+        }
+        if let Some(index) = index {
+            return self.indexed_place(index, k);
+        }
+        self.walked_place(k)
     }
-    walked_place(header, bytes, start, k)
 }

@@ -5,7 +5,7 @@ ghost use Rattle.vpf_value.specs.Values.{view};
 ghost use Rattle.vpf_table.specs.Reading.{row_at};
 ghost use Rattle.vpf_table.specs.Walking.{row_of};
 
-use crate::walking::sure_cell;
+use crate::walking::{sure_cell, sure_past};
 use std::marker::Model;
 use vpf_head::Header;
 use vpf_value::Cell;
@@ -39,8 +39,7 @@ fn cell_of_row<'a>(header: &Header<'_>, bytes: &'a [u8], at: usize, c: usize) ->
     let order = header.order();
     let mut here = at;
     for i in 0..c {
-        let (_, past) = sure_cell(order, header.at(i), bytes, here);
-        here = past;
+        here = sure_past(order, header.at(i), bytes, here);
     }
     let (cell, _) = sure_cell(order, header.at(c), bytes, here);
     cell
@@ -62,7 +61,8 @@ impl<'t, 'a> RowView<'t, 'a> {
         RowView { header, bytes, at }
     }
 
-    /// The cell in column `c`, counted from 0.
+    /// The cell in column `c`, counted from 0. The cells before it are passed by their widths, and looked at only where their
+    /// column has none.
     pub fn cell(&self, c: usize) -> Cell<'a>
         requires { c < length self.now }
         ensures { slice_get self.now c ≡ Some (view result) }

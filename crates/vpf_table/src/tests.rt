@@ -166,14 +166,25 @@ fn has_row(table: &TableView<'_>, k: u32, want: &[u8]) -> bool {
 #[test]
 fn finds_rows_and_cells(rt: HostRuntime) -> Result<(), Fail> {
     let alloc = rt.alloc();
-    for (bytes, index, texts) in [
-        (FIXED, None, [b"ab".as_slice(), b"cd", b"ef"]),
-        (FIXED, Some(FIXED_INDEX), [b"ab".as_slice(), b"cd", b"ef"]),
-        (VARYING, None, [b"abc".as_slice(), b"", b"z"]),
-        (VARYING, Some(VARYING_INDEX), [b"abc".as_slice(), b"", b"z"]),
+    for (bytes, index, direct, texts) in [
+        (FIXED, None, true, [b"ab".as_slice(), b"cd", b"ef"]),
+        (
+            FIXED,
+            Some(FIXED_INDEX),
+            true,
+            [b"ab".as_slice(), b"cd", b"ef"],
+        ),
+        (VARYING, None, false, [b"abc".as_slice(), b"", b"z"]),
+        (
+            VARYING,
+            Some(VARYING_INDEX),
+            true,
+            [b"abc".as_slice(), b"", b"z"],
+        ),
     ] {
         let table = TableView::open(alloc, bytes, index)?;
         assert!(rt; !table.is_empty());
+        assert_eq!(rt; table.finds_rows_directly(), direct);
         for (i, want) in texts.iter().enumerate() {
             let k = i as u32 + 1;
             assert!(rt; has_row(&table, k, want), "row {k}");

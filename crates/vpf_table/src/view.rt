@@ -1,31 +1,24 @@
 //! A table, seen in its file.
 
-use crate::counting::count_rows;
-use crate::indexing::{index_has_bytes, own_index};
+use crate::fixed_rows::FixedRows;
+use crate::indexing::{has_bytes, index_has_bytes};
 use crate::iteration::Rows;
 use crate::laws::{opened_is_spelled, refusals_are_first_faults, spelled_is_opened};
-use crate::places_of_rows::place_of_row;
-use crate::rewriting::most_len;
 use crate::row::RowView;
-use crate::turning::{FixedRows, fixed_rows};
-use crate::walking::row_width;
+use crate::table_file::TableFile;
 use std::alloc::Global;
 use std::marker::Model;
 use std::sync::ledger::Ledger;
 use vpf_head::Header;
 use vpf_source::Steps;
-use vpf_triplet::PlaceError;
+use vpf_triplet::{Place, PlaceError};
 use vpf_varindex::IndexView;
 
 /// A table whose header and rows stay in the file (MIL-STD-2407, 5.4, VPF table encoding), maybe with its variable-length
 /// index. Contracts see it as its header and the list of its rows.
 #[derive(Drop)]
 pub struct TableView<'a> {
-    header: Header<'a>,
-    bytes: &'a [u8],
-    start: usize,
-    rows: u32,
-    width: Option<usize>,
+    file: TableFile<'a>,
     index: Option<IndexView<'a>>,
 }
 
@@ -34,22 +27,64 @@ impl<'a> Model for TableView<'a> {
 
     ghost Value = { Grid };
 
-    ghost use Rattle.vpf_table.specs.Views.{grid_of, IsRead};
+    ghost use Rattle.vpf_table.specs.Views.{grid_of, HasOwnIndex};
 
     ghost view = { grid_of };
 
-    ghost invariant = { IsRead };
+    ghost invariant = { HasOwnIndex };
+}
+
+impl<'a> TableFile<'a> {
+    ghost use Rattle.std.specs.Prelude.{◌≡◌, IfErr, IfOk, Some};
+    ghost use Rattle.vpf_base.specs.Bytes.{IsBytes};
+    ghost use Rattle.vpf_triplet.specs.Places.{Gives};
+    ghost use Rattle.vpf_table.specs.Faults.{FirstFault};
+    ghost use Rattle.vpf_table.specs.Opening.{opened_of};
+    ghost use Rattle.vpf_table.specs.Spans.{IsOpened};
+
+    /// The table without an index.
+    pub fn without_index(self) -> TableView<'a>
+        ensures { result ≡ self.entry.grid }
+    {
+        TableView {
+            file: self,
+            index: None,
+        }
+    }
+
+    /// The table with its index, as `TableView::open` opens it from the same bytes: refused exactly where `index` is no
+    /// index, at its first fault, and where it isn't this table's own. The rows are walked once.
+    pub fn with_index(self, index: &'a [u8]) -> Result<TableView<'a>, Place>
+        // What is opened is spelled so.
+        ensures found { IfOk result (λ t. IsOpened t self.entry.bytes (Some index.now)) }
+        // The table, or the first fault of the index.
+        ensures exact { Gives (λ t. t) result (opened_of self.entry.bytes (Some index.now)) }
+        // What is refused has this first fault.
+        ensures refused { IfErr result (FirstFault self.entry.bytes (Some index.now)) }
+    {
+        opened_is_spelled();
+        refusals_are_first_faults();
+        self.has_bytes();
+        has_bytes(index);
+        match self.own_index(index) {
+            Ok(entries) => Ok(TableView {
+                file: self,
+                index: Some(entries),
+            }),
+            Err(place) => Err(place),
+        }
+    }
 }
 
 impl<'a> TableView<'a> {
-    ghost use Rattle.std.specs.Prelude.{◌≡◌, ◌≤◌, ◌+◌, ◌-◌, ◌==◌, ◌<◌, ◌^◌, ℕ, All, false, IfOk, IfErr, IfSome, IsSome, Ok, Some, length, slice_get};
+    ghost use Rattle.std.specs.Prelude.{◌≡◌, ◌≤◌, ◌+◌, ◌-◌, ◌==◌, ◌<◌, ◌^◌, ℕ, All, false, IfOk, IfErr, IfSome, IsSome, IsTrue, Ok, Some, length, slice_get};
     ghost use Rattle.std.specs.Option.{option_copied};
     ghost use Rattle.vpf_triplet.specs.Places.{Answers, ForPlace};
     ghost use Rattle.vpf_table.specs.Faults.{FirstFault};
     ghost use Rattle.vpf_table.specs.Grid.{Grid};
     ghost use Rattle.vpf_triplet.specs.declared.orders.Order.{Order};
     ghost use Rattle.vpf_table.specs.Canonical.{FitsRow, rows_text};
-    ghost use Rattle.vpf_table.specs.Reading.{most_rows};
+    ghost use Rattle.vpf_base.specs.Limits.{most_rows};
     ghost use Rattle.vpf_head.specs.Head.{varies_in};
     ghost use Rattle.vpf_table.specs.Widths.{width_of};
     ghost use Rattle.vpf_table.specs.Opening.{opened_of};
@@ -90,34 +125,24 @@ impl<'a> TableView<'a> {
     ) -> Result<TableView<'a>, PlaceError>
         ensures { Answers (λ t. t) result (opened_of bytes.now (option_copied index.entry)) }
     {
-        let (header, start) = match Header::read(alloc, bytes) {
-            Ok(found) => found,
+        let file = match TableFile::read(alloc, bytes) {
+            Ok(file) => file,
             Err(error) => return Err(error),
         };
-        let width = row_width(&header);
-        let rows = match count_rows(&header, bytes, start, width) {
-            Ok(rows) => rows,
-            Err(place) => return Err(PlaceError::Place(place)),
+        let Some(index) = index else {
+            return Ok(file.without_index());
         };
-        let index = match own_index(&header, bytes, start, rows, width, index) {
-            Ok(index) => index,
-            Err(place) => return Err(PlaceError::Place(place)),
-        };
-        Ok(TableView {
-            header,
-            bytes,
-            start,
-            rows,
-            width,
-            index,
-        })
+        match file.with_index(index) {
+            Ok(table) => Ok(table),
+            Err(place) => Err(PlaceError::Place(place)),
+        }
     }
 
     /// The header.
     pub fn header(&self) -> &Header<'a>
         ensures { result.now ≡ self.now.head }
     {
-        &self.header
+        self.file.header()
     }
 
     /// The number of rows, of which there are at most 16,777,215.
@@ -125,14 +150,14 @@ impl<'a> TableView<'a> {
         ensures value { result ≡ length self.now.rows }
         ensures most { result ≤ most_rows }
     {
-        self.rows
+        self.file.len()
     }
 
     /// Whether there are no rows.
     pub fn is_empty(&self) -> bool
         ensures { result ≡ (length self.now.rows == 0) }
     {
-        self.rows == 0
+        self.file.len() == 0
     }
 
     /// Row `k`, counted from 1, with a tick for it. Found in constant time where rows have one width or the table was opened
@@ -145,15 +170,15 @@ impl<'a> TableView<'a> {
         ensures tick { steps.new ≡ steps.old + 1 }
     {
         steps.tick();
-        let at = place_of_row(
-            &self.header,
-            self.bytes,
-            self.start,
-            self.width,
-            &self.index,
-            k - 1,
-        );
-        RowView::new(&self.header, self.bytes, at)
+        self.file.row(&self.index, k - 1)
+    }
+
+    /// Whether `row` finds a row in constant time: rows have one width, or the table was opened with its index. Else it
+    /// walks from the first. Contracts don't see the index, so a clause speaks of the width alone.
+    pub fn finds_rows_directly(&self) -> bool
+        ensures { (w : ℕ) → width_of self.now.head.columns ≡ Some w → w < 2 ^ 64 → IsTrue result }
+    {
+        self.file.has_width() || self.index.is_some()
     }
 
     /// Each row once, in order, with a cell for each column.
@@ -163,18 +188,18 @@ impl<'a> TableView<'a> {
         // Each cell fits its column.
         ensures fits { All (FitsRow self.now.head.columns) result }
     {
-        Rows::new(&self.header, self.bytes, self.start, self.width)
+        self.file.rows()
     }
 
     /// No fewer bytes than the rows have in canonical spelling, in either order.
-    pub(crate) fn most_len(&self) -> usize
+    pub fn most_len(&self) -> usize
         ensures { (order : Order) → length (rows_text order self.now.head.columns self.now.rows) ≤ result }
     {
-        most_len(&self.header, self.bytes, self.start)
+        self.file.most_len()
     }
 
     /// The rows as they lie in the file, where they have one width, of some bytes: in their canonical spelling.
-    pub(crate) fn fixed_rows(&self) -> Option<FixedRows<'_>>
+    pub fn fixed_rows(&self) -> Option<FixedRows<'_>>
         ensures known { (w : ℕ) → width_of self.now.head.columns ≡ Some w → 0 < w → w < 2 ^ 64 → varies_in self.now.head.columns ≡ false → IsSome result }
         ensures some { IfSome result (λ rows. 0 < rows.width) }
         ensures width { IfSome result (λ rows. width_of self.now.head.columns ≡ Some rows.width) }
@@ -182,6 +207,6 @@ impl<'a> TableView<'a> {
         ensures bytes { IfSome result (λ rows. rows.bytes.now ≡ rows_text self.now.head.order self.now.head.columns self.now.rows) }
         ensures fits { IfSome result (λ rows. All (FitsRow self.now.head.columns) self.now.rows) }
     {
-        fixed_rows(&self.header, self.bytes, self.start, self.width)
+        self.file.fixed_rows()
     }
 }

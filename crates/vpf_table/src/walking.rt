@@ -54,6 +54,21 @@ pub fn sure_cell<'a>(
     }
 }
 
+/// Where the cell that is known to begin at `at` ends: by its width where its column has one.
+pub fn sure_past(order: Order, column: &Column<'_>, bytes: &[u8], at: usize) -> usize
+    requires inside { at ≤ length bytes.now }
+    requires read { IsOk (cell_in order (col column.now) bytes.now at) }
+    ensures exact { end_of (cell_in order (col column.now) bytes.now at) ≡ Ok result }
+    ensures inside { result ≤ length bytes.now }
+{
+    fixed_cells();
+    let _end = bytes.len();
+    match cell_width(column.kind, column.count) {
+        Some(width) => at + width,
+        None => sure_cell(order, column, bytes, at).1,
+    }
+}
+
 /// The end of the row that is known to begin at `at`.
 pub fn sure_end(header: &Header<'_>, bytes: &[u8], at: usize) -> usize
     requires inside { at ≤ length bytes.now }
@@ -62,10 +77,12 @@ pub fn sure_end(header: &Header<'_>, bytes: &[u8], at: usize) -> usize
     ensures after { at ≤ result }
     ensures inside { result ≤ length bytes.now }
 {
-    match skip_row(header, bytes, at) {
-        Ok(past) => past,
-        Err(_) => unreachable!(),
+    let order = header.order();
+    let mut here = at;
+    for i in 0..header.len() {
+        here = sure_past(order, header.at(i), bytes, here);
     }
+    here
 }
 
 /// The end of the row that is known to begin at `at`, by the width of the rows where they have one.

@@ -1,13 +1,11 @@
 -- How bytes are printed.
 use Rattle.std.specs.Prelude.{ℕ, ◌+◌, ◌-◌, ◌/◌, ◌%◌, ◌==◌, Bool, ◌&&◌, not, nat_lt, nat_le, List, [], ◌∷◌, if◌then◌else◌}
 use Rattle.std.specs.List.{flat_map}
+use Rattle.vpf_base.specs.Bytes.{backslash}
 use Rattle.vpf_text.specs.Texts.{◌&◌}
 
 abbrev pub quote : ℕ
 quote = 34
-
-abbrev pub backslash : ℕ
-backslash = 92
 
 -- a digit of base 16: `0` to `9`, then `a` to `f`
 abbrev pub hex_digit : ℕ → ℕ

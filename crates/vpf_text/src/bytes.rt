@@ -1,9 +1,11 @@
 //! Bytes as printed text.
 
-ghost use Rattle.std.specs.Prelude.{◌≡◌, ◌<◌, ◌++◌, ◌∷◌, [], OnOk, string_bytes};
-ghost use Rattle.vpf_text.specs.Bytes.{hex_digit, hex_byte, hex_bytes, is_plain, printed_byte, printed, quoted};
+ghost use Rattle.std.specs.Prelude.{◌≡◌, ◌<◌, ◌++◌, IfSome, OnOk, string_bytes};
+ghost use Rattle.std.specs.List.{list_all};
+ghost use Rattle.vpf_text.specs.Bytes.{hex_digit, is_plain, printed, quoted};
 
 use std::alloc::AllocError;
+use std::fmt;
 
 /// Whether a byte is printed as itself: 32 to 126, but for the quote and the backslash.
 fn is_plain(b: u8) -> bool
@@ -20,56 +22,132 @@ fn hex_digit(n: u8) -> u8
     if n < 10 { b'0' + n } else { b'a' - 10 + n }
 }
 
-fn put_ascii(text: &mut String, b: u8) -> Result<(), AllocError>
-    requires { b < 128 }
-    ensures { OnOk result (string_bytes text.new ≡ string_bytes text.old ++ b ∷ []) }
-{
-    text.push(b as char)
-}
+/// A byte as two lower-case digits of base 16.
+#[derive(Clone, Copy, Debug)]
+struct HexByte(u8);
 
-fn put_hex_byte(text: &mut String, b: u8) -> Result<(), AllocError>
-    ensures { OnOk result (string_bytes text.new ≡ string_bytes text.old ++ hex_byte b) }
-{
-    put_ascii(text, hex_digit(b / 16))?;
-    put_ascii(text, hex_digit(b % 16))
-}
+impl fmt::Display for HexByte {
+    ghost use Rattle.std.specs.Prelude.{Some};
+    ghost use Rattle.vpf_text.specs.Bytes.{hex_byte};
 
-/// Puts two lower-case digits of base 16 for each byte.
-pub fn put_hex(text: &mut String, bytes: &[u8]) -> Result<(), AllocError>
-    ensures { OnOk result (string_bytes text.new ≡ string_bytes text.old ++ hex_bytes bytes.now) }
-{
-    for b in bytes {
-        put_hex_byte(text, *b)?;
+    ghost output = { λ b. Some (hex_byte b.0) };
+
+    fn fmt<W: fmt::Write>(&self, f: &mut fmt::Formatter<W>) -> fmt::Result {
+        f.write_char(hex_digit(self.0 / 16) as char)?;
+        f.write_char(hex_digit(self.0 % 16) as char)
     }
-    Ok(())
 }
 
-fn put_byte(text: &mut String, b: u8) -> Result<(), AllocError>
-    ensures { OnOk result (string_bytes text.new ≡ string_bytes text.old ++ printed_byte b) }
-{
-    if is_plain(b) {
-        return put_ascii(text, b);
+/// Bytes as two digits each.
+#[derive(Clone, Copy, Debug)]
+pub struct Hex<'a>(pub &'a [u8]);
+
+impl fmt::Display for Hex<'_> {
+    ghost use Rattle.std.specs.Prelude.{Some};
+    ghost use Rattle.vpf_text.specs.Bytes.{hex_bytes};
+
+    ghost output = { λ h. Some (hex_bytes h.0.now) };
+
+    fn fmt<W: fmt::Write>(&self, f: &mut fmt::Formatter<W>) -> fmt::Result {
+        for b in self.0 {
+            HexByte(*b).fmt(f)?;
+        }
+        Ok(())
     }
-    put_ascii(text, b'\\')?;
-    put_hex_byte(text, b)
 }
 
-/// Puts a name or a description: plain bytes as themselves, and each other byte as a backslash and its two digits of
-/// base 16. Fails only for want of memory, and then leaves a beginning of the text behind what stood there.
+/// A byte of a name.
+#[derive(Clone, Copy, Debug)]
+struct PrintedByte(u8);
+
+impl fmt::Display for PrintedByte {
+    ghost use Rattle.std.specs.Prelude.{Some};
+    ghost use Rattle.vpf_text.specs.Bytes.{printed_byte};
+
+    ghost output = { λ b. Some (printed_byte b.0) };
+
+    fn fmt<W: fmt::Write>(&self, f: &mut fmt::Formatter<W>) -> fmt::Result {
+        if is_plain(self.0) {
+            return f.write_char(self.0 as char);
+        }
+        let digits = HexByte(self.0);
+        write!(f, "\\{digits}")
+    }
+}
+
+/// Whether each of the bytes is printed as itself.
+fn are_plain(bytes: &[u8]) -> bool
+    ensures { result ≡ list_all is_plain bytes.now }
+{
+    bytes.iter().all(|b| is_plain(*b))
+}
+
+/// The bytes as a text, where each of them is printed as itself.
+#[tactic(auto, using(crate::proofs::PlainLemmas::printed_plain))]
+fn plain_text(bytes: &[u8]) -> Option<&str>
+    ensures { IfSome result (λ text. text.now ≡ printed bytes.now) }
+{
+    if !are_plain(bytes) {
+        return None;
+    }
+    match str::from_utf8(bytes) {
+        Ok(text) => Some(text),
+        Err(_) => None,
+    }
+}
+
+/// A name or a description as it is printed: plain bytes as themselves, and each other byte as a backslash and its two
+/// digits of base 16.
+#[derive(Clone, Copy, Debug)]
+pub struct Printed<'a>(pub &'a [u8]);
+
+impl fmt::Display for Printed<'_> {
+    ghost use Rattle.std.specs.Prelude.{Some};
+    ghost use Rattle.vpf_text.specs.Bytes.{printed};
+
+    ghost output = { λ p. Some (printed p.0.now) };
+
+    fn fmt<W: fmt::Write>(&self, f: &mut fmt::Formatter<W>) -> fmt::Result {
+        // Most texts are plain: one write serves for all of their bytes.
+        if let Some(text) = plain_text(self.0) {
+            return f.write_str(text);
+        }
+        for b in self.0 {
+            PrintedByte(*b).fmt(f)?;
+        }
+        Ok(())
+    }
+}
+
+/// The text of a cell as it is printed: its bytes as those of a name, in quotes.
+#[derive(Clone, Copy, Debug)]
+pub struct Quoted<'a>(pub &'a [u8]);
+
+impl fmt::Display for Quoted<'_> {
+    ghost use Rattle.std.specs.Prelude.{Some};
+    ghost use Rattle.vpf_text.specs.Bytes.{quoted};
+
+    ghost output = { λ q. Some (quoted q.0.now) };
+
+    fn fmt<W: fmt::Write>(&self, f: &mut fmt::Formatter<W>) -> fmt::Result {
+        let text = Printed(self.0);
+        write!(f, "\"{text}\"")
+    }
+}
+
+/// Puts a name or a description as it is printed. Fails only for want of memory, and then leaves a beginning of the text
+/// behind what stood there.
 pub fn put_printed(text: &mut String, bytes: &[u8]) -> Result<(), AllocError>
     ensures { OnOk result (string_bytes text.new ≡ string_bytes text.old ++ printed bytes.now) }
 {
-    for b in bytes {
-        put_byte(text, *b)?;
-    }
-    Ok(())
+    let name = Printed(bytes);
+    write!(text, "{name}")
 }
 
-/// Puts the text of a cell: its bytes as `put_printed` has them, in quotes.
+/// Puts the text of a cell as it is printed.
 pub fn put_quoted(text: &mut String, bytes: &[u8]) -> Result<(), AllocError>
     ensures { OnOk result (string_bytes text.new ≡ string_bytes text.old ++ quoted bytes.now) }
 {
-    put_ascii(text, b'"')?;
-    put_printed(text, bytes)?;
-    put_ascii(text, b'"')
+    let quoted = Quoted(bytes);
+    write!(text, "{quoted}")
 }

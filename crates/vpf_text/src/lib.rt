@@ -6,5 +6,5 @@ mod cells;
 #[cfg(test)]
 mod tests;
 
-pub use bytes::{put_printed, put_quoted};
-pub use cells::put_cell;
+pub use bytes::{Printed, put_printed, put_quoted};
+pub use cells::{CellText, put_cell};

@@ -1,27 +1,26 @@
 -- The first finding, put together.
 use Rattle.std.proofs.Common.{◌≡◌, ℕ, ◌-◌, ◌<◌, nat_eq, cond, pos, Bool, true, false, length, Option, Some, None, Ok, Err, Result, refl, sym, ◌∙◌}
 use Rattle.std.specs.Prelude.{slice_get, slice_index_or, OnOk}
-use Rattle.std.specs.List.{range_with_len}
 use Rattle.std.specs.Option.{option_or}
 use Rattle.std.proofs.lemmas.Bool.{eqb-true}
 use Rattle.std.proofs.lemmas.List.{length-map}
 use Rattle.vpf_value.specs.Values.{Nothing}
 use Rattle.vpf_head.specs.Head.{Col}
-use Rattle.vpf_table.specs.Findings.{Disagreement, NumberSeen, disagreement_of}
+use Rattle.vpf_findings.specs.Findings.{Disagreement, NumberSeen, disagreement_of}
 use Rattle.vpf_table.specs.Grid.{Row, Grid}
-use Rattle.vpf_theme.specs.declared.errors.ThemeError.{ThemeError}
-use Rattle.vpf_theme.specs.declared.errors.ThemeError.TheVariants as errors
+use Rattle.vpf_findings.specs.declared.errors.FindError.{FindError}
+use Rattle.vpf_findings.specs.declared.errors.FindError.TheVariants as errors
+use Rattle.vpf_findings.specs.FirstLaws.{or-none_both}
 use Rattle.vpf_theme.specs.Entries.{Theme}
-use Rattle.vpf_theme.specs.Reading.{first_of}
-use Rattle.vpf_theme.specs.Findings.{Tells, at, cells_of, entries_finding, first_finding, fits_line, kind_line, rows_line, missing_line, of_column}
-use Rattle.vpf_theme.proofs.FaultLemmas.{or_none}
+use Rattle.vpf_findings.specs.Firsts.{Tells, first_over}
+use Rattle.vpf_theme.specs.Findings.{at, cells_of, entries_finding, first_finding, fits_line, kind_line, row_count_line, missing_line, of_column}
 use Rattle.vpf_theme.proofs.FirstLemmas.{first_stop}
 
-pub tells_stop : (V : Type 0) (e : ThemeError) (line : ℕ → Option Disagreement) (k n : ℕ) (whole : Option Disagreement) → k < n → first_of line (range_with_len k (n - k)) ≡ whole → Tells {V = V} (Err e) (line k) → Tells {V = V} (Err e) whole
+pub tells_stop : (V : Type 0) (e : FindError) (line : ℕ → Option Disagreement) (k n : ℕ) (whole : Option Disagreement) → k < n → first_over line k (n - k) ≡ whole → Tells {V = V} (Err e) (line k) → Tells {V = V} (Err e) whole
 tells_stop V (errors.Finding f) line k n whole h left is = first_stop line k n whole (disagreement_of f) h left is
 tells_stop V errors.NoMemory line k n whole h left is = tt
 
-pub tells_or : (V : Type 0) (e : ThemeError) (a b : Option Disagreement) → Tells {V = V} (Err e) a → Tells {V = V} (Err e) (option_or a b)
+pub tells_or : (V : Type 0) (e : FindError) (a b : Option Disagreement) → Tells {V = V} (Err e) a → Tells {V = V} (Err e) (option_or a b)
 tells_or V (errors.Finding f) a b is = rw is refl
 tells_or V errors.NoMemory a b is = tt
 
@@ -31,7 +30,7 @@ same_rows false d m n e h = absurd (cc h)
 
 pub fits_rows : (t : Theme) (column : Col) (n : ℕ) → fits_line t column n ≡ None → t.rows ≡ n
 fits_rows t column n h =
-    let r = or_none (kind_line t column) (rows_line t column n) h in
+    let r = or-none_both (kind_line t column) (row_count_line t column n) h in
     same_rows (nat_eq t.rows n) (at 0 column.name (NumberSeen (pos t.rows)) (NumberSeen (pos n))) t.rows n refl r.1
 
 pub length-cells : (grid : Grid) (c : ℕ) → length (cells_of grid c) ≡ length grid.rows
@@ -57,6 +56,6 @@ agrees_ok : (r : Option Disagreement) (t : Theme) (grid : Grid) (c : ℕ) → r 
 agrees_ok r t grid c e n column is = let f = rw is at e in sym f ∙ n
 
 -- a call that answered Ok found nothing in the column
-pub nothing_found : (V : Type 0) (r : Result V ThemeError) (t : Theme) (grid : Grid) (c : ℕ) → Tells r (of_column grid c (λ (k : Col). first_finding t k (cells_of grid c))) → OnOk r ((column : Col) → slice_get grid.head.columns c ≡ Some column → first_finding t column (cells_of grid c) ≡ None)
+pub nothing_found : (V : Type 0) (r : Result V FindError) (t : Theme) (grid : Grid) (c : ℕ) → Tells r (of_column grid c (λ (k : Col). first_finding t k (cells_of grid c))) → OnOk r ((column : Col) → slice_get grid.head.columns c ≡ Some column → first_finding t column (cells_of grid c) ≡ None)
 nothing_found V (Ok v) t grid c h = agrees_ok (of_column grid c (λ (k : Col). first_finding t k (cells_of grid c))) t grid c refl h
 nothing_found V (Err e) t grid c h = tt

@@ -7,49 +7,26 @@ use Rattle.std.specs.Option.{option_or}
 use Rattle.std.proofs.lemmas.Bool.{false≢true, cases_lt, eqb-true, eq-eqb}
 use Rattle.std.proofs.lemmas.Bool.Decides.{nat_tests}
 use Rattle.std.proofs.lemmas.Slice.Eq.{bytes_eq-Decides}
+use Rattle.vpf_triplet.proofs.KindLemmas.{kinds_same, counts_same}
+use Rattle.vpf_base.proofs.Booleans.{not_false}
 use Rattle.vpf_triplet.specs.declared.kinds.Kind.{Kind}
-use Rattle.vpf_triplet.specs.declared.kinds.Kind.TheVariants as kinds
 use Rattle.vpf_triplet.specs.declared.kinds.Count.{Count}
-use Rattle.vpf_triplet.specs.declared.kinds.Count.TheVariants.{Fixed, Star}
-use Rattle.vpf_triplet.specs.Kinds.{kind_text}
+use Rattle.vpf_triplet.specs.Kinds.{kind_text, same_kind, is_fixed}
 use Rattle.vpf_value.specs.Values.{Value}
 use Rattle.vpf_head.specs.Head.{Col}
-use Rattle.vpf_table.specs.Findings.{Disagreement}
+use Rattle.vpf_findings.specs.Findings.{Disagreement}
+use Rattle.vpf_findings.specs.FirstLaws.{or-none_both, over_none, over_silent}
 use Rattle.vpf_theme.specs.Ordering.{same_value}
 use Rattle.vpf_theme.specs.Entries.{Entry, Theme}
-use Rattle.vpf_theme.specs.Reading.{first_of}
-use Rattle.vpf_theme.specs.Findings.{cell_of, entry_at, same_kind, is_fixed, kind_line, rows_line, fits_line, stands, missing_line, place_in, repeated_line, other_line, first_fall, fall_line, lines_at, entries_finding, first_finding}
+use Rattle.vpf_theme.specs.Findings.{cell_of, entry_at, kind_line, row_count_line, fits_line, stands, missing_line, entry_place, repeated_line, other_line, first_fall, fall_line, lines_at, entries_finding, first_finding}
 use Rattle.vpf_theme.specs.Agreeing.{AgreesWithColumn, HaveRows}
 use Rattle.vpf_theme.specs.KeyLaws.{Decides-same_value, same_yes, same_no}
-use Rattle.vpf_theme.proofs.FaultLemmas.{or_none, first_none}
 use Rattle.vpf_theme.proofs.AgreeLemmas.{fits_rows}
 
 -- ---- kinds and counts
 
-kinds_same : (a b : Kind) → same_kind a b ≡ true → a ≡ b
-kinds_same kinds.T kinds.T h = refl
-kinds_same kinds.L kinds.L h = refl
-kinds_same kinds.M kinds.M h = refl
-kinds_same kinds.N kinds.N h = refl
-kinds_same kinds.F kinds.F h = refl
-kinds_same kinds.R kinds.R h = refl
-kinds_same kinds.S kinds.S h = refl
-kinds_same kinds.I kinds.I h = refl
-kinds_same kinds.D kinds.D h = refl
-kinds_same kinds.X kinds.X h = refl
-kinds_same kinds.K kinds.K h = refl
-kinds_same kinds.C kinds.C h = refl
-kinds_same kinds.B kinds.B h = refl
-kinds_same kinds.Z kinds.Z h = refl
-kinds_same kinds.Y kinds.Y h = refl
-kinds_same a b h = absurd (false≢true h)
-
 same_itself : (a : Kind) → same_kind a a ≡ true
 same_itself a = (bytes_eq-Decides (kind_text a) (kind_text a)).1 refl
-
-counts_same : (n : ℕ) (count : Count) → is_fixed n count ≡ true → count ≡ Fixed n
-counts_same n (Fixed m) h = ap Fixed (sym (eqb-true n m h))
-counts_same n Star h = absurd (false≢true h)
 
 both : (a b : Bool) (d : Disagreement) → cond {A = Option Disagreement} (a && b) None (Some d) ≡ None → (a ≡ true) × (b ≡ true)
 both true true d h = (refl, refl)
@@ -57,10 +34,6 @@ both true false d h = absurd (cc h)
 both false b d h = absurd (cc h)
 
 -- ---- what no finding says
-
-not_true : (b : Bool) → not b ≡ false → b ≡ true
-not_true true h = refl
-not_true false h = absurd (cc h)
 
 mapped_none : {A B : Type 0} (f : A → B) (o : Option A) → option_map f o ≡ None → o ≡ None
 mapped_none f None h = refl
@@ -107,14 +80,14 @@ place_test : (b : Bool) (o : Option ℕ) → cond b (Some 0) (option_map suc o) 
 place_test true o h = absurd (cc h)
 place_test false o h = (refl, mapped_none suc o h)
 
-place_none : (es : List Entry) (v : Value) (i j : ℕ) → place_in (take i es) v ≡ None → j < i → j < length es → (entry_at es j).value ≡ v → ⊥
+place_none : (es : List Entry) (v : Value) (i j : ℕ) → entry_place (take i es) v ≡ None → j < i → j < length es → (entry_at es j).value ≡ v → ⊥
 place_none [] v i j h a b e = absurd (omega arith)
 place_none (x ∷ es) v zero j h a b e = absurd (omega arith)
 place_none (x ∷ es) v (suc i) zero h a b e =
-    let r = place_test (same_value x.value v) (place_in (take i es) v) h in
+    let r = place_test (same_value x.value v) (entry_place (take i es) v) h in
     let t = same_yes x.value v e in
     absurd (false≢true (sym r.0 ∙ t))
-place_none (x ∷ es) v (suc i) (suc j) h a b e = place_none es v i j (place_test (same_value x.value v) (place_in (take i es) v) h).1 (omega arith) (omega arith) e
+place_none (x ∷ es) v (suc i) (suc j) h a b e = place_none es v i j (place_test (same_value x.value v) (entry_place (take i es) v) h).1 (omega arith) (omega arith) e
 
 fall_test : (b : Bool) (row before : ℕ) (o : Option (ℕ × ℕ)) → cond b (Some (row, before)) o ≡ None → (b ≡ false) × (o ≡ None)
 fall_test true row before o h = absurd (cc h)
@@ -135,32 +108,32 @@ contained : (xs : List ℕ) (row : ℕ) (P : ℕ → Type 0) → ((k d : ℕ) �
 contained xs row P h c = subst P c.2 (h c.0 row c.1)
 
 entry_none : (t : Theme) (column : Col) (cells : List Value) (i : ℕ) → entries_finding t column cells ≡ None → i < length t.entries → lines_at t column cells i ≡ None
-entry_none t column cells i h k = first_none (lines_at t column cells) 0 (length t.entries) i h (omega arith) (omega arith)
+entry_none t column cells i h k = over_none (lines_at t column cells) 0 (length t.entries) h i (omega arith) (omega arith)
 
 -- what is known of each entry
 record Clean (t : Theme) (cells : List Value) (i : ℕ) : Type 0 where
-  repeated : place_in (take i t.entries) (entry_at t.entries i).value ≡ None
+  repeated : entry_place (take i t.entries) (entry_at t.entries i).value ≡ None
   other : find (λ row. not (same_value (cell_of cells row) (entry_at t.entries i).value)) (entry_at t.entries i).rows ≡ None
   fall : first_fall 0 (entry_at t.entries i).rows ≡ None
 
 clean : (t : Theme) (column : Col) (cells : List Value) (i : ℕ) → lines_at t column cells i ≡ None → Clean t cells i
 clean t column cells i h =
-    let a = or_none (repeated_line t column i) (option_or (other_line column cells i (entry_at t.entries i)) (fall_line column i (entry_at t.entries i))) h in
-    let b = or_none (other_line column cells i (entry_at t.entries i)) (fall_line column i (entry_at t.entries i)) a.1 in
+    let a = or-none_both (repeated_line t column i) (option_or (other_line column cells i (entry_at t.entries i)) (fall_line column i (entry_at t.entries i))) h in
+    let b = or-none_both (other_line column cells i (entry_at t.entries i)) (fall_line column i (entry_at t.entries i)) a.1 in
     record { repeated = mapped_none _ _ a.0; other = mapped_none _ _ b.0; fall = mapped_none _ _ b.1 }
 
 has_value : (t : Theme) (cells : List Value) (i row : ℕ) → Clean t cells i → Contains (entry_at t.entries i).rows row → cell_of cells row ≡ (entry_at t.entries i).value
 has_value t cells i row k c =
     let v = (entry_at t.entries i).value in
     let f = contained (entry_at t.entries i).rows row (λ (r : ℕ). not (same_value (cell_of cells r) v) ≡ false) (λ n d m. find_none (λ (r : ℕ). not (same_value (cell_of cells r) v)) (entry_at t.entries i).rows n d k.other m) c in
-    (Decides-same_value (cell_of cells row) v).0 (not_true (same_value (cell_of cells row) v) f)
+    (Decides-same_value (cell_of cells row) v).0 (not_false (same_value (cell_of cells row) v) f)
 
 pub agrees_from_none : (t : Theme) (column : Col) (cells : List Value) → HaveRows t → first_finding t column cells ≡ None → AgreesWithColumn t column cells
 unfolding first_finding
 agrees_from_none t column cells rows h =
-    let a = or_none (fits_line t column (length cells)) (option_or (missing_line t column (length cells)) (entries_finding t column cells)) h in
-    let b = or_none (missing_line t column (length cells)) (entries_finding t column cells) a.1 in
-    let f = or_none (kind_line t column) (rows_line t column (length cells)) a.0 in
+    let a = or-none_both (fits_line t column (length cells)) (option_or (missing_line t column (length cells)) (entries_finding t column cells)) h in
+    let b = or-none_both (missing_line t column (length cells)) (entries_finding t column cells) a.1 in
+    let f = or-none_both (kind_line t column) (row_count_line t column (length cells)) a.0 in
     let k = both (same_kind t.kind column.kind) (is_fixed t.count column.count) _ f.0 in
     let n = fits_rows t column (length cells) a.0 in
     let each = λ (i : ℕ) (m : i < length t.entries). clean t column cells i (entry_none t column cells i b.1 m) in
@@ -171,7 +144,7 @@ agrees_from_none t column cells rows h =
       differ = λ i j lt m e. place_none t.entries (entry_at t.entries j).value j i (each j m).repeated lt (omega arith) e;
       stands = λ row low high.
           let none = mapped_none _ _ b.0 in
-          let s = stands_from t.entries row (not_true (stands t.entries row) (range_none (λ (r : ℕ). not (stands t.entries r)) 1 (length cells) row none low (omega arith))) in
+          let s = stands_from t.entries row (not_false (stands t.entries row) (range_none (λ (r : ℕ). not (stands t.entries r)) 1 (length cells) row none low (omega arith))) in
           (s.0, s.1, sym (has_value t cells s.0 row (each s.0 s.1) s.2), s.2);
       only = λ i row m c.
           let r = contained (entry_at t.entries i).rows row (λ (x : ℕ). (1 ≤ x) × (x ≤ t.rows)) (λ q d z. rows i m q d z) c in
@@ -207,7 +180,7 @@ stands_at [] row i m c = absurd (omega arith)
 stands_at (e ∷ es) row zero m c = or_left (list_any (λ r. r == row) e.rows) (stands es row) (any_from e.rows row c.0 c.1 c.2)
 stands_at (e ∷ es) row (suc i) m c = or_right (list_any (λ r. r == row) e.rows) (stands es row) (stands_at es row i (omega arith) c)
 
-no_place : (es : List Entry) (v : Value) (i : ℕ) → ((j : ℕ) → j < i → j < length es → (entry_at es j).value ≡ v → ⊥) → place_in (take i es) v ≡ None
+no_place : (es : List Entry) (v : Value) (i : ℕ) → ((j : ℕ) → j < i → j < length es → (entry_at es j).value ≡ v → ⊥) → entry_place (take i es) v ≡ None
 no_place [] v zero h = refl
 no_place [] v (suc i) h = refl
 no_place (x ∷ es) v zero h = refl
@@ -222,10 +195,6 @@ tail_rises x xs rise k m = let e : suc k + 1 ≡ suc (k + 1) = omega arith in le
 no_fall : (before : ℕ) (rows : List ℕ) → (0 < length rows → before < get_or rows 0 0) → IsStrictlyIncreasing rows → first_fall before rows ≡ None
 no_fall before [] h rise = refl
 no_fall before (row ∷ rows) h rise = rw (le_false row before (h (omega arith))) (no_fall row rows (λ m. rise zero (omega arith)) (tail_rises row rows rise))
-
-first_all : {F : Type 0} (line : ℕ → Option F) (a n : ℕ) → ((i : ℕ) → a ≤ i → i < a + n → line i ≡ None) → first_of line (range_with_len a n) ≡ None
-first_all line a zero h = refl
-first_all line a (suc n) h = rw (h a (omega arith) (omega arith)) (first_all line (a + 1) n (λ i x y. h i (omega arith) (omega arith)))
 
 got : (xs : List ℕ) (k : ℕ) → k < length xs → Contains xs (get_or xs k 0)
 got xs k m = (k, m, get_or_same xs k (get_or xs k 0) 0 m)
@@ -250,5 +219,5 @@ none_from_agrees t column cells a =
     let count : is_fixed t.count column.count ≡ true = subst (λ (k : Count). is_fixed t.count k ≡ true) (sym a.count) (eq-eqb t.count t.count refl) in
     let rows : nat_eq t.rows (length cells) ≡ true = eq-eqb t.rows (length cells) a.rows in
     let missing = range_all (λ (row : ℕ). not (stands t.entries row)) 1 (length cells) (λ row low high. let s = a.stands row low (omega arith) in ap not (stands_at t.entries row s.0 s.1 s.3)) in
-    let entries = first_all (lines_at t column cells) 0 (length t.entries) (λ i x y. line_none t column cells i a (omega arith)) in
+    let entries = over_silent (lines_at t column cells) 0 (length t.entries) (λ i x y. line_none t column cells i a (omega arith)) in
     rw (kind, count, rows, missing, entries) refl

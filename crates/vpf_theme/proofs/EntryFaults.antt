@@ -6,35 +6,29 @@ use Rattle.std.specs.Option.{option_or}
 use Rattle.std.specs.Ordering.{is_lt}
 use Rattle.std.proofs.lemmas.Bool.{cases_lt, lt-ltb, ltb-false, ltb-true}
 use Rattle.std.proofs.lemmas.List.FromFn.{length-map-range_with_len}
+use Rattle.vpf_base.specs.Results.{◌>>=◌}
+use Rattle.vpf_base.specs.Bytes.{IsBytes}
+use Rattle.vpf_base.proofs.Booleans.{all_three, not_true}
+use Rattle.vpf_base.proofs.Results.{failed, err_is, no_ok}
 use Rattle.vpf_triplet.specs.declared.orders.Order.{Order}
 use Rattle.vpf_triplet.specs.declared.places.Place.{Place}
 use Rattle.vpf_triplet.specs.declared.places.Code.TheVariants as codes
-use Rattle.vpf_triplet.specs.Numbers.{IsBytes}
-use Rattle.vpf_triplet.specs.Places.{◌>>=◌, Gives, theme_fault}
+use Rattle.vpf_triplet.specs.Places.{Gives, theme_fault}
 use Rattle.vpf_value.specs.Values.{Value}
 use Rattle.vpf_theme.specs.declared.layout.Layout.{Layout}
 use Rattle.vpf_theme.specs.Entries.{Entry, Theme, entry_of, extent_of, theme_in, value_of}
 use Rattle.vpf_theme.specs.Faults as faults
-use Rattle.vpf_theme.specs.Faults.{Begins, HasEntry, IsAbove, RowsFault, FirstFault}
+use Rattle.vpf_theme.specs.Faults.{BeginsEntries, HasEntry, IsAbove, RowsFault, FirstThemeFault}
 use Rattle.vpf_theme.specs.Layouts.{HasValues, entry_bytes, entry_start, layout_of}
 use Rattle.vpf_theme.specs.Ordering.{value_cmp}
-use Rattle.vpf_theme.specs.Reading.{cut_line, entries_line, entry_line, rises_at, rows_line, sort_line, theme_of, unless_fault}
-use Rattle.vpf_theme.specs.Spelling.{IsHeader}
+use Rattle.vpf_theme.specs.Reading.{cut_line, entries_line, entry_line, rises_at, entry_rows_line, sort_line, theme_of, unless_fault}
+use Rattle.vpf_theme.specs.Spelling.{IsThemeHeader}
 use Rattle.vpf_theme.proofs.FaultLemmas.{is_less}
 use Rattle.vpf_theme.proofs.HeaderFaults.{header_fault, header_refused}
 use Rattle.vpf_theme.proofs.HeaderLemmas.{layout_again, layout_read}
 use Rattle.vpf_theme.proofs.RowsFaults.{either_line, first_at, first_some, rows_fault, rows_told, told}
 use Rattle.vpf_theme.proofs.SpellingLemmas.{AreRead, CellsAreRead, CellsAreSpelled, cut_silent, entries_again, entries_rise, entries_stand, entry_there, extent_there, value-entry, value_there, whole_there}
 use Rattle.vpf_theme.proofs.ValueLemmas.{FixedCells}
-
-abbrev failed : {A : Type 0} → Place → Result A Place
-failed p = Err p
-
-err_is : {A : Type 0} {p q : Place} → failed {A = A} p ≡ failed q → p ≡ q
-err_is e = cc
-
-no_ok : {A : Type 0} (x : A) (p : Place) → Ok x ≡ failed p → ⊥
-no_ok x p e = cc
 
 -- ---- the value before
 
@@ -51,16 +45,6 @@ last_below l bytes a (suc (suc n)) v h k = let z : a + suc (suc n) - 1 ≡ a + 1
 
 -- ---- what is read before the place
 
-three : (a b c : Bool) → (a && b && c) ≡ true → (a ≡ true) × (b ≡ true) × (c ≡ true)
-three true true true e = (refl, refl, refl)
-three true true false e = absurd cc
-three true false c e = absurd cc
-three false b c e = absurd cc
-
-not_true : (b : Bool) → not b ≡ true → b ≡ false
-not_true true e = absurd cc
-not_true false e = refl
-
 less_yes : (l : Layout) (bytes : List ℕ) (i : ℕ) → value_cmp (value_of l bytes (i - 1)) (value_of l bytes i) ≡ Less → rises_at l bytes i ≡ true
 less_yes l bytes i e = ap is_lt e
 
@@ -72,7 +56,7 @@ sorted_above l bytes i none s k = by (rises_at l bytes i) refl
     by true q = is_less (value_cmp (value_of l bytes (i - 1)) (value_of l bytes i)) q
     by false q = absurd (let z = rw (s, lt-ltb 0 i k, q) at none in cc)
 
-begins : CellsAreSpelled → FixedCells → (l : Layout) (bytes : List ℕ) (i : ℕ) → IsBytes bytes → HasValues l → IsHeader l bytes → i < l.entries → ((k : ℕ) → k < i → entry_line l bytes k ≡ None) → Begins l.order l bytes (map (entry_of l bytes) (range_with_len 0 i))
+begins : CellsAreSpelled → FixedCells → (l : Layout) (bytes : List ℕ) (i : ℕ) → IsBytes bytes → HasValues l → IsThemeHeader l bytes → i < l.entries → ((k : ℕ) → k < i → entry_line l bytes k ≡ None) → BeginsEntries l.order l bytes (map (entry_of l bytes) (range_with_len 0 i))
 begins spelled fixed l bytes i fits v h high silent = record {
   order = refl;
   values = v;
@@ -83,22 +67,22 @@ begins spelled fixed l bytes i fits v h high silent = record {
 }
 
 -- the line that applies to entry i is a fault behind the entries before it
-line_fault : CellsAreSpelled → FixedCells → (l : Layout) (bytes : List ℕ) (i : ℕ) (p : Place) → IsBytes bytes → HasValues l → (es : List Entry) → es ≡ map (entry_of l bytes) (range_with_len 0 i) → length es ≡ i → Begins l.order l bytes es → entry_line l bytes i ≡ Some p → FirstFault l.order bytes p
+line_fault : CellsAreSpelled → FixedCells → (l : Layout) (bytes : List ℕ) (i : ℕ) (p : Place) → IsBytes bytes → HasValues l → (es : List Entry) → es ≡ map (entry_of l bytes) (range_with_len 0 i) → length es ≡ i → BeginsEntries l.order l bytes es → entry_line l bytes i ≡ Some p → FirstThemeFault l.order bytes p
 unfolding entry_line
 line_fault spelled fixed l bytes i p fits v es es_are len b e =
     let at : entry_start l (length es) ≡ entry_start l i = ap (entry_start l) len in
-    either_line (cut_line l bytes i) (option_or (sort_line l bytes i) (rows_line l.form l bytes i (extent_of l bytes i))) p (FirstFault l.order bytes p) e
+    either_line (cut_line l bytes i) (option_or (sort_line l bytes i) (entry_rows_line l.form l bytes i (extent_of l bytes i))) p (FirstThemeFault l.order bytes p) e
     (λ f.
     let t = told (nat_lt (length bytes) (entry_start l i + entry_bytes l)) (entry_start l i) codes.ThemeCut p f in
-    subst (FirstFault l.order bytes) (ap (λ (n : ℕ). theme_fault n codes.ThemeCut) at ∙ t.1) (faults.cut l es b (rw at (ltb-true _ _ t.0))))
+    subst (FirstThemeFault l.order bytes) (ap (λ (n : ℕ). theme_fault n codes.ThemeCut) at ∙ t.1) (faults.cut l es b (rw at (ltb-true _ _ t.0))))
     (λ whole f.
     let has : HasEntry l bytes (length es) (value_of l bytes i) (extent_of l bytes i) = subst (λ (n : ℕ). HasEntry l bytes n (value_of l bytes i) (extent_of l bytes i)) (sym len) (entry_there spelled fixed l bytes i fits v (whole_by l bytes i whole)) in
-    either_line (sort_line l bytes i) (rows_line l.form l bytes i (extent_of l bytes i)) p (FirstFault l.order bytes p) f
+    either_line (sort_line l bytes i) (entry_rows_line l.form l bytes i (extent_of l bytes i)) p (FirstThemeFault l.order bytes p) f
     (λ g.
     let t = told (l.sorted && nat_lt 0 i && not (rises_at l bytes i)) (entry_start l i) codes.ThemeSort p g in
-    let three_are = three l.sorted (nat_lt 0 i) (not (rises_at l bytes i)) t.0 in
+    let three_are = all_three l.sorted (nat_lt 0 i) (not (rises_at l bytes i)) t.0 in
     let low : rises_at l bytes i ≡ false = not_true (rises_at l bytes i) three_are.2 in
-    subst (FirstFault l.order bytes) (ap (λ (n : ℕ). theme_fault n codes.ThemeSort) at ∙ t.1)
+    subst (FirstThemeFault l.order bytes) (ap (λ (n : ℕ). theme_fault n codes.ThemeSort) at ∙ t.1)
     (faults.not_above l es (value_of l bytes i) (extent_of l bytes i) b has three_are.0 (λ above. not_less low (last_below l bytes 0 i (value_of l bytes i) (subst (λ (x : List Entry). IsAbove x (value_of l bytes i)) es_are above) (ltb-true 0 i three_are.1)))))
     (λ rising g.
     let above : l.sorted ≡ true → IsAbove es (value_of l bytes i) = λ s. subst (λ (x : List Entry). IsAbove x (value_of l bytes i)) (sym es_are) (above_last l bytes 0 i (value_of l bytes i) (λ k. zero_less (sorted_above l bytes i rising s k))) in
@@ -122,7 +106,7 @@ unless_err : (m : Option Place) (x : Theme) (p : Place) → unless_fault m x ≡
 unless_err None x p e = absurd (no_ok x p e)
 unless_err (Some q) x p e = let k : q ≡ p = err_is e in ap (λ (y : Place). Some y) k
 
-entries_fault : CellsAreSpelled → FixedCells → (l : Layout) (bytes : List ℕ) (p : Place) → IsBytes bytes → HasValues l → IsHeader l bytes → entries_line l bytes ≡ Some p → FirstFault l.order bytes p
+entries_fault : CellsAreSpelled → FixedCells → (l : Layout) (bytes : List ℕ) (p : Place) → IsBytes bytes → HasValues l → IsThemeHeader l bytes → entries_line l bytes ≡ Some p → FirstThemeFault l.order bytes p
 unfolding entries_line
 entries_fault spelled fixed l bytes p fits v h e =
     let f = first_some (entry_line l bytes) 0 l.entries p e in
@@ -130,14 +114,14 @@ entries_fault spelled fixed l bytes p fits v h e =
     line_fault spelled fixed l bytes f.at p fits v es refl (length-map-range_with_len (entry_of l bytes) 0 f.at)
     (begins spelled fixed l bytes f.at fits v h (omega (arith, f.high)) (λ k up. f.silent k (omega arith) up)) f.says
 
-pub theme_faults : CellsAreSpelled → FixedCells → (o : Order) (bytes : List ℕ) (p : Place) → IsBytes bytes → theme_of o bytes ≡ Err p → FirstFault o bytes p
+pub theme_faults : CellsAreSpelled → FixedCells → (o : Order) (bytes : List ℕ) (p : Place) → IsBytes bytes → theme_of o bytes ≡ Err p → FirstThemeFault o bytes p
 unfolding theme_of
 theme_faults spelled fixed o bytes p fits e = by (layout_of o bytes) refl e
   where
-    by : (r : Result Layout Place) → layout_of o bytes ≡ r → (r >>= λ l. unless_fault (entries_line l bytes) (theme_in l bytes)) ≡ failed p → FirstFault o bytes p
+    by : (r : Result Layout Place) → layout_of o bytes ≡ r → (r >>= λ l. unless_fault (entries_line l bytes) (theme_in l bytes)) ≡ failed p → FirstThemeFault o bytes p
     by (Ok l) q f =
         let read = layout_read o bytes l fits q in
-        subst (λ (x : Order). FirstFault x bytes p) read.order (entries_fault spelled fixed l bytes p fits read.values read.header (unless_err (entries_line l bytes) (theme_in l bytes) p f))
+        subst (λ (x : Order). FirstThemeFault x bytes p) read.order (entries_fault spelled fixed l bytes p fits read.values read.header (unless_err (entries_line l bytes) (theme_in l bytes) p f))
     by (Err place) q f = faults.in_header p (header_fault o bytes p fits (q ∙ ap failed (err_is f)))
 
 -- ---- a fault refuses
@@ -147,7 +131,7 @@ record Front (l : Layout) (bytes : List ℕ) (es : List Entry) : Type 0 where
   layout : layout_of l.order bytes ≡ Ok l
   read : AreRead l bytes 0 es
 
-front : CellsAreRead → FixedCells → (o : Order) (l : Layout) (bytes : List ℕ) (es : List Entry) → Begins o l bytes es → Front l bytes es
+front : CellsAreRead → FixedCells → (o : Order) (l : Layout) (bytes : List ℕ) (es : List Entry) → BeginsEntries o l bytes es → Front l bytes es
 front read fixed o l bytes es b = record {
   layout = layout_again l bytes b.values b.header;
   read = entries_again read fixed l bytes 0 es b.values b.entries b.rise (λ s k. absurd (omega arith));
@@ -173,7 +157,7 @@ sort_told : (l : Layout) (bytes : List ℕ) (i : ℕ) → entry_start l i + entr
 unfolding entry_line value_of
 sort_told l bytes i whole s k low = rw (cut_silent l bytes i whole, s, lt-ltb 0 i k, low) refl
 
-rest_told : (l : Layout) (bytes : List ℕ) (i : ℕ) (p : Place) → entry_start l i + entry_bytes l ≤ length bytes → sort_line l bytes i ≡ None → rows_line l.form l bytes i (extent_of l bytes i) ≡ Some p → entry_line l bytes i ≡ Some p
+rest_told : (l : Layout) (bytes : List ℕ) (i : ℕ) (p : Place) → entry_start l i + entry_bytes l ≤ length bytes → sort_line l bytes i ≡ None → entry_rows_line l.form l bytes i (extent_of l bytes i) ≡ Some p → entry_line l bytes i ≡ Some p
 unfolding entry_line
 rest_told l bytes i p whole rise e = rw (cut_silent l bytes i whole, rise, e) refl
 
@@ -203,13 +187,13 @@ sort_silent_by l bytes es v r is above = by (l.sorted && nat_lt 0 (length es) &&
   where
     by : (t : Bool) → (l.sorted && nat_lt 0 (length es) && not (rises_at l bytes (length es))) ≡ t → sort_line l bytes (length es) ≡ None
     by true q =
-        let t = three l.sorted (nat_lt 0 (length es)) (not (rises_at l bytes (length es))) q in
+        let t = all_three l.sorted (nat_lt 0 (length es)) (not (rises_at l bytes (length es))) q in
         let less = are_before l bytes es v r (above t.0) (ltb-true 0 (length es) t.1) in
         let yes = less_yes l bytes (length es) (rw is less) in
         absurd (let z : true ≡ false = sym yes ∙ not_true (rises_at l bytes (length es)) t.2 in cc)
     by false q = rw q refl
 
-pub theme_refused : CellsAreRead → FixedCells → (o : Order) (bytes : List ℕ) (p : Place) → FirstFault o bytes p → theme_of o bytes ≡ Err p
+pub theme_refused : CellsAreRead → FixedCells → (o : Order) (bytes : List ℕ) (p : Place) → FirstThemeFault o bytes p → theme_of o bytes ≡ Err p
 theme_refused read fixed o bytes p (faults.in_header q f) = header_stops o bytes p (header_refused o bytes p f)
 theme_refused read fixed o bytes p (faults.cut l es b h) =
     let f = front read fixed o l bytes es b in
@@ -225,7 +209,7 @@ theme_refused read fixed o bytes p (faults.in_rows l es v e q b has above r) =
     let value = value_there read l bytes (length es) v e has in
     let extent = extent_there read fixed l bytes (length es) v e b.values has in
     let whole = whole_there read fixed l bytes (length es) v e b.values has in
-    let rows : rows_line l.form l bytes (length es) (extent_of l bytes (length es)) ≡ Some p = rw extent (rows_told l.form l bytes (length es) e p r) in
+    let rows : entry_rows_line l.form l bytes (length es) (extent_of l bytes (length es)) ≡ Some p = rw extent (rows_told l.form l bytes (length es) e p r) in
     theme_stops o l bytes p b.order f.layout (entries_told l bytes es p f.read b.fewer (rest_told l bytes (length es) p whole (sort_silent_by l bytes es v f.read value above) rows))
 
 -- ---- what opening answers
@@ -233,6 +217,6 @@ theme_refused read fixed o bytes p (faults.in_rows l es v e q b has above r) =
 abbrev whole : Theme → Theme
 whole t = t
 
-pub refused_is_faulty : (r : Result Theme Place) (o : Order) (bytes : List ℕ) → ((p : Place) → theme_of o bytes ≡ Err p → FirstFault o bytes p) → Gives whole r (theme_of o bytes) → IfErr r (λ p. FirstFault o bytes p)
+pub refused_is_faulty : (r : Result Theme Place) (o : Order) (bytes : List ℕ) → ((p : Place) → theme_of o bytes ≡ Err p → FirstThemeFault o bytes p) → Gives whole r (theme_of o bytes) → IfErr r (λ p. FirstThemeFault o bytes p)
 refused_is_faulty (Ok t) o bytes faulty e = tt
 refused_is_faulty (Err p) o bytes faulty e = faulty p e

@@ -1,13 +1,13 @@
 -- Entries of a view, by their places.
 use Rattle.std.proofs.Common.{◌≡◌, ℕ, ◌<◌, List, length, None, refl, subst, arith}
 use Rattle.std.proofs.lemmas.List.FromFn.{get_or-map-range_with_len, length-map-range_with_len}
+use Rattle.vpf_theme.proofs.SpellingLemmas.{value-entry}
 use Rattle.vpf_theme.specs.declared.layout.Layout.{Layout}
 use Rattle.vpf_theme.specs.Entries.{Theme, entry_of, theme_in, value_of}
 use Rattle.vpf_theme.specs.Findings.{entry_at, no_entry}
 use Rattle.vpf_theme.specs.Reading.{entries_line}
 use Rattle.vpf_theme.specs.Agreeing.{HaveRows}
 use Rattle.vpf_theme.proofs.DataLemmas.{entry_are_rows}
-use Rattle.vpf_theme.proofs.SearchLemmas.{value-entry}
 
 pub view_entry : (l : Layout) (bytes : List ℕ) (t : Theme) (i : ℕ) → theme_in l bytes ≡ t → i < l.entries → entry_at t.entries i ≡ entry_of l bytes i
 view_entry l bytes t i e h = rw (← e) (get_or-map-range_with_len (entry_of l bytes) 0 l.entries i i no_entry h (omega arith))

@@ -1,32 +1,18 @@
 -- What is known of the entries of a directory where no line says anything.
-use Rattle.std.proofs.Common.{◌≡◌, ℕ, zero, suc, ◌+◌, ◌-◌, ◌<◌, ◌≤◌, Bool, true, false, not, ◌&&◌, List, length, Option, Some, None, refl, arith, inl, inr}
+use Rattle.std.proofs.Common.{◌≡◌, ℕ, ◌+◌, ◌-◌, ◌<◌, Bool, true, false, not, ◌&&◌, List, length, None, refl, arith}
 use Rattle.std.specs.Prelude.{nat_lt}
-use Rattle.std.specs.List.{range_with_len}
 use Rattle.std.specs.Option.{option_or}
 use Rattle.std.proofs.Common.{Ordering, Less}
 use Rattle.std.specs.Ordering.{is_lt}
-use Rattle.std.proofs.lemmas.Bool.{cases_lt}
 use Rattle.std.proofs.lemmas.Bool.Decides.{nat_tests}
 use Rattle.vpf_triplet.specs.declared.places.Code.{Code}
 use Rattle.vpf_triplet.specs.declared.places.Code.TheVariants as codes
+use Rattle.vpf_findings.specs.FirstLaws.{or-none_both, over_none}
 use Rattle.vpf_theme.specs.declared.layout.Layout.{Layout}
 use Rattle.vpf_theme.specs.Layouts.{entry_bytes, entry_start}
 use Rattle.vpf_theme.specs.Ordering.{value_cmp}
 use Rattle.vpf_theme.specs.Entries.{IsWhole, value_of, extent_of}
-use Rattle.vpf_theme.specs.Reading.{first_of, fault_where, cut_line, rises_at, sort_line, rows_line, entry_line, entries_line}
-
-pub or_none : {F : Type 0} (a b : Option F) → option_or a b ≡ None → (a ≡ None) × (b ≡ None)
-or_none None b h = (refl, h)
-or_none (Some f) b h = absurd cc
-
-pub first_none : {F : Type 0} (line : ℕ → Option F) (a n i : ℕ) → first_of line (range_with_len a n) ≡ None → a ≤ i → i < a + n → line i ≡ None
-first_none line a zero i h low high = absurd (omega arith)
-first_none line a (suc n) i h low high =
-    let r = or_none (line a) (first_of line (range_with_len (a + 1) n)) h in
-    elim (cases_lt a i) [
-      | inl lt ↦ first_none line (a + 1) n i r.1 (omega arith) (omega arith)
-      | inr ge ↦ let e : i ≡ a = omega arith in rw e r.0
-    ]
+use Rattle.vpf_theme.specs.Reading.{fault_where, cut_line, rises_at, sort_line, entry_rows_line, entry_line, entries_line}
 
 pub no_fault : (b : Bool) (at : ℕ) (code : Code) → fault_where b at code ≡ None → b ≡ false
 no_fault true at code h = absurd cc
@@ -34,19 +20,19 @@ no_fault false at code h = refl
 
 pub entry_none : (l : Layout) (bytes : List ℕ) (i : ℕ) → entries_line l bytes ≡ None → i < l.entries → entry_line l bytes i ≡ None
 unfolding entries_line
-entry_none l bytes i h k = first_none (entry_line l bytes) 0 l.entries i h (omega arith) (omega arith)
+entry_none l bytes i h k = over_none (entry_line l bytes) 0 l.entries h i (omega arith) (omega arith)
 
 pub entry_cut : (l : Layout) (bytes : List ℕ) (i : ℕ) → entry_line l bytes i ≡ None → cut_line l bytes i ≡ None
 unfolding entry_line
-entry_cut l bytes i h = (or_none (cut_line l bytes i) (option_or (sort_line l bytes i) (rows_line l.form l bytes i (extent_of l bytes i))) h).0
+entry_cut l bytes i h = (or-none_both (cut_line l bytes i) (option_or (sort_line l bytes i) (entry_rows_line l.form l bytes i (extent_of l bytes i))) h).0
 
 pub entry_sort : (l : Layout) (bytes : List ℕ) (i : ℕ) → entry_line l bytes i ≡ None → sort_line l bytes i ≡ None
 unfolding entry_line
-entry_sort l bytes i h = (or_none (sort_line l bytes i) (rows_line l.form l bytes i (extent_of l bytes i)) (or_none (cut_line l bytes i) (option_or (sort_line l bytes i) (rows_line l.form l bytes i (extent_of l bytes i))) h).1).0
+entry_sort l bytes i h = (or-none_both (sort_line l bytes i) (entry_rows_line l.form l bytes i (extent_of l bytes i)) (or-none_both (cut_line l bytes i) (option_or (sort_line l bytes i) (entry_rows_line l.form l bytes i (extent_of l bytes i))) h).1).0
 
-pub entry_rows : (l : Layout) (bytes : List ℕ) (i : ℕ) → entry_line l bytes i ≡ None → rows_line l.form l bytes i (extent_of l bytes i) ≡ None
+pub entry_rows : (l : Layout) (bytes : List ℕ) (i : ℕ) → entry_line l bytes i ≡ None → entry_rows_line l.form l bytes i (extent_of l bytes i) ≡ None
 unfolding entry_line
-entry_rows l bytes i h = (or_none (sort_line l bytes i) (rows_line l.form l bytes i (extent_of l bytes i)) (or_none (cut_line l bytes i) (option_or (sort_line l bytes i) (rows_line l.form l bytes i (extent_of l bytes i))) h).1).1
+entry_rows l bytes i h = (or-none_both (sort_line l bytes i) (entry_rows_line l.form l bytes i (extent_of l bytes i)) (or-none_both (cut_line l bytes i) (option_or (sort_line l bytes i) (entry_rows_line l.form l bytes i (extent_of l bytes i))) h).1).1
 
 pub whole_by : (l : Layout) (bytes : List ℕ) (i : ℕ) → entry_line l bytes i ≡ None → IsWhole l bytes i
 whole_by l bytes i h =

@@ -6,7 +6,8 @@ mod FaultLemmas
 mod SearchLemmas
 mod DataLemmas
 mod EntryLemmas
-mod WalkLemmas
+mod ComparedLemmas
+pub mod WalkLemmas
 mod AgreeLemmas
 mod AgreementLemmas
 mod ScanLemmas

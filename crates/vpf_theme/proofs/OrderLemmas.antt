@@ -17,7 +17,7 @@ use Rattle.vpf_triplet.specs.declared.kinds.Count.TheVariants.{Fixed}
 use Rattle.vpf_triplet.specs.declared.places.Code.TheVariants as codes
 use Rattle.vpf_value.specs.Values.{Value, TextOf, Word4Of, Word8Of, NumberOf, DateOf, Nothing, TripletOf, WordsOf}
 use Rattle.vpf_value.specs.Fitting.{FitsKind}
-use Rattle.vpf_value.specs.Reading.{Answer, cell_from, sized}
+use Rattle.vpf_value.specs.Reading.{CellAnswer, cell_from, sized}
 use Rattle.vpf_theme.specs.Layouts.{is_indexed}
 use Rattle.vpf_theme.specs.Ordering.{rank, value_cmp}
 
@@ -152,10 +152,10 @@ of_fits kinds.D count (DateOf t) i f = tt
 of_fits kinds.D count v i f = absurd f
 of_fits kind count v i f = absurd (false≢true i)
 
-same_read : (x y : Value × ℕ) → ◌≡◌ {A = Answer} (Ok x) (Ok y) → x ≡ y
+same_read : (x y : Value × ℕ) → ◌≡◌ {A = CellAnswer} (Ok x) (Ok y) → x ≡ y
 same_read x y e = cc
 
-of_cond : (s : Sort) (b : Bool) (n : ℕ) (v u : Value) (w : ℕ) → IsOf s v → cond {A = Answer} b (Err codes.CellCut) (Ok (v, n)) ≡ Ok (u, w) → IsOf s u
+of_cond : (s : Sort) (b : Bool) (n : ℕ) (v u : Value) (w : ℕ) → IsOf s v → cond {A = CellAnswer} b (Err codes.CellCut) (Ok (v, n)) ≡ Ok (u, w) → IsOf s u
 of_cond s true n v u w h e = absurd (cc e)
 of_cond s false n v u w h e = let p = same_read (v, n) (u, w) e in subst (IsOf s) (ap (λ (x : Value × ℕ). x.0) p) h
 

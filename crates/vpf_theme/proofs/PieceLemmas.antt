@@ -3,9 +3,10 @@ use Rattle.std.proofs.Common.{◌≡◌, ℕ, suc, ◌+◌, ◌<◌, ◌≤◌, 
 use Rattle.std.specs.Int.{w32}
 use Rattle.std.proofs.lemmas.List.{drop_at, drop-drop, get_or-drop, length-append, length-drop, take-append-drop}
 use Rattle.std.proofs.Math.Seq.{drop-cons}
+use Rattle.vpf_base.proofs.ByteLists.{IsBytes-drop}
+use Rattle.vpf_base.specs.Bytes.{IsBytes}
 use Rattle.vpf_triplet.specs.declared.orders.Order.{Order}
-use Rattle.vpf_triplet.specs.Numbers.{IsBytes, number, number_of}
-use Rattle.vpf_triplet.proofs.Spelled.{IsBytes-drop}
+use Rattle.vpf_triplet.specs.Numbers.{number, number_of}
 use Rattle.vpf_value.specs.declared.coords.WordWidth.TheVariants.{Four}
 use Rattle.vpf_value.proofs.Numbers.{length-number, length-number16, number-number_of, number-number_of16, number_of-number, number_of-number16, number_of16_below, number_of_below}
 use Rattle.vpf_theme.specs.declared.layout.RowSize.{RowSize}

@@ -4,9 +4,10 @@ use Rattle.std.specs.List.{range_with_len}
 use Rattle.std.proofs.Common.{Less, Equal, Greater}
 use Rattle.std.proofs.lemmas.Bool.{cases_lt}
 use Rattle.std.proofs.Math.Nat.{pow-succ', mul-le-mul_left}
+use Rattle.vpf_theme.proofs.SpellingLemmas.{value-entry}
 use Rattle.vpf_triplet.specs.declared.kinds.Count.TheVariants.{Fixed}
 use Rattle.vpf_value.specs.Values.{Value}
-use Rattle.vpf_value.specs.Reading.{Answer, cell_from}
+use Rattle.vpf_value.specs.Reading.{CellAnswer, cell_from}
 use Rattle.vpf_value.specs.Fitting.{FitsCell}
 use Rattle.vpf_theme.specs.declared.layout.Layout.{Layout}
 use Rattle.vpf_theme.specs.Layouts.{HasValues, entry_start}
@@ -21,7 +22,7 @@ use Rattle.vpf_theme.proofs.OrderLemmas.{IsOf, sort_of, of_fits, of_read, cmp_tr
 
 -- ---- the values of a directory are of one field
 
-read_is_of : (l : Layout) (bytes : List ℕ) (i : ℕ) (answer : Answer) → answer ≡ cell_from l.order l.kind (Fixed l.count) (drop (entry_start l i) bytes) → FixedCells → HasValues l → IsWhole l bytes i → IsOf (sort_of l.kind) (value_read answer)
+read_is_of : (l : Layout) (bytes : List ℕ) (i : ℕ) (answer : CellAnswer) → answer ≡ cell_from l.order l.kind (Fixed l.count) (drop (entry_start l i) bytes) → FixedCells → HasValues l → IsWhole l bytes i → IsOf (sort_of l.kind) (value_read answer)
 read_is_of l bytes i (Ok r) e laws values whole = of_read l.order l.kind l.count (drop (entry_start l i) bytes) r.0 r.1 values.0 (sym e)
 read_is_of l bytes i (Err code) e laws values whole = absurd (never_cut l bytes i code laws values whole (sym e))
 
@@ -87,10 +88,6 @@ found_from entry v a (suc n) i low high is before = elim (cases_lt a i) [
 found_none : (entry : ℕ → Entry) (v : Value) (a n : ℕ) → ((j : ℕ) → a ≤ j → j < a + n → (entry j).value ≡ v → ⊥) → found_in v (map entry (range_with_len a n)) ≡ None
 found_none entry v a zero none = refl
 found_none entry v a (suc n) none = rw (same_no (entry a).value v (none a (omega arith) (omega arith))) (found_none entry v (a + 1) n (λ j x y. none j (omega arith) (omega arith)))
-
-pub value-entry : (l : Layout) (bytes : List ℕ) (i : ℕ) → (entry_of l bytes i).value ≡ value_of l bytes i
-unfolding entry_of
-value-entry l bytes i = refl
 
 pub place_is : (l : Layout) (bytes : List ℕ) (v : Value) (i : ℕ) → i < l.entries → value_of l bytes i ≡ v → ((j : ℕ) → j < i → value_of l bytes j ≡ v → ⊥) → IsPlace l bytes v (Some i)
 place_is l bytes v i h is before = (h, found_from (entry_of l bytes) v 0 l.entries i (omega arith) (omega arith) (value-entry l bytes i ∙ is) (λ j x y e. before j y (sym (value-entry l bytes j) ∙ e)))

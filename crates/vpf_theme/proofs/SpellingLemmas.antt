@@ -1,5 +1,5 @@
 -- An index is spelled exactly where it is read.
-use Rattle.std.proofs.Common.{◌≡◌, ℕ, zero, suc, ◌+◌, ◌-◌, ◌<◌, ◌≤◌, Bool, true, false, not, ◌&&◌, List, [], ◌∷◌, ◌++◌, length, map, take, drop, Option, Some, None, Ok, Err, Less, refl, sym, ap, subst, ◌∙◌, arith, inl, inr}
+use Rattle.std.proofs.Common.{◌≡◌, ℕ, zero, suc, ◌+◌, ◌-◌, ◌<◌, ◌≤◌, Bool, true, false, not, ◌&&◌, List, [], ◌∷◌, ◌++◌, length, map, take, drop, Option, Some, None, Ok, Err, Less, refl, sym, ap, subst, ◌∙◌, arith, inl, inr, add-one}
 use Rattle.std.specs.Prelude.{nat_lt}
 use Rattle.std.specs.List.{range_with_len}
 use Rattle.std.specs.Int.{w32}
@@ -7,25 +7,27 @@ use Rattle.std.specs.Ordering.{is_lt}
 use Rattle.std.proofs.lemmas.Bool.{cases_lt, le-ltb, ltb-true}
 use Rattle.std.proofs.lemmas.List.{length-drop, length-take-le}
 use Rattle.std.proofs.lemmas.List.FromFn.{length-map-range_with_len}
+use Rattle.vpf_base.proofs.ByteLists.{IsBytes-drop}
+use Rattle.vpf_base.specs.Bytes.{IsBytes}
 use Rattle.vpf_triplet.specs.declared.orders.Order.{Order}
 use Rattle.vpf_triplet.specs.declared.kinds.Kind.{Kind}
 use Rattle.vpf_triplet.specs.declared.kinds.Count.{Count}
 use Rattle.vpf_triplet.specs.declared.kinds.Count.TheVariants.{Fixed}
 use Rattle.vpf_triplet.specs.declared.places.Place.{Place}
 use Rattle.vpf_triplet.specs.declared.places.Code.TheVariants as codes
-use Rattle.vpf_triplet.specs.Numbers.{IsBytes, number}
-use Rattle.vpf_triplet.proofs.Spelled.{IsBytes-drop}
+use Rattle.vpf_triplet.specs.Numbers.{number}
 use Rattle.vpf_value.specs.Values.{Value}
-use Rattle.vpf_value.specs.Reading.{Answer, cell_from}
+use Rattle.vpf_value.specs.Reading.{CellAnswer, cell_from}
 use Rattle.vpf_value.specs.Spelling.{IsCell}
 use Rattle.vpf_theme.specs.declared.layout.Layout.{Layout}
 use Rattle.vpf_theme.specs.declared.entries.Extent.{Extent}
 use Rattle.vpf_theme.specs.Layouts.{HasValues, entry_bytes, entry_start, layout_of, u32_at, value_bytes}
 use Rattle.vpf_theme.specs.Ordering.{value_cmp}
 use Rattle.vpf_theme.specs.Entries.{Entry, Theme, entry_of, extent_of, rows_by, theme_in, value_of, value_read}
-use Rattle.vpf_theme.specs.Reading.{cut_line, entries_line, entry_line, first_of, rises_at, sort_line, theme_of, unless_fault}
+use Rattle.vpf_findings.specs.Firsts.{first_over}
+use Rattle.vpf_theme.specs.Reading.{cut_line, entries_line, entry_line, rises_at, sort_line, theme_of, unless_fault}
 use Rattle.vpf_theme.specs.Faults.{HasEntry}
-use Rattle.vpf_theme.specs.Spelling.{AreEntriesAt, IsBelow, IsEntryAt, IsHeader, IsThematicIndex, ValuesRise, layout_from}
+use Rattle.vpf_theme.specs.Spelling.{AreEntriesAt, IsBelow, IsEntryAt, IsThemeHeader, IsThematicIndex, ValuesRise, layout_from}
 use Rattle.vpf_theme.proofs.DataLemmas.{entry_rows_by}
 use Rattle.vpf_theme.proofs.FaultLemmas.{entry_none, entry_rows, rises_by, whole_by}
 use Rattle.vpf_theme.proofs.HeaderLemmas.{layout_again, layout_read, then_ok}
@@ -44,7 +46,7 @@ abbrev pub CellsAreSpelled : Type 0
 CellsAreSpelled = (order : Order) (kind : Kind) (count : Count) (bytes : List ℕ) (v : Value) (n : ℕ) → IsBytes bytes → cell_from order kind count bytes ≡ Ok (v, n) → (n ≤ length bytes) × IsCell order kind count v (take n bytes)
 
 -- what is read of the value of entry i
-abbrev value_answer : Layout → List ℕ → ℕ → Answer
+abbrev value_answer : Layout → List ℕ → ℕ → CellAnswer
 value_answer l bytes i = cell_from l.order l.kind (Fixed l.count) (drop (entry_start l i) bytes)
 
 -- ---- what is spelled is read
@@ -52,14 +54,14 @@ value_answer l bytes i = cell_from l.order l.kind (Fixed l.count) (drop (entry_s
 answer_there : CellsAreRead → (l : Layout) (bytes : List ℕ) (i : ℕ) (v : Value) (e : Extent) (d : HasEntry l bytes i v e) → value_answer l bytes i ≡ Ok (v, length d.spelling)
 answer_there read l bytes i v e d = ap (cell_from l.order l.kind (Fixed l.count)) d.value.1 ∙ read l.order l.kind (Fixed l.count) v d.spelling d.value.0 d.spelled
 
-never : (a : Answer) (v : Value) (n : ℕ) → a ≡ Ok (v, n) → a ≡ Err codes.CellCut → ⊥
+never : (a : CellAnswer) (v : Value) (n : ℕ) → a ≡ Ok (v, n) → a ≡ Err codes.CellCut → ⊥
 never a v n h k = cc
 
-taken : Answer → ℕ
+taken : CellAnswer → ℕ
 taken (Ok r) = r.1
 taken (Err code) = 0
 
-same_length : (a : Answer) (v u : Value) (n m : ℕ) → a ≡ Ok (v, n) → a ≡ Ok (u, m) → n ≡ m
+same_length : (a : CellAnswer) (v u : Value) (n m : ℕ) → a ≡ Ok (v, n) → a ≡ Ok (u, m) → n ≡ m
 unfolding taken
 same_length a v u n m h k = sym (ap taken h) ∙ ap taken k
 
@@ -130,7 +132,7 @@ entry_silent l bytes i e d whole rise extent = rw (cut_silent l bytes i whole, s
 -- the entries from entry i on are read, and no line says anything of them
 pub record AreRead (l : Layout) (bytes : List ℕ) (i : ℕ) (es : List Entry) : Type 0 where
   pub entries : map (entry_of l bytes) (range_with_len i (length es)) ≡ es
-  pub silent : first_of (entry_line l bytes) (range_with_len i (length es)) ≡ None
+  pub silent : first_over (entry_line l bytes) i (length es) ≡ None
 
 pub entries_again : CellsAreRead → FixedCells → (l : Layout) (bytes : List ℕ) (i : ℕ) (es : List Entry) → HasValues l → AreEntriesAt l bytes i es → (l.sorted ≡ true → ValuesRise es) → (l.sorted ≡ true → 0 < i → IsBelow (value_of l bytes (i - 1)) es) → AreRead l bytes i es
 entries_again read fixed l bytes i [] v at rise below = record { entries = refl; silent = refl }
@@ -143,7 +145,8 @@ entries_again read fixed l bytes i (e ∷ es) v at rise below =
     let silent = entry_silent l bytes i e d (whole_there read fixed l bytes i e.value d.extent v has) (λ s k. rw value (below s k)) extent in
     let z : i + 1 - 1 ≡ i = omega arith in
     let more = entries_again read fixed l bytes (i + 1) es v at.1 (λ s. (rise s).1) (λ s k. rw (z, value) ((rise s).0)) in
-    record { entries = rw (entry, more.entries) refl; silent = rw (silent, more.silent) refl }
+    let after : first_over (entry_line l bytes) (suc i) (length es) ≡ None = rw (← add-one) more.silent in
+    record { entries = rw (entry, more.entries) refl; silent = rw (silent, after) refl }
 
 abbrev theme_with : Theme → List Entry → Theme
 theme_with t es = record t { entries = es }
@@ -217,13 +220,13 @@ pub entries_rise : (l : Layout) (bytes : List ℕ) (i n : ℕ) → AreSilent l b
 entries_rise l bytes i zero none s = tt
 entries_rise l bytes i (suc n) none s = (below_next l bytes i n none s, entries_rise l bytes (i + 1) n (λ k low high. none k (omega arith) (omega arith)) s)
 
-theme_stands : CellsAreSpelled → FixedCells → (l : Layout) (bytes : List ℕ) → IsBytes bytes → HasValues l → IsHeader l bytes → entries_line l bytes ≡ None → IsThematicIndex l.order (theme_in l bytes) bytes
+theme_stands : CellsAreSpelled → FixedCells → (l : Layout) (bytes : List ℕ) → IsBytes bytes → HasValues l → IsThemeHeader l bytes → entries_line l bytes ≡ None → IsThematicIndex l.order (theme_in l bytes) bytes
 theme_stands spelled fixed l bytes fits v h none =
     let same : layout_from l.order l.row_size (theme_in l bytes) ≡ l = ap (λ (n : ℕ). with_entries l n) (length-map-range_with_len (entry_of l bytes) 0 l.entries) in
     record {
       row_size = l.row_size;
       values = subst HasValues (sym same) v;
-      header = subst (λ (x : Layout). IsHeader x bytes) (sym same) h;
+      header = subst (λ (x : Layout). IsThemeHeader x bytes) (sym same) h;
       entries = subst (λ (x : Layout). AreEntriesAt x bytes 0 (theme_in l bytes).entries) (sym same) (entries_stand spelled fixed l bytes 0 l.entries fits v (λ k low high. entry_none l bytes k none (omega (arith, high))));
       rise = λ s. entries_rise l bytes 0 l.entries (λ k low high. entry_none l bytes k none (omega (arith, high))) s;
     }

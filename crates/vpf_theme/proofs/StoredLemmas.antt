@@ -1,5 +1,5 @@
 -- The data of an entry are spelled exactly where they are read, and no line says anything of them.
-use Rattle.std.proofs.Common.{◌≡◌, ℕ, zero, suc, ◌+◌, ◌-◌, ◌*◌, ◌/◌, ◌<◌, ◌≤◌, ◌||◌, Bool, true, false, List, [], ◌∷◌, ◌++◌, length, map, drop, get_or, append_assoc, Option, None, nat_eq, refl, sym, ap, subst, ◌∙◌, arith, inl, inr}
+use Rattle.std.proofs.Common.{◌≡◌, ℕ, zero, suc, ◌+◌, ◌-◌, ◌*◌, ◌/◌, ◌<◌, ◌≤◌, Bool, true, false, List, [], ◌∷◌, ◌++◌, length, map, drop, get_or, append_assoc, None, nat_eq, refl, sym, ap, subst, ◌∙◌, arith, inl, inr, add-one}
 use Rattle.std.specs.Prelude.{◌==◌, All, Contains, filter, if◌then◌else◌}
 use Rattle.std.specs.List.{list_any, range_with_len}
 use Rattle.std.specs.List.Sorted.{IsStrictlyIncreasing}
@@ -8,35 +8,34 @@ use Rattle.std.proofs.lemmas.Bool.Decides.{nat_tests}
 use Rattle.std.proofs.lemmas.List.Elements.{All-contains, filter_passes}
 use Rattle.std.proofs.lemmas.List.FromFn.{get_or-range_with_len, length-map-range_with_len, length-range_with_len}
 use Rattle.std.proofs.lemmas.List.Kept.{IsStrictlyIncreasing-filter}
+use Rattle.vpf_base.proofs.ByteLists.{IsBytes-drop}
+use Rattle.vpf_base.specs.Bytes.{IsBytes}
+use Rattle.vpf_base.proofs.Booleans.{or_true, same_bool, refuted}
 use Rattle.vpf_triplet.specs.declared.places.Code.TheVariants as codes
-use Rattle.vpf_triplet.specs.Numbers.{IsBytes, number}
-use Rattle.vpf_triplet.proofs.Spelled.{IsBytes-drop}
+use Rattle.vpf_triplet.specs.Numbers.{number}
+use Rattle.vpf_findings.specs.FirstLaws.{or-none_both, over_none, over_silent}
 use Rattle.vpf_theme.specs.declared.layout.Form.{Form}
 use Rattle.vpf_theme.specs.declared.layout.Form.TheVariants as forms
 use Rattle.vpf_theme.specs.declared.layout.Layout.{Layout}
 use Rattle.vpf_theme.specs.declared.entries.Extent.{Extent}
 use Rattle.vpf_theme.specs.Layouts.{directory_end, row_bytes}
 use Rattle.vpf_theme.specs.Entries.{is_marked, listed_rows, marked_rows, number_at, number_start, row_number, rows_by}
-use Rattle.vpf_theme.specs.Reading.{bitmap_line, first_of, is_bitmap, is_data, is_row, list_line, number_line, numbers_line, pad_line, rows_line}
-use Rattle.vpf_theme.specs.Spelling.{AreData, AreNumbers, HoldsRow, IsBitmap, IsList, LiesBehind, row_width, rows_text}
+use Rattle.vpf_findings.specs.Firsts.{first_over}
+use Rattle.vpf_theme.specs.Reading.{bitmap_line, is_bitmap, is_behind, is_row, list_line, number_line, numbers_line, pad_line, entry_rows_line}
+use Rattle.vpf_theme.specs.Spelling.{AreData, AreNumbers, HoldsRow, IsBitmap, IsList, LiesBehind, row_width, row_numbers_text}
 use Rattle.vpf_theme.specs.Views.{AreRows}
 use Rattle.vpf_theme.proofs.AgreementLemmas.{tail_rises}
 use Rattle.vpf_theme.proofs.DataLemmas.{all_range, bitmap_data, list_many, numbers_data}
-use Rattle.vpf_theme.proofs.FaultLemmas.{first_none, no_fault, or_none}
+use Rattle.vpf_theme.proofs.FaultLemmas.{no_fault}
 use Rattle.vpf_theme.proofs.PieceLemmas.{after, length-row, row_again, row_held, row_stands}
-
--- nothing is said of any number of a range
-pub none_said : {F : Type 0} (line : ℕ → Option F) (a n : ℕ) → ((k : ℕ) → a ≤ k → k < a + n → line k ≡ None) → first_of line (range_with_len a n) ≡ None
-none_said line a zero h = refl
-none_said line a (suc n) h = rw (h a (omega arith) (omega arith)) (none_said line (a + 1) n (λ k low high. h k (omega arith) (omega arith)))
 
 pub row_yes : (l : Layout) (n : ℕ) → 1 ≤ n → n ≤ l.rows → is_row l n ≡ true
 row_yes l n low high = rw (le-leb 1 n low, le-leb n l.rows high) refl
 
-pub data_yes : (l : Layout) (bytes : List ℕ) (offset len : ℕ) → LiesBehind l bytes offset len → is_data l bytes offset len ≡ true
+pub data_yes : (l : Layout) (bytes : List ℕ) (offset len : ℕ) → LiesBehind l bytes offset len → is_behind l bytes offset len ≡ true
 data_yes l bytes offset len h = rw (le-leb (directory_end l) offset h.0, le-leb (offset + len) (length bytes) h.1) refl
 
-pub data_behind : (l : Layout) (bytes : List ℕ) (offset len : ℕ) → is_data l bytes offset len ≡ true → LiesBehind l bytes offset len
+pub data_behind : (l : Layout) (bytes : List ℕ) (offset len : ℕ) → is_behind l bytes offset len ≡ true → LiesBehind l bytes offset len
 data_behind l bytes offset len h = (grind (arith, nat_tests), grind (arith, nat_tests))
 
 -- ---- a list of several rows
@@ -52,26 +51,29 @@ are_held l (row ∷ rows) h r = ((h zero row (omega arith), r zero row (omega ar
 
 -- the numbers from number k on stand there
 abbrev pub StandFrom : Layout → List ℕ → List ℕ → ℕ → ℕ → List ℕ → Type 0
-StandFrom l bytes rest at k rows = drop (number_start l at k) bytes ≡ rows_text l.order l.row_size rows ++ rest
+StandFrom l bytes rest at k rows = drop (number_start l at k) bytes ≡ row_numbers_text l.order l.row_size rows ++ rest
 
 number_there : (l : Layout) (bytes rest : List ℕ) (at k row : ℕ) (rows : List ℕ) → HoldsRow l.row_size row → StandFrom l bytes rest at k (row ∷ rows) → number_at l bytes at k ≡ row
 unfolding number_at
-number_there l bytes rest at k row rows h e = ap (row_number l.order l.row_size) (e ∙ append_assoc (number l.order (row_width l.row_size) row) (rows_text l.order l.row_size rows) rest) ∙ row_again l.order l.row_size row (rows_text l.order l.row_size rows ++ rest) h
+number_there l bytes rest at k row rows h e = ap (row_number l.order l.row_size) (e ∙ append_assoc (number l.order (row_width l.row_size) row) (row_numbers_text l.order l.row_size rows) rest) ∙ row_again l.order l.row_size row (row_numbers_text l.order l.row_size rows ++ rest) h
 
 next_number : (l : Layout) (bytes rest : List ℕ) (at k row : ℕ) (rows : List ℕ) → StandFrom l bytes rest at k (row ∷ rows) → StandFrom l bytes rest at (k + 1) rows
 next_number l bytes rest at k row rows e =
     let piece = number l.order (row_width l.row_size) row in
     let z : number_start l at k + row_bytes l.row_size ≡ number_start l at (k + 1) = omega arith in
-    let f = after bytes piece (rows_text l.order l.row_size rows ++ rest) (number_start l at k) (row_bytes l.row_size) (length-row l.order l.row_size row) (e ∙ append_assoc piece (rows_text l.order l.row_size rows) rest) in
+    let f = after bytes piece (row_numbers_text l.order l.row_size rows ++ rest) (number_start l at k) (row_bytes l.row_size) (length-row l.order l.row_size row) (e ∙ append_assoc piece (row_numbers_text l.order l.row_size rows) rest) in
     rw z at f
 
 numbers_again : (l : Layout) (bytes rest : List ℕ) (at k : ℕ) (rows : List ℕ) → AreHeld l rows → StandFrom l bytes rest at k rows → map (number_at l bytes at) (range_with_len k (length rows)) ≡ rows
 numbers_again l bytes rest at k [] h e = refl
 numbers_again l bytes rest at k (row ∷ rows) h e = rw (number_there l bytes rest at k row rows h.0.0 e, numbers_again l bytes rest at (k + 1) rows h.1 (next_number l bytes rest at k row rows e)) refl
 
-pub numbers_silent : (l : Layout) (bytes rest : List ℕ) (at k : ℕ) (rows : List ℕ) → AreHeld l rows → StandFrom l bytes rest at k rows → first_of (number_line l bytes at) (range_with_len k (length rows)) ≡ None
+pub numbers_silent : (l : Layout) (bytes rest : List ℕ) (at k : ℕ) (rows : List ℕ) → AreHeld l rows → StandFrom l bytes rest at k rows → first_over (number_line l bytes at) k (length rows) ≡ None
 numbers_silent l bytes rest at k [] h e = refl
-numbers_silent l bytes rest at k (row ∷ rows) h e = rw (number_there l bytes rest at k row rows h.0.0 e, row_yes l row h.0.1.0 h.0.1.1) (numbers_silent l bytes rest at (k + 1) rows h.1 (next_number l bytes rest at k row rows e))
+numbers_silent l bytes rest at k (row ∷ rows) h e =
+    let more = numbers_silent l bytes rest at (k + 1) rows h.1 (next_number l bytes rest at k row rows e) in
+    let silent : first_over (number_line l bytes at) (suc k) (length rows) ≡ None = rw (← add-one) more in
+    rw (number_there l bytes rest at k row rows h.0.0 e, row_yes l row h.0.1.0 h.0.1.1) silent
 
 first_stands : (l : Layout) (bytes : List ℕ) (e : Extent) (rows : List ℕ) (n : AreNumbers l bytes e rows) → StandFrom l bytes n.stand.0 e.offset 0 rows
 first_stands l bytes e rows n = let z : number_start l e.offset 0 ≡ e.offset = omega arith in rw z n.stand.1
@@ -115,10 +117,6 @@ has_none : (a n row : ℕ) (rows : List ℕ) → Rises a n rows → row < a → 
 has_none a n row [] r h = refl
 has_none a n row (x ∷ rows) r h = rw (ne_eqb x row (λ e. omega (arith, r.0, e))) (has_none (x + 1) n row rows r.1.1 (omega (arith, r.0)))
 
-or_true : (b : Bool) → (b || true) ≡ true
-or_true true = refl
-or_true false = refl
-
 contains_has : (rows : List ℕ) (row k : ℕ) → k < length rows → get_or rows k row ≡ row → has rows row ≡ true
 contains_has [] row k h e = absurd (omega arith)
 contains_has (x ∷ rows) row zero h e = rw (eq-eqb x row e) refl
@@ -130,16 +128,6 @@ has_contains (x ∷ rows) row h = elim (cases_eq x row) [
   | inl e ↦ (zero, omega arith, e)
   | inr ne ↦ let k = rw (ne_eqb x row ne) at h in let c = has_contains rows row k in (suc c.0, omega (arith, c.1), c.2)
 ]
-
-same_bool : (a b : Bool) → (a ≡ true → b ≡ true) → (b ≡ true → a ≡ true) → a ≡ b
-same_bool true true f g = refl
-same_bool true false f g = sym (f refl)
-same_bool false true f g = g refl
-same_bool false false f g = refl
-
-not_true : (b : Bool) → (b ≡ true → ⊥) → b ≡ false
-not_true true h = absurd (h refl)
-not_true false h = refl
 
 kept_none : (p : ℕ → Bool) (a n : ℕ) → ((row : ℕ) → a ≤ row → row < a + n → p row ≡ false) → filter p (range_with_len a n) ≡ []
 kept_none p a zero h = refl
@@ -174,8 +162,8 @@ bitmap_again l bytes e rows r b = marks_are_rows (λ row. is_marked bytes e.offs
 
 bitmap_silent : (l : Layout) (bytes : List ℕ) (i : ℕ) (e : Extent) (rows : List ℕ) → AreRows l.rows rows → IsBitmap l bytes e rows → bitmap_line l bytes i e ≡ None
 bitmap_silent l bytes i e rows r b =
-    let pads : first_of (pad_line bytes e.offset) (range_with_len l.rows (8 * e.count - l.rows)) ≡ None = none_said (pad_line bytes e.offset) l.rows (8 * e.count - l.rows) (λ k low high.
-    let clear = not_true (is_marked bytes e.offset k) (λ t.
+    let pads : first_over (pad_line bytes e.offset) l.rows (8 * e.count - l.rows) ≡ None = over_silent (pad_line bytes e.offset) l.rows (8 * e.count - l.rows) (λ k low high.
+    let clear = refuted (is_marked bytes e.offset k) (λ t.
     let c = (b.marks k (omega arith)).0 t in
     let inside = All-contains (λ row. (1 ≤ row) × (row ≤ l.rows)) rows (k + 1) r c in
     omega (arith, inside.1)) in
@@ -188,20 +176,20 @@ pub rows_again : (form : Form) (l : Layout) (bytes : List ℕ) (e : Extent) (row
 rows_again forms.List l bytes e rows r d = list_again l bytes e rows r d
 rows_again forms.Bitmap l bytes e rows r d = bitmap_again l bytes e rows r d
 
-pub rows_silent : (form : Form) (l : Layout) (bytes : List ℕ) (i : ℕ) (e : Extent) (rows : List ℕ) → AreRows l.rows rows → AreData form l bytes e rows → rows_line form l bytes i e ≡ None
+pub rows_silent : (form : Form) (l : Layout) (bytes : List ℕ) (i : ℕ) (e : Extent) (rows : List ℕ) → AreRows l.rows rows → AreData form l bytes e rows → entry_rows_line form l bytes i e ≡ None
 rows_silent forms.List l bytes i e rows r d = list_silent l bytes i e rows r d
 rows_silent forms.Bitmap l bytes i e rows r d = bitmap_silent l bytes i e rows r d
 
 -- ---- what is read is spelled
 
-pub numbers_stand : (l : Layout) (bytes : List ℕ) (at k n : ℕ) → IsBytes bytes → number_start l at k + n * row_bytes l.row_size ≤ length bytes → drop (number_start l at k) bytes ≡ rows_text l.order l.row_size (map (number_at l bytes at) (range_with_len k n)) ++ drop (number_start l at k + n * row_bytes l.row_size) bytes
+pub numbers_stand : (l : Layout) (bytes : List ℕ) (at k n : ℕ) → IsBytes bytes → number_start l at k + n * row_bytes l.row_size ≤ length bytes → drop (number_start l at k) bytes ≡ row_numbers_text l.order l.row_size (map (number_at l bytes at) (range_with_len k n)) ++ drop (number_start l at k + n * row_bytes l.row_size) bytes
 unfolding number_at
 numbers_stand l bytes at k zero fits h = let z : number_start l at k ≡ number_start l at k + zero * row_bytes l.row_size = omega arith in ap (λ (m : ℕ). drop m bytes) z
 numbers_stand l bytes at k (suc n) fits h =
     let start = number_start l at k in
     let size = row_bytes l.row_size in
     let piece = number l.order (row_width l.row_size) (number_at l bytes at k) in
-    let others = rows_text l.order l.row_size (map (number_at l bytes at) (range_with_len (k + 1) n)) in
+    let others = row_numbers_text l.order l.row_size (map (number_at l bytes at) (range_with_len (k + 1) n)) in
     let z : start + size ≡ number_start l at (k + 1) = omega arith in
     let y : number_start l at (k + 1) + n * size ≡ start + suc n * size = omega arith in
     let here = row_stands l.order l.row_size bytes start fits (omega arith) in
@@ -247,11 +235,11 @@ kept_one p a (suc n) x t low high = elim (cases_eq x a) [
   | inr ne ↦ kept_case (p a) x a (filter p (range_with_len (a + 1) n)) (kept_one p (a + 1) n x t (omega (arith, ne)) (omega arith))
 ]
 
-marks_told : (l : Layout) (bytes : List ℕ) (e : Extent) (k : ℕ) → first_of (pad_line bytes e.offset) (range_with_len l.rows (8 * e.count - l.rows)) ≡ None → k < 8 * e.count → is_marked bytes e.offset k ≡ true → Contains (marked_rows l bytes e) (k + 1)
+marks_told : (l : Layout) (bytes : List ℕ) (e : Extent) (k : ℕ) → first_over (pad_line bytes e.offset) l.rows (8 * e.count - l.rows) ≡ None → k < 8 * e.count → is_marked bytes e.offset k ≡ true → Contains (marked_rows l bytes e) (k + 1)
 marks_told l bytes e k pads h t = elim (cases_lt k l.rows) [
   | inl lt ↦ let z : k ≡ k + 1 - 1 = omega arith in let here = rw z at t in kept_one (λ row. is_marked bytes e.offset (row - 1)) 1 l.rows (k + 1) here (omega arith) (omega arith)
   | inr ge ↦
-      let clear = no_fault (is_marked bytes e.offset k) (e.offset + k / 8) codes.ThemePad (first_none (pad_line bytes e.offset) l.rows (8 * e.count - l.rows) k pads ge (omega arith)) in
+      let clear = no_fault (is_marked bytes e.offset k) (e.offset + k / 8) codes.ThemePad (over_none (pad_line bytes e.offset) l.rows (8 * e.count - l.rows) pads k ge (omega arith)) in
       let both : true ≡ false = sym t ∙ clear in
       absurd (cc both)
 ]
@@ -277,9 +265,9 @@ bitmap_stands l bytes i e h =
     bitmap_behind : (l : Layout) (bytes : List ℕ) (e : Extent) → is_bitmap l bytes e ≡ true → LiesBehind l bytes e.offset e.count
     bitmap_behind l bytes e h = (grind (arith, nat_tests), grind (arith, nat_tests))
 
-    bitmap_pads : (l : Layout) (bytes : List ℕ) (i : ℕ) (e : Extent) → bitmap_line l bytes i e ≡ None → first_of (pad_line bytes e.offset) (range_with_len l.rows (8 * e.count - l.rows)) ≡ None
-    bitmap_pads l bytes i e h = (or_none _ (first_of (pad_line bytes e.offset) (range_with_len l.rows (8 * e.count - l.rows))) h).1
+    bitmap_pads : (l : Layout) (bytes : List ℕ) (i : ℕ) (e : Extent) → bitmap_line l bytes i e ≡ None → first_over (pad_line bytes e.offset) l.rows (8 * e.count - l.rows) ≡ None
+    bitmap_pads l bytes i e h = (or-none_both _ (first_over (pad_line bytes e.offset) l.rows (8 * e.count - l.rows)) h).1
 
-pub rows_stand : (form : Form) (l : Layout) (bytes : List ℕ) (i : ℕ) (e : Extent) → IsBytes bytes → rows_line form l bytes i e ≡ None → AreData form l bytes e (rows_by form l bytes e)
+pub rows_stand : (form : Form) (l : Layout) (bytes : List ℕ) (i : ℕ) (e : Extent) → IsBytes bytes → entry_rows_line form l bytes i e ≡ None → AreData form l bytes e (rows_by form l bytes e)
 rows_stand forms.List l bytes i e fits h = list_stands l bytes i e fits h
 rows_stand forms.Bitmap l bytes i e fits h = bitmap_stands l bytes i e h

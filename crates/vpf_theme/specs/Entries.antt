@@ -7,7 +7,7 @@ use Rattle.vpf_triplet.specs.declared.kinds.Kind.{Kind}
 use Rattle.vpf_triplet.specs.declared.kinds.Count.TheVariants.{Fixed}
 use Rattle.vpf_triplet.specs.Numbers.{number_of}
 use Rattle.vpf_value.specs.Values.{Value, Nothing}
-use Rattle.vpf_value.specs.Reading.{Answer, cell_from}
+use Rattle.vpf_value.specs.Reading.{CellAnswer, cell_from}
 use Rattle.vpf_theme.specs.declared.layout.Form.{Form}
 use Rattle.vpf_theme.specs.declared.layout.Form.TheVariants as forms
 use Rattle.vpf_theme.specs.declared.layout.RowSize.{RowSize}
@@ -41,7 +41,7 @@ abbrev pub IsWhole : Layout → List ℕ → ℕ → Type 0
 IsWhole l bytes i = entry_start l i + entry_bytes l ≤ length bytes
 
 -- the value of a cell that is read
-abbrev pub value_read : Answer → Value
+abbrev pub value_read : CellAnswer → Value
 value_read (Ok r) = r.0
 value_read (Err code) = Nothing
 

@@ -20,7 +20,7 @@ use Rattle.vpf_theme.specs.declared.entries.Extent.{Extent}
 use Rattle.vpf_theme.specs.Entries.{Entry, is_marked, number_start}
 use Rattle.vpf_theme.specs.Layouts.{HasValues, directory_end, entry_bytes, entry_start, form_text, header_bytes, is_count, is_indexed, row_bytes, row_size_text}
 use Rattle.vpf_theme.specs.Ordering.{value_cmp}
-use Rattle.vpf_theme.specs.Spelling.{AreEntriesAt, HoldsRow, IsHeader, IsNumberAt, LiesBehind, StandsAt, ValuesRise, row_width, rows_text}
+use Rattle.vpf_theme.specs.Spelling.{AreEntriesAt, HoldsRow, IsThemeHeader, IsNumberAt, LiesBehind, StandsAt, ValuesRise, row_width, row_numbers_text}
 use Rattle.vpf_theme.specs.Views.{AreRows}
 
 -- ---- the header
@@ -54,18 +54,18 @@ pub data HeaderFault (o : Order) (bytes : List ℕ) : Place → Type 0 where
 -- ---- the rows of an entry
 
 -- a row of the table
-abbrev pub IsRow : Layout → ℕ → Type 0
-IsRow l n = (1 ≤ n) × (n ≤ l.rows)
+abbrev pub IsRowNumber : Layout → ℕ → Type 0
+IsRowNumber l n = (1 ≤ n) × (n ≤ l.rows)
 
 -- the first line that applies to the rows of an entry, which begins at an offset and has this extent
 pub data RowsFault (l : Layout) (bytes : List ℕ) (at : ℕ) (e : Extent) : Form → Place → Type 0 where
   -- the one row of a list is none
-  no_row : e.count ≡ 0 → (IsRow l e.offset → ⊥) → RowsFault l bytes at e forms.List (theme_fault at codes.ThemeRow)
+  no_row : e.count ≡ 0 → (IsRowNumber l e.offset → ⊥) → RowsFault l bytes at e forms.List (theme_fault at codes.ThemeRow)
   -- the numbers of a list don't lie behind the directory
   no_list : e.count ≢ 0 → (LiesBehind l bytes e.offset (e.count * row_bytes l.row_size) → ⊥) → RowsFault l bytes at e forms.List (theme_fault at codes.ThemeSpan)
   -- they do, and the one that follows these rows is no row
-  no_number : (rows : List ℕ) (n : ℕ) → length rows < e.count → LiesBehind l bytes e.offset (e.count * row_bytes l.row_size) → All (HoldsRow l.row_size) rows → AreRows l.rows rows → StandsAt bytes e.offset (rows_text l.order l.row_size rows)
-      → HoldsRow l.row_size n → StandsAt bytes (number_start l e.offset (length rows)) (number l.order (row_width l.row_size) n) → (IsRow l n → ⊥) → RowsFault l bytes at e forms.List (theme_fault (number_start l e.offset (length rows)) codes.ThemeRow)
+  no_number : (rows : List ℕ) (n : ℕ) → length rows < e.count → LiesBehind l bytes e.offset (e.count * row_bytes l.row_size) → All (HoldsRow l.row_size) rows → AreRows l.rows rows → StandsAt bytes e.offset (row_numbers_text l.order l.row_size rows)
+      → HoldsRow l.row_size n → StandsAt bytes (number_start l e.offset (length rows)) (number l.order (row_width l.row_size) n) → (IsRowNumber l n → ⊥) → RowsFault l bytes at e forms.List (theme_fault (number_start l e.offset (length rows)) codes.ThemeRow)
   -- a bitmap has another size, or doesn't lie behind the directory
   no_bitmap : (e.count ≡ (l.rows + 7) / 8 → LiesBehind l bytes e.offset e.count → ⊥) → RowsFault l bytes at e forms.Bitmap (theme_fault at codes.ThemeSpan)
   -- bit k, counted from 0, is the first behind the rows that is set
@@ -75,10 +75,10 @@ pub data RowsFault (l : Layout) (bytes : List ℕ) (at : ℕ) (e : Extent) : For
 -- ---- the file
 
 -- a header, and fewer entries than it says to have
-pub record Begins (o : Order) (l : Layout) (bytes : List ℕ) (es : List Entry) : Type 0 where
+pub record BeginsEntries (o : Order) (l : Layout) (bytes : List ℕ) (es : List Entry) : Type 0 where
   pub order : l.order ≡ o
   pub values : HasValues l
-  pub header : IsHeader l bytes
+  pub header : IsThemeHeader l bytes
   pub fewer : length es < l.entries
   pub entries : AreEntriesAt l bytes 0 es
   pub rise : l.sorted ≡ true → ValuesRise es
@@ -98,12 +98,12 @@ IsAbove (e ∷ []) v = value_cmp e.value v ≡ Less
 IsAbove (e ∷ f ∷ es) v = IsAbove (f ∷ es) v
 
 -- the first fault of the bytes
-pub data FirstFault (o : Order) (bytes : List ℕ) : Place → Type 0 where
-  in_header : (place : Place) → HeaderFault o bytes place → FirstFault o bytes place
+pub data FirstThemeFault (o : Order) (bytes : List ℕ) : Place → Type 0 where
+  in_header : (place : Place) → HeaderFault o bytes place → FirstThemeFault o bytes place
   -- the next entry isn't whole
-  cut : (l : Layout) (es : List Entry) → Begins o l bytes es → length bytes < entry_start l (length es) + entry_bytes l → FirstFault o bytes (theme_fault (entry_start l (length es)) codes.ThemeCut)
+  cut : (l : Layout) (es : List Entry) → BeginsEntries o l bytes es → length bytes < entry_start l (length es) + entry_bytes l → FirstThemeFault o bytes (theme_fault (entry_start l (length es)) codes.ThemeCut)
   -- it isn't above the one before in a sorted directory
-  not_above : (l : Layout) (es : List Entry) (v : Value) (e : Extent) → Begins o l bytes es → HasEntry l bytes (length es) v e → l.sorted ≡ true → (IsAbove es v → ⊥) → FirstFault o bytes (theme_fault (entry_start l (length es)) codes.ThemeSort)
+  not_above : (l : Layout) (es : List Entry) (v : Value) (e : Extent) → BeginsEntries o l bytes es → HasEntry l bytes (length es) v e → l.sorted ≡ true → (IsAbove es v → ⊥) → FirstThemeFault o bytes (theme_fault (entry_start l (length es)) codes.ThemeSort)
   -- it does not list rows
-  in_rows : (l : Layout) (es : List Entry) (v : Value) (e : Extent) (place : Place) → Begins o l bytes es → HasEntry l bytes (length es) v e → (l.sorted ≡ true → IsAbove es v) → RowsFault l bytes (entry_start l (length es)) e l.form place
-      → FirstFault o bytes place
+  in_rows : (l : Layout) (es : List Entry) (v : Value) (e : Extent) (place : Place) → BeginsEntries o l bytes es → HasEntry l bytes (length es) v e → (l.sorted ≡ true → IsAbove es v) → RowsFault l bytes (entry_start l (length es)) e l.form place
+      → FirstThemeFault o bytes place

@@ -1,23 +1,17 @@
 -- Where a thematic index and its column disagree, and the first such place.
-use Rattle.std.specs.Prelude.{◌≡◌, ℕ, suc, ◌+◌, ◌-◌, pos, Bool, false, ◌&&◌, not, ◌==◌, nat_le, bytes_eq, if◌then◌else◌, List, [], ◌∷◌, length, take, map, find, slice_index_or, slice_get, Option, Some, None, option_map, option_and_then, Result, Ok, Err}
+use Rattle.std.specs.Prelude.{ℕ, suc, ◌+◌, ◌-◌, pos, Bool, ◌&&◌, not, ◌==◌, nat_le, if◌then◌else◌, List, [], ◌∷◌, length, take, map, find, slice_index_or, slice_get, Option, Some, None, option_map, option_and_then}
 use Rattle.std.specs.List.{list_any, range_with_len}
-use Rattle.std.specs.Option.{option_or}
-use Rattle.vpf_triplet.specs.declared.kinds.Kind.{Kind}
-use Rattle.vpf_triplet.specs.declared.kinds.Count.{Count}
-use Rattle.vpf_triplet.specs.declared.kinds.Count.TheVariants.{Fixed, Star}
-use Rattle.vpf_triplet.specs.Kinds.{kind_text}
+use Rattle.vpf_triplet.specs.declared.kinds.Count.TheVariants.{Fixed}
+use Rattle.vpf_triplet.specs.Kinds.{same_kind, is_fixed}
 use Rattle.vpf_value.specs.Values.{Value, Nothing}
 use Rattle.vpf_head.specs.Head.{Col}
-use Rattle.vpf_table.specs.declared.finding.Finding.{Finding}
-use Rattle.vpf_table.specs.declared.finding.TableName.TheVariants as tables
-use Rattle.vpf_table.specs.declared.finding.SeenWord.TheVariants as words
-use Rattle.vpf_table.specs.Findings.{Sight, NumberSeen, CellSeen, KindSeen, WordSeen, Disagreement, disagreement_of}
+use Rattle.vpf_findings.specs.declared.finding.TableName.TheVariants as tables
+use Rattle.vpf_findings.specs.declared.finding.SeenWord.TheVariants as words
+use Rattle.vpf_findings.specs.Findings.{Sight, NumberSeen, CellSeen, KindSeen, WordSeen, Disagreement}
+use Rattle.vpf_findings.specs.Firsts.{◌or◌, first_over}
 use Rattle.vpf_table.specs.Grid.{Row, Grid}
-use Rattle.vpf_theme.specs.declared.errors.ThemeError.{ThemeError}
-use Rattle.vpf_theme.specs.declared.errors.ThemeError.TheVariants as errors
 use Rattle.vpf_theme.specs.Ordering.{same_value}
 use Rattle.vpf_theme.specs.Entries.{Entry, Theme}
-use Rattle.vpf_theme.specs.Reading.{first_of}
 
 -- what is read past the last entry
 abbrev pub no_entry : Entry
@@ -39,26 +33,17 @@ cell_of cells row = slice_index_or cells (row - 1) Nothing
 abbrev pub at : ℕ → List ℕ → Sight → Sight → Disagreement
 at row column found wanted = record { rule = 1; tile = 0; table = tables.Theme; file = 0; row = row; column = column; found = found; wanted = wanted }
 
--- the two kinds have the same letter
-abbrev pub same_kind : Kind → Kind → Bool
-same_kind a b = bytes_eq (kind_text a) (kind_text b)
-
--- the count is this number
-abbrev pub is_fixed : ℕ → Count → Bool
-is_fixed n (Fixed m) = n == m
-is_fixed n Star = false
-
 -- kind or count isn't the column's
 abbrev pub kind_line : Theme → Col → Option Disagreement
 kind_line t column = if same_kind t.kind column.kind && is_fixed t.count column.count then None else Some (at 0 column.name (KindSeen t.kind (Fixed t.count)) (KindSeen column.kind column.count))
 
 -- the number of rows isn't the table's
-abbrev pub rows_line : Theme → Col → ℕ → Option Disagreement
-rows_line t column n = if t.rows == n then None else Some (at 0 column.name (NumberSeen (pos t.rows)) (NumberSeen (pos n)))
+abbrev pub row_count_line : Theme → Col → ℕ → Option Disagreement
+row_count_line t column n = if t.rows == n then None else Some (at 0 column.name (NumberSeen (pos t.rows)) (NumberSeen (pos n)))
 
 -- the index isn't one of this column of a table of n rows
 abbrev pub fits_line : Theme → Col → ℕ → Option Disagreement
-fits_line t column n = option_or (kind_line t column) (rows_line t column n)
+fits_line t column n = kind_line t column or row_count_line t column n
 
 -- an entry lists the row
 abbrev pub stands : List Entry → ℕ → Bool
@@ -69,17 +54,17 @@ abbrev pub missing_line : Theme → Col → ℕ → Option Disagreement
 missing_line t column n = option_map (λ row. at 0 column.name (WordSeen words.Absent) (NumberSeen (pos row))) (find (λ row. not (stands t.entries row)) (range_with_len 1 n))
 
 -- the place of the first of the entries that has the value, counted from 0
-abbrev pub place_in : List Entry → Value → Option ℕ
-place_in [] v = None
-place_in (e ∷ es) v = if same_value e.value v then Some 0 else option_map suc (place_in es v)
+abbrev pub entry_place : List Entry → Value → Option ℕ
+entry_place [] v = None
+entry_place (e ∷ es) v = if same_value e.value v then Some 0 else option_map suc (entry_place es v)
 
 -- an entry before entry i has its value
 abbrev pub repeated_line : Theme → Col → ℕ → Option Disagreement
-repeated_line t column i = option_map (λ j. at (i + 1) column.name (CellSeen (entry_at t.entries i).value) (NumberSeen (pos (j + 1)))) (place_in (take i t.entries) (entry_at t.entries i).value)
+repeated_line t column i = option_map (λ j. at (i + 1) column.name (CellSeen column.kind (entry_at t.entries i).value) (NumberSeen (pos (j + 1)))) (entry_place (take i t.entries) (entry_at t.entries i).value)
 
 -- a row of entry i has another cell
 abbrev pub other_line : Col → List Value → ℕ → Entry → Option Disagreement
-other_line column cells i e = option_map (λ row. at (i + 1) column.name (CellSeen e.value) (CellSeen (cell_of cells row))) (find (λ row. not (same_value (cell_of cells row) e.value)) e.rows)
+other_line column cells i e = option_map (λ row. at (i + 1) column.name (CellSeen column.kind e.value) (CellSeen column.kind (cell_of cells row))) (find (λ row. not (same_value (cell_of cells row) e.value)) e.rows)
 
 -- the first of the rows that isn't above the one before, with that one; `before` stands before the first
 abbrev pub first_fall : ℕ → List ℕ → Option (ℕ × ℕ)
@@ -92,27 +77,16 @@ fall_line column i e = option_map (λ (fall : ℕ × ℕ). at (i + 1) column.nam
 
 -- the lines on entry i, counted from 0
 abbrev pub lines_at : Theme → Col → List Value → ℕ → Option Disagreement
-lines_at t column cells i = option_or (repeated_line t column i) (option_or (other_line column cells i (entry_at t.entries i)) (fall_line column i (entry_at t.entries i)))
+lines_at t column cells i = repeated_line t column i or other_line column cells i (entry_at t.entries i) or fall_line column i (entry_at t.entries i)
 
 -- the lines on the entries, one by one
 abbrev pub entries_finding : Theme → Col → List Value → Option Disagreement
-entries_finding t column cells = first_of (lines_at t column cells) (range_with_len 0 (length t.entries))
+entries_finding t column cells = first_over (lines_at t column cells) 0 (length t.entries)
 
 -- the first place where the index and the column disagree: kind and count, the number of rows, rows in no entry, and then entry by entry
 unfoldable pub first_finding : Theme → Col → List Value → Option Disagreement
-first_finding t column cells = option_or (fits_line t column (length cells)) (option_or (missing_line t column (length cells)) (entries_finding t column cells))
+first_finding t column cells = fits_line t column (length cells) or missing_line t column (length cells) or entries_finding t column cells
 
 -- what is said of the column at this position
 abbrev pub of_column : Grid → ℕ → (Col → Option Disagreement) → Option Disagreement
 of_column grid c line = option_and_then line (slice_get grid.head.columns c)
-
--- Ok where there is no finding, and else the finding; of memory nothing is said
-abbrev pub Tells : {V : Type 0} → Result V ThemeError → Option Disagreement → Type 0
-Tells (Ok v) first = first ≡ None
-Tells (Err (errors.Finding f)) first = first ≡ Some (disagreement_of f)
-Tells (Err errors.NoMemory) first = Unit {0}
-
--- Ok where there is no finding, and else the finding
-abbrev pub Finds : {V : Type 0} → Result V Finding → Option Disagreement → Type 0
-Finds (Ok v) first = first ≡ None
-Finds (Err f) first = first ≡ Some (disagreement_of f)

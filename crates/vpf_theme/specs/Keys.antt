@@ -19,5 +19,5 @@ abbrev pub value_key : ValueKey → Value
 value_key k = view k.cell
 
 -- the two keys have the same value
-abbrev pub same_key : ValueKey → ValueKey → Bool
-same_key a b = same_value (value_key a) (value_key b)
+abbrev pub same_value_key : ValueKey → ValueKey → Bool
+same_value_key a b = same_value (value_key a) (value_key b)

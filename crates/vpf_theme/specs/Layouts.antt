@@ -2,6 +2,8 @@
 use Rattle.std.specs.Prelude.{ℕ, ◌+◌, ◌*◌, Bool, true, false, ◌==◌, ◌&&◌, ◌||◌, nat_le, nat_lt, if◌then◌else◌, List, [], ◌∷◌, length, drop, find, slice_index, Option, Some, None, unwrap_or, Result, Ok, Err, IsTrue, bytes_eq}
 use Rattle.std.specs.Prelude.{codes as text}
 use Rattle.std.specs.Int.{w32}
+use Rattle.vpf_base.specs.Limits.{most_values}
+use Rattle.vpf_base.specs.Results.{◌>>=◌}
 use Rattle.vpf_triplet.specs.declared.orders.Order.{Order}
 use Rattle.vpf_triplet.specs.declared.kinds.Kind.{Kind}
 use Rattle.vpf_triplet.specs.declared.kinds.Kind.TheVariants as kinds
@@ -11,9 +13,8 @@ use Rattle.vpf_triplet.specs.declared.places.Code.{Code}
 use Rattle.vpf_triplet.specs.declared.places.Code.TheVariants as codes
 use Rattle.vpf_triplet.specs.Kinds.{allows, kind_text}
 use Rattle.vpf_triplet.specs.Numbers.{number_of}
-use Rattle.vpf_triplet.specs.Places.{◌>>=◌, theme_fault}
+use Rattle.vpf_triplet.specs.Places.{theme_fault}
 use Rattle.vpf_value.specs.Widths.{cell_width}
-use Rattle.vpf_head.specs.Fields.{most_values}
 use Rattle.vpf_theme.specs.declared.layout.Form.{Form}
 use Rattle.vpf_theme.specs.declared.layout.Form.TheVariants as forms
 use Rattle.vpf_theme.specs.declared.layout.RowSize.{RowSize}
@@ -30,8 +31,8 @@ form_text forms.List = text "T"
 form_text forms.Bitmap = text "B"
 
 -- the form whose letter the byte is
-abbrev pub form_of : ℕ → Option Form
-form_of b = find (λ form. bytes_eq (b ∷ []) (form_text form)) (forms.List ∷ forms.Bitmap ∷ [])
+abbrev pub form_in : ℕ → Option Form
+form_in b = find (λ form. bytes_eq (b ∷ []) (form_text form)) (forms.List ∷ forms.Bitmap ∷ [])
 
 -- the kinds that can be indexed
 abbrev pub indexed_kinds : List Kind
@@ -48,8 +49,8 @@ is_indexed kinds.Y = false
 is_indexed kind = true
 
 -- the kind that can be indexed whose letter the byte is
-abbrev pub kind_of : ℕ → Option Kind
-kind_of b = find (λ kind. bytes_eq (b ∷ []) (kind_text kind)) indexed_kinds
+abbrev pub indexed_kind_of : ℕ → Option Kind
+indexed_kind_of b = find (λ kind. bytes_eq (b ∷ []) (kind_text kind)) indexed_kinds
 
 -- a count that the kind allows, from 1 to the most
 abbrev pub is_count : Kind → ℕ → Bool
@@ -103,15 +104,15 @@ asked at code None = Err (theme_fault at code)
 asked at code (Some x) = Ok x
 
 -- the count of a kind
-abbrev pub count_of : Kind → ℕ → Option ℕ
-count_of kind n = if is_count kind n then Some n else None
+abbrev pub allowed_count : Kind → ℕ → Option ℕ
+allowed_count kind n = if is_count kind n then Some n else None
 
 -- what the fields of a header say, or the first that says nothing; all but the first field, which is looked at after them
-unfoldable pub fields_of : Order → List ℕ → Result Layout Place
-fields_of o bytes = do
-  form ← asked 12 codes.ThemeForm (form_of (slice_index bytes 12))
-  kind ← asked 13 codes.ThemeKind (kind_of (slice_index bytes 13))
-  count ← asked 14 codes.ThemeCount (count_of kind (u32_at o bytes 14))
+unfoldable pub header_fields : Order → List ℕ → Result Layout Place
+header_fields o bytes = do
+  form ← asked 12 codes.ThemeForm (form_in (slice_index bytes 12))
+  kind ← asked 13 codes.ThemeKind (indexed_kind_of (slice_index bytes 13))
+  count ← asked 14 codes.ThemeCount (allowed_count kind (u32_at o bytes 14))
   row_size ← asked 18 codes.ThemeRowtype (row_size_of (slice_index bytes 18))
   Ok (record { order = o; form = form; kind = kind; count = count; row_size = row_size; rows = u32_at o bytes 8; entries = u32_at o bytes 4; sorted = is_sorted_mark (slice_index bytes 56) })
 
@@ -120,9 +121,9 @@ abbrev pub is_size : Layout → ℕ → Bool
 is_size l n = (n == header_bytes) || (n == directory_end l)
 
 -- the layout, where the first field is its size
-abbrev pub sized : ℕ → Layout → Result Layout Place
-sized n l = if is_size l n then Ok l else Err (theme_fault 0 codes.ThemeSize)
+abbrev pub sized_layout : ℕ → Layout → Result Layout Place
+sized_layout n l = if is_size l n then Ok l else Err (theme_fault 0 codes.ThemeSize)
 
 -- the header of an index, or the first fault in it
 unfoldable pub layout_of : Order → List ℕ → Result Layout Place
-layout_of o bytes = if nat_lt (length bytes) header_bytes then Err (theme_fault 0 codes.ThemeCut) else (fields_of o bytes >>= λ l. sized (u32_at o bytes 0) l)
+layout_of o bytes = if nat_lt (length bytes) header_bytes then Err (theme_fault 0 codes.ThemeCut) else (header_fields o bytes >>= λ l. sized_layout (u32_at o bytes 0) l)

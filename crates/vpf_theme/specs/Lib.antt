@@ -7,6 +7,7 @@ pub mod Spelling
 pub mod Faults
 pub mod Deciding
 pub mod Findings
+pub mod Searching
 pub mod Agreeing
 pub mod Keys
 pub mod KeyLaws

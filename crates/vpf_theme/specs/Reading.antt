@@ -1,13 +1,14 @@
 -- Reading a thematic index up to its first fault. Offsets are those of the file, and entries are looked at one by one.
-use Rattle.std.specs.Prelude.{◌≡◌, ℕ, ◌+◌, ◌-◌, ◌*◌, ◌/◌, Bool, ◌==◌, ◌&&◌, not, nat_le, nat_lt, if◌then◌else◌, List, [], ◌∷◌, length, Option, Some, None, Result, Ok, Err}
-use Rattle.std.specs.List.{range_with_len}
+use Rattle.std.specs.Prelude.{◌≡◌, ℕ, ◌+◌, ◌-◌, ◌*◌, ◌/◌, Bool, ◌==◌, ◌&&◌, not, nat_le, nat_lt, if◌then◌else◌, List, length, Option, Some, None, Result, Ok, Err}
 use Rattle.std.specs.Option.{option_or}
 use Rattle.std.specs.Ordering.{is_lt}
+use Rattle.vpf_base.specs.Results.{◌>>=◌}
 use Rattle.vpf_triplet.specs.declared.orders.Order.{Order}
 use Rattle.vpf_triplet.specs.declared.places.Place.{Place}
 use Rattle.vpf_triplet.specs.declared.places.Code.{Code}
 use Rattle.vpf_triplet.specs.declared.places.Code.TheVariants as codes
-use Rattle.vpf_triplet.specs.Places.{◌>>=◌, theme_fault}
+use Rattle.vpf_triplet.specs.Places.{theme_fault}
+use Rattle.vpf_findings.specs.Firsts.{first_over}
 use Rattle.vpf_theme.specs.declared.layout.Form.{Form}
 use Rattle.vpf_theme.specs.declared.layout.Form.TheVariants as forms
 use Rattle.vpf_theme.specs.declared.layout.Layout.{Layout}
@@ -15,11 +16,6 @@ use Rattle.vpf_theme.specs.declared.entries.Extent.{Extent}
 use Rattle.vpf_theme.specs.Layouts.{layout_of, entry_bytes, entry_start, directory_end, row_bytes}
 use Rattle.vpf_theme.specs.Ordering.{value_cmp}
 use Rattle.vpf_theme.specs.Entries.{Theme, value_of, extent_of, number_at, number_start, is_marked, theme_in}
-
--- the first thing that a line says of the elements of a list
-abbrev pub first_of : {F X : Type 0} → (X → Option F) → List X → Option F
-first_of line [] = None
-first_of line (x ∷ xs) = option_or (line x) (first_of line xs)
 
 -- the fault at an offset, where this holds
 abbrev pub fault_where : Bool → ℕ → Code → Option Place
@@ -38,8 +34,8 @@ abbrev pub sort_line : Layout → List ℕ → ℕ → Option Place
 sort_line l bytes i = fault_where (l.sorted && nat_lt 0 i && not (rises_at l bytes i)) (entry_start l i) codes.ThemeSort
 
 -- so many bytes lie between the end of the directory and the end of the file
-abbrev pub is_data : Layout → List ℕ → ℕ → ℕ → Bool
-is_data l bytes offset len = nat_le (directory_end l) offset && nat_le (offset + len) (length bytes)
+abbrev pub is_behind : Layout → List ℕ → ℕ → ℕ → Bool
+is_behind l bytes offset len = nat_le (directory_end l) offset && nat_le (offset + len) (length bytes)
 
 -- the number of a row of the table
 abbrev pub is_row : Layout → ℕ → Bool
@@ -51,7 +47,7 @@ number_line l bytes offset k = fault_where (not (is_row l (number_at l bytes off
 
 -- the lines on a list of several row numbers
 abbrev pub numbers_line : Layout → List ℕ → ℕ → Extent → Option Place
-numbers_line l bytes i e = option_or (fault_where (not (is_data l bytes e.offset (e.count * row_bytes l.row_size))) (entry_start l i) codes.ThemeSpan) (first_of (number_line l bytes e.offset) (range_with_len 0 e.count))
+numbers_line l bytes i e = option_or (fault_where (not (is_behind l bytes e.offset (e.count * row_bytes l.row_size))) (entry_start l i) codes.ThemeSpan) (first_over (number_line l bytes e.offset) 0 e.count)
 
 -- the lines on a list; the one row of a list of one has no bytes of its own
 abbrev pub list_line : Layout → List ℕ → ℕ → Extent → Option Place
@@ -63,24 +59,24 @@ pad_line bytes offset k = fault_where (is_marked bytes offset k) (offset + k / 8
 
 -- a bitmap has a byte for each 8 rows, and its bytes lie behind the directory
 abbrev pub is_bitmap : Layout → List ℕ → Extent → Bool
-is_bitmap l bytes e = (e.count == (l.rows + 7) / 8) && is_data l bytes e.offset e.count
+is_bitmap l bytes e = (e.count == (l.rows + 7) / 8) && is_behind l bytes e.offset e.count
 
 -- the lines on a bitmap
 abbrev pub bitmap_line : Layout → List ℕ → ℕ → Extent → Option Place
-bitmap_line l bytes i e = option_or (fault_where (not (is_bitmap l bytes e)) (entry_start l i) codes.ThemeSpan) (first_of (pad_line bytes e.offset) (range_with_len l.rows (8 * e.count - l.rows)))
+bitmap_line l bytes i e = option_or (fault_where (not (is_bitmap l bytes e)) (entry_start l i) codes.ThemeSpan) (first_over (pad_line bytes e.offset) l.rows (8 * e.count - l.rows))
 
 -- the lines on the rows of an entry
-abbrev pub rows_line : Form → Layout → List ℕ → ℕ → Extent → Option Place
-rows_line forms.List l bytes i e = list_line l bytes i e
-rows_line forms.Bitmap l bytes i e = bitmap_line l bytes i e
+abbrev pub entry_rows_line : Form → Layout → List ℕ → ℕ → Extent → Option Place
+entry_rows_line forms.List l bytes i e = list_line l bytes i e
+entry_rows_line forms.Bitmap l bytes i e = bitmap_line l bytes i e
 
 -- the lines on entry i, counted from 0
 unfoldable pub entry_line : Layout → List ℕ → ℕ → Option Place
-entry_line l bytes i = option_or (cut_line l bytes i) (option_or (sort_line l bytes i) (rows_line l.form l bytes i (extent_of l bytes i)))
+entry_line l bytes i = option_or (cut_line l bytes i) (option_or (sort_line l bytes i) (entry_rows_line l.form l bytes i (extent_of l bytes i)))
 
 -- the first fault among the entries
 unfoldable pub entries_line : Layout → List ℕ → Option Place
-entries_line l bytes = first_of (entry_line l bytes) (range_with_len 0 l.entries)
+entries_line l bytes = first_over (entry_line l bytes) 0 l.entries
 
 -- x, unless there is a fault
 abbrev pub unless_fault : {X : Type 0} → Option Place → X → Result X Place

@@ -31,7 +31,7 @@ IsNumberAt o bytes at n = (n < 2 ^ 32) × StandsAt bytes at (number o w32 n)
 
 -- The fields of the header stand at their offsets. Its first field counts the header and the directory, or the header
 -- alone. Names and unused bytes may be any.
-pub record IsHeader (l : Layout) (bytes : List ℕ) : Type 0 where
+pub record IsThemeHeader (l : Layout) (bytes : List ℕ) : Type 0 where
   pub long : header_bytes ≤ length bytes
   pub size : IsNumberAt l.order bytes 0 header_bytes ⊎ IsNumberAt l.order bytes 0 (directory_end l)
   pub entries : IsNumberAt l.order bytes 4 l.entries
@@ -53,9 +53,9 @@ HoldsRow sizes.Short n = n < 2 ^ 16
 HoldsRow sizes.Long n = n < 2 ^ 32
 
 -- row numbers, one after another
-abbrev pub rows_text : Order → RowSize → List ℕ → List ℕ
-rows_text o size [] = []
-rows_text o size (row ∷ rows) = number o (row_width size) row ++ rows_text o size rows
+abbrev pub row_numbers_text : Order → RowSize → List ℕ → List ℕ
+row_numbers_text o size [] = []
+row_numbers_text o size (row ∷ rows) = number o (row_width size) row ++ row_numbers_text o size rows
 
 -- so many bytes lie between the end of the directory and the end of the file
 abbrev pub LiesBehind : Layout → List ℕ → ℕ → ℕ → Type 0
@@ -67,7 +67,7 @@ pub record AreNumbers (l : Layout) (bytes : List ℕ) (e : Extent) (rows : List 
   pub count : e.count ≡ length rows
   pub behind : LiesBehind l bytes e.offset (e.count * row_bytes l.row_size)
   pub held : All (HoldsRow l.row_size) rows
-  pub stand : StandsAt bytes e.offset (rows_text l.order l.row_size rows)
+  pub stand : StandsAt bytes e.offset (row_numbers_text l.order l.row_size rows)
 
 -- a list of one row, which the offset itself is where the count is 0, or of so many numbers as the count says
 abbrev pub IsList : Layout → List ℕ → Extent → List ℕ → Type 0
@@ -121,6 +121,6 @@ layout_from o size t = record { order = o; form = t.form; kind = t.kind; count =
 pub record IsThematicIndex (o : Order) (t : Theme) (bytes : List ℕ) : Type 0 where
   pub row_size : RowSize
   pub values : HasValues (layout_from o row_size t)
-  pub header : IsHeader (layout_from o row_size t) bytes
+  pub header : IsThemeHeader (layout_from o row_size t) bytes
   pub entries : AreEntriesAt (layout_from o row_size t) bytes 0 t.entries
   pub rise : t.sorted ≡ true → ValuesRise t.entries

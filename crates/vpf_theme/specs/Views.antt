@@ -18,7 +18,7 @@ abbrev pub theme_view : ViewInside → Theme
 theme_view t = theme_in t.layout t.bytes.now
 
 -- the layout is one of values, and no entry has a fault
-pub record IsOpened (t : ViewInside) : Type 0 where
+pub record IsOpenedTheme (t : ViewInside) : Type 0 where
   pub values : HasValues t.layout
   pub faultless : entries_line t.layout t.bytes.now ≡ None
 
@@ -40,9 +40,9 @@ abbrev pub marked_left : Layout → List ℕ → Extent → ℕ → List ℕ
 marked_left l bytes e next = filter (λ row. is_marked bytes e.offset (row - 1)) (range_with_len (next + 1) (l.rows - next))
 
 -- the rows of an entry that are left
-abbrev pub rows_left : Form → Layout → List ℕ → Extent → ℕ → List ℕ
-rows_left forms.List l bytes e next = listed_left l bytes e next
-rows_left forms.Bitmap l bytes e next = marked_left l bytes e next
+abbrev pub entry_rows_left : Form → Layout → List ℕ → Extent → ℕ → List ℕ
+entry_rows_left forms.List l bytes e next = listed_left l bytes e next
+entry_rows_left forms.Bitmap l bytes e next = marked_left l bytes e next
 
 -- the rows of an entry that are left, and how many rows it lists in all
 pub record Rows : Type 0 where
@@ -50,7 +50,7 @@ pub record Rows : Type 0 where
   pub listed : ℕ
 
 abbrev pub hits_view : HitsInside → Rows
-hits_view h = record { left = rows_left h.layout.form h.layout h.bytes.now h.extent h.next; listed = length (rows_by h.layout.form h.layout h.bytes.now h.extent) }
+hits_view h = record { left = entry_rows_left h.layout.form h.layout h.bytes.now h.extent h.next; listed = length (rows_by h.layout.form h.layout h.bytes.now h.extent) }
 
 abbrev pub HasHits : HitsInside → Type 0
 HasHits h = HasData h.layout.form h.layout h.bytes.now h.extent
@@ -70,7 +70,7 @@ pub record GivesRow (old : Rows) (row : Option ℕ) (new : Rows) : Type 0 where
 
 -- a step of the rows of an entry: none is left, or the first of them and where the others begin
 abbrev pub StepsRow : Form → Layout → List ℕ → Extent → ℕ → Option (ℕ × ℕ) → Type 0
-StepsRow form l bytes e next step = MatchOption step (rows_left form l bytes e next ≡ []) (λ s. rows_left form l bytes e next ≡ s.0 ∷ rows_left form l bytes e s.1)
+StepsRow form l bytes e next step = MatchOption step (entry_rows_left form l bytes e next ≡ []) (λ s. entry_rows_left form l bytes e next ≡ s.0 ∷ entry_rows_left form l bytes e s.1)
 
 -- the place of the first entry that has the value
 abbrev pub IsPlace : Layout → List ℕ → Value → Option ℕ → Type 0

@@ -3,12 +3,12 @@
 ghost use Rattle.std.specs.Prelude.{◌≡◌, ◌<◌, ◌+◌, ◌^◌, length, map, IfOk, OnOk};
 ghost use Rattle.vpf_value.specs.Values.{view};
 ghost use Rattle.vpf_head.specs.Views.{col};
-ghost use Rattle.vpf_theme.specs.Findings.{Finds, Tells, cells_of, entries_finding, fall_line, first_finding, lines_at, of_column, other_line, repeated_line};
+ghost use Rattle.vpf_findings.specs.Firsts.{Finds, Tells};
+ghost use Rattle.vpf_theme.specs.Findings.{cells_of, entries_finding, fall_line, first_finding, lines_at, of_column, other_line, repeated_line};
 ghost use Rattle.vpf_theme.specs.Agreeing.{AgreesAt};
-ghost use Rattle.vpf_theme.specs.Keeping.{HoldFirsts};
+ghost use Rattle.vpf_theme.specs.Keeping.{HoldKeys};
 ghost use Rattle.vpf_theme.specs.Views.{AreRows};
 
-use crate::errors::ThemeError;
 use crate::fitting::fits_table;
 use crate::hits::Hits;
 use crate::keys::ValueKey;
@@ -17,13 +17,13 @@ use crate::marking::check_missing;
 use crate::reporting::finding;
 use crate::view::ThemeView;
 use std::alloc::{AllocError, Global};
-use std::collections::HashMap;
+use vpf_findings::{FindError, FirstPlaces};
 use vpf_head::Column;
 use vpf_table::{Finding, Seen, TableView};
 use vpf_value::{Cell, same};
 
-/// The places of the values of entries, counted from 0.
-type Firsts<'a> = HashMap<ValueKey<'a>, u32>;
+/// The values of entries, with the first place of each.
+type Firsts<'a> = FirstPlaces<ValueKey<'a>>;
 
 /// The cells of a column, row by row.
 fn column_cells<'a>(
@@ -47,20 +47,19 @@ fn check_repeated<'a>(
     column: &Column<'a>,
     firsts: &mut Firsts<'a>,
     i: u32,
-) -> Result<(), ThemeError<'a>>
+) -> Result<(), FindError<'a>>
     requires within { i < length theme.now.entries }
-    requires firsts { HoldFirsts theme.now.entries i firsts.old }
+    requires firsts { HoldKeys theme.now.entries i firsts.old }
     ensures first { Tells result (repeated_line theme.now (col column.now) i) }
-    ensures firsts { OnOk result (HoldFirsts theme.now.entries (i + 1) firsts.new) }
+    ensures firsts { OnOk result (HoldKeys theme.now.entries (i + 1) firsts.new) }
 {
     let _entries = theme.entries();
     let cell = theme.value(i);
-    if let Some(first) = firsts.get(&ValueKey { cell }) {
-        let earlier = Seen::Number(i64::from(*first) + 1);
-        let repeated = finding(i + 1, column.name, Seen::Cell(cell), earlier);
-        return Err(ThemeError::Finding(repeated));
+    if let Some(first) = firsts.put(ValueKey { cell })? {
+        let earlier = Seen::Number(i64::from(first) + 1);
+        let repeated = finding(i + 1, column.name, Seen::Cell(column.kind, cell), earlier);
+        return Err(FindError::Finding(repeated));
     }
-    firsts.insert(ValueKey { cell }, i)?;
     Ok(())
 }
 
@@ -79,7 +78,13 @@ fn check_cells<'a>(
     for row in hits {
         let cell = cells[row as usize - 1];
         if !same(&cell, &value) {
-            return Err(finding(i + 1, column.name, Seen::Cell(value), Seen::Cell(cell)));
+            let kind = column.kind;
+            return Err(finding(
+                i + 1,
+                column.name,
+                Seen::Cell(kind, value),
+                Seen::Cell(kind, cell),
+            ));
         }
     }
     Ok(())
@@ -113,12 +118,12 @@ fn check_entry<'a>(
     cells: &[Cell<'a>],
     firsts: &mut Firsts<'a>,
     i: u32,
-) -> Result<(), ThemeError<'a>>
+) -> Result<(), FindError<'a>>
     requires within { i < length theme.now.entries }
     requires rows { theme.now.rows ≡ length cells.now }
-    requires firsts { HoldFirsts theme.now.entries i firsts.old }
+    requires firsts { HoldKeys theme.now.entries i firsts.old }
     ensures first { Tells result (lines_at theme.now (col column.now) (map view cells.now) i) }
-    ensures firsts { OnOk result (HoldFirsts theme.now.entries (i + 1) firsts.new) }
+    ensures firsts { OnOk result (HoldKeys theme.now.entries (i + 1) firsts.new) }
 {
     let _entries = theme.entries();
     check_repeated(theme, column, firsts, i)?;
@@ -134,11 +139,11 @@ fn check_entries<'a>(
     theme: &ThemeView<'a>,
     column: &Column<'a>,
     cells: &[Cell<'a>],
-) -> Result<(), ThemeError<'a>>
+) -> Result<(), FindError<'a>>
     requires { theme.now.rows ≡ length cells.now }
     ensures { Tells result (entries_finding theme.now (col column.now) (map view cells.now)) }
 {
-    let mut firsts = HashMap::new(alloc);
+    let mut firsts = FirstPlaces::new(alloc);
     for i in 0..theme.entries() {
         check_entry(theme, column, cells, &mut firsts, i)?;
     }
@@ -152,12 +157,12 @@ fn check_column<'a>(
     theme: &ThemeView<'a>,
     table: &TableView<'a>,
     column: usize,
-) -> Result<(), ThemeError<'a>>
+) -> Result<(), FindError<'a>>
     requires { column < length table.now.head.columns }
     ensures { Tells result (of_column table.now column (λ c. first_finding theme.now c (cells_of table.now column))) }
 {
     if let Some(finding) = fits_table(theme, table, column) {
-        return Err(ThemeError::Finding(finding));
+        return Err(FindError::Finding(finding));
     }
     let header = table.header();
     let found = header.at(column);
@@ -175,7 +180,7 @@ pub fn agrees<'a>(
     theme: &ThemeView<'a>,
     table: &TableView<'a>,
     column: usize,
-) -> Result<(), ThemeError<'a>>
+) -> Result<(), FindError<'a>>
     requires { column < length table.now.head.columns }
     // Nothing is found, or this is the first place.
     ensures first { Tells result (of_column table.now column (λ c. first_finding theme.now c (cells_of table.now column))) }

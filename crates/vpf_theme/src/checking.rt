@@ -3,7 +3,8 @@
 ghost use Rattle.std.specs.Prelude.{◌≡◌, ◌<◌, ◌^◌};
 ghost use Rattle.vpf_theme.specs.Layouts.{HasValues};
 ghost use Rattle.vpf_theme.specs.Entries.{IsWhole};
-ghost use Rattle.vpf_theme.specs.Reading.{Faults, bitmap_line, cut_line, entries_line, entry_line, is_bitmap, is_data, is_row, list_line, numbers_line, rises_at, rows_line, sort_line};
+ghost use Rattle.vpf_theme.specs.Reading.{Faults, bitmap_line, cut_line, entries_line, entry_line, is_bitmap, is_behind, is_row, list_line};
+ghost use Rattle.vpf_theme.specs.Reading.{numbers_line, rises_at, entry_rows_line, sort_line};
 
 use crate::comparing::compare;
 use crate::entries::{Extent, extent_at, is_marked, number_at, value_at};
@@ -48,7 +49,7 @@ fn check_order(layout: &Layout, bytes: &[u8], i: u32) -> Result<(), Place>
 fn is_data(layout: &Layout, bytes: &[u8], offset: u32, len: usize) -> bool
     requires values { HasValues layout.now }
     requires few { len < 2 ^ 35 }
-    ensures { result ≡ is_data layout.now bytes.now offset len }
+    ensures { result ≡ is_behind layout.now bytes.now offset len }
 {
     let offset = offset as usize;
     layout.directory_end() <= offset && offset + len <= bytes.len()
@@ -120,7 +121,7 @@ fn check_bitmap(layout: &Layout, bytes: &[u8], i: u32, extent: Extent) -> Result
 /// The rows of entry `i` are rows of the table, and their data lie behind the directory.
 fn check_rows(layout: &Layout, bytes: &[u8], i: u32, extent: Extent) -> Result<(), Place>
     requires values { HasValues layout.now }
-    ensures { Faults result (rows_line layout.now.form layout.now bytes.now i extent) }
+    ensures { Faults result (entry_rows_line layout.now.form layout.now bytes.now i extent) }
 {
     match layout.form {
         Form::List => check_list(layout, bytes, i, extent),

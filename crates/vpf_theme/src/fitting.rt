@@ -1,9 +1,10 @@
 //! Whether a thematic index is one of a column.
 
 ghost use Rattle.std.specs.Prelude.{◌≡◌, ◌<◌, length, option_map};
+ghost use Rattle.vpf_triplet.specs.Kinds.{is_fixed, same_kind};
 ghost use Rattle.vpf_head.specs.Views.{col};
-ghost use Rattle.vpf_table.specs.Findings.{disagreement_of};
-ghost use Rattle.vpf_theme.specs.Findings.{fits_line, is_fixed, kind_line, of_column, rows_line, same_kind};
+ghost use Rattle.vpf_findings.specs.Findings.{disagreement_of};
+ghost use Rattle.vpf_theme.specs.Findings.{fits_line, kind_line, of_column, row_count_line};
 
 use crate::reporting::finding;
 use crate::view::ThemeView;
@@ -36,7 +37,7 @@ fn check_kind<'a>(theme: &ThemeView<'_>, column: &Column<'a>) -> Option<Finding<
 
 /// The number of rows is the table's.
 fn check_rows<'a>(theme: &ThemeView<'_>, column: &Column<'a>, rows: u32) -> Option<Finding<'a>>
-    ensures { option_map disagreement_of result ≡ rows_line theme.now (col column.now) rows }
+    ensures { option_map disagreement_of result ≡ row_count_line theme.now (col column.now) rows }
 {
     if theme.rows() == rows {
         return None;

@@ -2,7 +2,7 @@
 
 ghost use Rattle.std.specs.Prelude.{◌≡◌, fold};
 ghost use Rattle.vpf_theme.specs.KeyLaws.{same_key_equiv, same_key_fed, same_key_partial};
-ghost use Rattle.vpf_theme.specs.Keys.{fed_value, same_key, value_key};
+ghost use Rattle.vpf_theme.specs.Keys.{fed_value, same_value_key, value_key};
 ghost use Rattle.vpf_value.specs.Values.{view};
 
 use std::hash::{Hash, Hasher};
@@ -29,7 +29,7 @@ fn hash_value<H: Hasher>(cell: &Cell<'_>, state: &mut H)
 }
 
 impl PartialEq for ValueKey<'_> {
-    ghost eq = { same_key };
+    ghost eq = { same_value_key };
 
     ghost laws = { same_key_partial };
 

@@ -3,10 +3,10 @@
 ghost use Rattle.std.specs.Prelude.{◌≡◌, ◌↔◌, ℕ, List, IsTrue, None, Ok, Err};
 ghost use Rattle.std.specs.Cmp.{IsTotalOrder};
 ghost use Rattle.std.specs.declared.cmp.Ordering.TheVariants.{Equal};
+ghost use Rattle.vpf_base.specs.Bytes.{IsBytes};
 ghost use Rattle.vpf_triplet.specs.declared.orders.Order.{Order};
 ghost use Rattle.vpf_triplet.specs.declared.kinds.Kind.{Kind};
 ghost use Rattle.vpf_triplet.specs.declared.places.Place.{Place};
-ghost use Rattle.vpf_triplet.specs.Numbers.{IsBytes};
 ghost use Rattle.vpf_triplet.specs.declared.kinds.Count.{Count};
 ghost use Rattle.vpf_value.specs.Values.{Value};
 ghost use Rattle.vpf_value.specs.Fitting.{FitsCell};
@@ -18,8 +18,8 @@ ghost use Rattle.vpf_theme.specs.Findings.{first_finding};
 ghost use Rattle.vpf_theme.specs.Agreeing.{AgreesWithColumn, HaveRows, listed, scan_of};
 ghost use Rattle.vpf_theme.specs.Reading.{theme_of};
 ghost use Rattle.vpf_theme.specs.Spelling.{IsThematicIndex};
-ghost use Rattle.vpf_theme.specs.Deciding.{Decides};
-ghost use Rattle.vpf_theme.specs.Faults.{FirstFault};
+ghost use Rattle.vpf_theme.specs.Deciding.{DecidesTheme};
+ghost use Rattle.vpf_theme.specs.Faults.{FirstThemeFault};
 
 use vpf_value::laws;
 
@@ -38,7 +38,8 @@ pub fn agreement_is_no_finding()
 /// them apart.
 pub fn values_are_ordered()
     ensures total { IsTotalOrder value_cmp }
-    ensures equal { (kind : Kind) (count : Count) (v u : Value) → IsTrue (is_indexed kind) → FitsCell kind count v → FitsCell kind count u → value_cmp v u ≡ Equal → v ≡ u }
+    ensures equal { (kind : Kind) (count : Count) (v u : Value) → IsTrue (is_indexed kind) → FitsCell kind count v → FitsCell kind count u
+        → value_cmp v u ≡ Equal → v ≡ u }
     ensures same { (v u : Value) → IsTrue (same_value v u) ↔ (v ≡ u) }
 {}
 
@@ -60,7 +61,7 @@ pub fn read_is_spelled()
 
 /// Each list of bytes is a file of exactly one index, or has exactly one first fault, and never both.
 pub fn themes_decide()
-    ensures { (order : Order) (bytes : List ℕ) → IsBytes bytes → Decides order bytes }
+    ensures { (order : Order) (bytes : List ℕ) → IsBytes bytes → DecidesTheme order bytes }
 {
     laws::spelled_is_read();
     laws::read_is_spelled();
@@ -70,8 +71,8 @@ pub fn themes_decide()
 /// The place where bytes are refused is their first fault, and only that one: a field of the header is wrong, or the entries
 /// before it are spelled, and a line applies to the next one.
 pub fn refusals_are_first_faults()
-    ensures only { (order : Order) (bytes : List ℕ) (place : Place) → IsBytes bytes → theme_of order bytes ≡ Err place → FirstFault order bytes place }
-    ensures each { (order : Order) (bytes : List ℕ) (place : Place) → FirstFault order bytes place → theme_of order bytes ≡ Err place }
+    ensures only { (order : Order) (bytes : List ℕ) (place : Place) → IsBytes bytes → theme_of order bytes ≡ Err place → FirstThemeFault order bytes place }
+    ensures each { (order : Order) (bytes : List ℕ) (place : Place) → FirstThemeFault order bytes place → theme_of order bytes ≡ Err place }
 {
     laws::spelled_is_read();
     laws::read_is_spelled();

@@ -1,8 +1,9 @@
 //! What the header of a thematic index says, and where its entries stand.
 
 ghost use Rattle.std.specs.Prelude.{◌≡◌, ◌+◌, ◌≤◌, ◌<◌, length, IfOk};
-ghost use Rattle.vpf_theme.specs.Layouts.{HasValues, count_of, fields_of, form_of, header_bytes, kind_of, row_bytes, row_size_of, u32_at};
+ghost use Rattle.vpf_theme.specs.Layouts.{HasValues, allowed_count, header_fields, form_in, header_bytes, indexed_kind_of, row_bytes, row_size_of, u32_at};
 
+use vpf_base::limits::MOST_VALUES;
 use vpf_triplet::{Code, Count, Kind, Order, Place};
 use vpf_value::cell_width;
 
@@ -28,9 +29,6 @@ const SORTED_AT: usize = 56;
 
 /// The bytes of an entry behind its value: an offset and a count.
 const EXTENT_BYTES: usize = 8;
-
-/// The largest count of a column.
-const MOST_VALUES: u32 = 67_108_864;
 
 /// How a thematic index lists the rows of a value.
 #[derive(Clone, Copy, Debug, PartialEq, Eq)]
@@ -87,7 +85,7 @@ pub struct Layout {
 
 /// The form whose letter the byte is.
 fn form_of(letter: u8) -> Option<Form>
-    ensures { result ≡ form_of letter }
+    ensures { result ≡ form_in letter }
 {
     match letter {
         b'T' => Some(Form::List),
@@ -97,8 +95,8 @@ fn form_of(letter: u8) -> Option<Form>
 }
 
 /// The kind that can be indexed whose letter the byte is.
-fn kind_of(letter: u8) -> Option<Kind>
-    ensures { result ≡ kind_of letter }
+fn indexed_kind_of(letter: u8) -> Option<Kind>
+    ensures { result ≡ indexed_kind_of letter }
 {
     match letter {
         b'T' => Some(Kind::T),
@@ -127,7 +125,7 @@ fn row_size_of(letter: u8) -> Option<RowSize>
 
 /// The number, where it is a count of the kind.
 fn count_of(kind: Kind, n: u32) -> Option<u32>
-    ensures { result ≡ count_of kind n }
+    ensures { result ≡ allowed_count kind n }
 {
     (n >= 1 && n <= MOST_VALUES && kind.allows(Count::Fixed(n))).then_some(n)
 }
@@ -141,14 +139,14 @@ pub fn u32_at(order: Order, bytes: &[u8], at: usize) -> u32
 }
 
 /// What the fields of a header say, or the first that says nothing. The first field is looked at after them.
-#[tactic(auto, unfolding(crate::specs::Layouts::fields_of))]
+#[tactic(auto, unfolding(crate::specs::Layouts::header_fields))]
 fn fields_of(order: Order, bytes: &[u8]) -> Result<Layout, Place>
     requires { header_bytes ≤ length bytes.now }
-    ensures exact { result ≡ fields_of order bytes.now }
+    ensures exact { result ≡ header_fields order bytes.now }
     ensures values { IfOk result HasValues }
 {
     let form = form_of(bytes[FORM_AT]).ok_or(Place::in_theme(FORM_AT, Code::ThemeForm))?;
-    let kind = kind_of(bytes[KIND_AT]).ok_or(Place::in_theme(KIND_AT, Code::ThemeKind))?;
+    let kind = indexed_kind_of(bytes[KIND_AT]).ok_or(Place::in_theme(KIND_AT, Code::ThemeKind))?;
     let count = count_of(kind, u32_at(order, bytes, COUNT_AT)).ok_or(Place::in_theme(
         COUNT_AT,
         Code::ThemeCount,

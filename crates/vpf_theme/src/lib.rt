@@ -6,7 +6,6 @@ mod agreeing;
 mod checking;
 mod comparing;
 mod entries;
-mod errors;
 mod fitting;
 mod hits;
 mod keys;
@@ -21,8 +20,8 @@ mod view;
 
 pub use agreeing::agrees;
 pub use comparing::compare;
-pub use errors::ThemeError;
 pub use fitting::fits_table;
 pub use hits::Hits;
 pub use layout::{Form, Layout, RowSize};
 pub use view::ThemeView;
+pub use vpf_findings::FindError as ThemeError;

@@ -3,22 +3,24 @@
 ghost use Rattle.std.specs.Prelude.{◌≡◌, ◌<◌, ◌+◌, ◌||◌, ◌==◌, ℕ, false, length, slice_index_or, IfOk};
 ghost use Rattle.std.specs.List.{list_any};
 ghost use Rattle.vpf_head.specs.Views.{col};
-ghost use Rattle.vpf_theme.specs.Findings.{Tells, missing_line};
+ghost use Rattle.vpf_theme.specs.Findings.{missing_line};
+ghost use Rattle.vpf_findings.specs.Firsts.{Tells};
 ghost use Rattle.vpf_theme.specs.Keeping.{HoldMarks};
 ghost use Rattle.vpf_theme.specs.Views.{AreRows};
 
-use crate::errors::ThemeError;
 use crate::hits::Hits;
 use crate::reporting::finding;
 use crate::view::ThemeView;
 use std::alloc::{AllocError, Global};
+use vpf_findings::FindError;
 use vpf_head::Column;
 use vpf_table::{Seen, SeenWord};
 
 /// Marks the rows of an entry, whose numbers count from 1.
 fn mark_rows(hits: Hits<'_>, marks: &mut [bool])
     requires { AreRows (length marks.old) hits.left }
-    ensures { (k : ℕ) → k < length marks.old → slice_index_or marks.new k false ≡ (slice_index_or marks.old k false || list_any (λ row. row == k + 1) hits.entry.left) }
+    ensures { (k : ℕ) → k < length marks.old → slice_index_or marks.new k false
+        ≡ (slice_index_or marks.old k false || list_any (λ row. row == k + 1) hits.entry.left) }
 {
     for row in hits {
         marks[row as usize - 1] = true;
@@ -41,7 +43,7 @@ pub fn check_missing<'a>(
     alloc: Global,
     theme: &ThemeView<'a>,
     column: &Column<'a>,
-) -> Result<(), ThemeError<'a>>
+) -> Result<(), FindError<'a>>
     ensures { Tells result (missing_line theme.now (col column.now) theme.now.rows) }
 {
     let marks = marks_of(alloc, theme)?;
@@ -49,7 +51,7 @@ pub fn check_missing<'a>(
         if !marks[k] {
             let row = Seen::Number(k as i64 + 1);
             let missing = finding(0, column.name, Seen::Word(SeenWord::Absent), row);
-            return Err(ThemeError::Finding(missing));
+            return Err(FindError::Finding(missing));
         }
     }
     Ok(())

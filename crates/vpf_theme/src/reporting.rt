@@ -1,7 +1,7 @@
 //! Where a thematic index disagrees, told.
 
 ghost use Rattle.std.specs.Prelude.{◌≡◌};
-ghost use Rattle.vpf_table.specs.Findings.{disagreement_of, sight_of};
+ghost use Rattle.vpf_findings.specs.Findings.{disagreement_of, sight_of};
 ghost use Rattle.vpf_theme.specs.Findings.{at};
 
 use vpf_table::{ColumnAt, Finding, Seen, TableName};

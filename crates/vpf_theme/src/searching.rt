@@ -5,8 +5,9 @@ ghost use Rattle.vpf_triplet.specs.declared.kinds.Count.{Count};
 ghost use Rattle.vpf_value.specs.Values.{view};
 ghost use Rattle.vpf_value.specs.Fitting.{FitsCell};
 ghost use Rattle.vpf_theme.specs.Layouts.{HasValues};
-ghost use Rattle.vpf_theme.specs.Entries.{value_of};
+ghost use Rattle.vpf_theme.specs.Entries.{theme_in, value_of};
 ghost use Rattle.vpf_theme.specs.Reading.{entries_line};
+ghost use Rattle.vpf_theme.specs.Searching.{compared_by_halves, compared_for, compared_in_turn};
 ghost use Rattle.vpf_theme.specs.Views.{IsPlace};
 
 use crate::comparing::compare;
@@ -42,6 +43,7 @@ fn find_sorted<L: Ledger>(
     ensures place { IsPlace layout.now bytes.now (view value.now) result }
     ensures more { steps.old ≤ steps.new }
     ensures cost { 2 ^ (steps.new - steps.old) ≤ 2 * layout.now.entries + 1 }
+    ensures compared { steps.new ≡ steps.old + compared_by_halves (view value.now) (theme_in layout.now bytes.now).entries }
 {
     fixed_cells();
     let mut low = 0;
@@ -70,6 +72,7 @@ fn find_plain<L: Ledger>(
     ensures place { IsPlace layout.now bytes.now (view value.now) result }
     ensures more { steps.old ≤ steps.new }
     ensures cost { steps.new ≤ steps.old + layout.now.entries }
+    ensures compared { steps.new ≡ steps.old + compared_in_turn (view value.now) (theme_in layout.now bytes.now).entries }
 {
     for i in 0..layout.entries {
         steps.tick();
@@ -94,6 +97,7 @@ pub fn find_place<L: Ledger>(
     ensures more { steps.old ≤ steps.new }
     ensures sorted { layout.now.sorted ≡ true → 2 ^ (steps.new - steps.old) ≤ 2 * layout.now.entries + 1 }
     ensures plain { layout.now.sorted ≡ false → steps.new ≤ steps.old + layout.now.entries }
+    ensures compared { steps.new ≡ steps.old + compared_for (view value.now) (theme_in layout.now bytes.now) }
 {
     if layout.sorted {
         find_sorted(layout, bytes, value, steps)

@@ -9,7 +9,7 @@ use std::str;
 use std::sync::ledger::{Blank, Ledger};
 use std::test::Fail;
 use vpf_source::Steps;
-use vpf_table::{Finding, TableView};
+use vpf_table::{Finding, Seen, TableView};
 use vpf_triplet::{Code, Count, Kind, Order, Place};
 use vpf_value::{Cell, fits};
 
@@ -224,6 +224,13 @@ fn finds_the_rows_of_values_that_are_not_sorted(rt: HostRuntime) -> Result<(), F
     Ok(())
 }
 
+fn put_seen(text: &mut String, seen: Seen<'_>) -> Result<(), AllocError> {
+    match seen {
+        Seen::Cell(_, cell) => write!(text, "Cell({cell:?})"),
+        _ => write!(text, "{seen:?}"),
+    }
+}
+
 fn told(alloc: Global, finding: &Finding<'_>) -> Result<String, Fail> {
     let Finding {
         rule,
@@ -234,7 +241,11 @@ fn told(alloc: Global, finding: &Finding<'_>) -> Result<String, Fail> {
         ..
     } = *finding;
     let column = str::from_utf8(column.as_slice())?;
-    Ok(format!(in alloc; "{rule} {row} {column}: {found:?}, {wanted:?}")?)
+    let mut text = format!(in alloc; "{rule} {row} {column}: ")?;
+    put_seen(&mut text, found)?;
+    text.push_str(", ")?;
+    put_seen(&mut text, wanted)?;
+    Ok(text)
 }
 
 /// What is found in the first column of a table, in words.

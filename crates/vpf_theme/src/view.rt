@@ -30,11 +30,11 @@ impl<'a> Model for ThemeView<'a> {
 
     ghost Value = { Theme };
 
-    ghost use Rattle.vpf_theme.specs.Views.{IsOpened, theme_view};
+    ghost use Rattle.vpf_theme.specs.Views.{IsOpenedTheme, theme_view};
 
     ghost view = { theme_view };
 
-    ghost invariant = { IsOpened };
+    ghost invariant = { IsOpenedTheme };
 }
 
 /// The rows of entry `i` of a directory without faults, counted from 0.
@@ -54,9 +54,10 @@ impl<'a> ThemeView<'a> {
     ghost use Rattle.vpf_value.specs.Values.{view};
     ghost use Rattle.vpf_value.specs.Fitting.{FitsCell};
     ghost use Rattle.vpf_theme.specs.Entries.{Theme, found_in};
-    ghost use Rattle.vpf_theme.specs.Faults.{FirstFault};
+    ghost use Rattle.vpf_theme.specs.Faults.{FirstThemeFault};
     ghost use Rattle.vpf_theme.specs.Findings.{entry_at};
     ghost use Rattle.vpf_theme.specs.Agreeing.{HaveRows};
+    ghost use Rattle.vpf_theme.specs.Searching.{compared_for};
     ghost use Rattle.vpf_theme.specs.Views.{AreRows, all_rows};
     ghost use Rattle.vpf_triplet.specs.Places.{Gives};
     ghost use Rattle.vpf_theme.specs.Reading.{theme_of};
@@ -72,7 +73,7 @@ impl<'a> ThemeView<'a> {
         // The index, or the first fault.
         ensures exact { Gives (λ t. t) result (theme_of order bytes.now) }
         // What is refused has this first fault.
-        ensures refused { IfErr result (λ p. FirstFault order bytes.now p) }
+        ensures refused { IfErr result (λ p. FirstThemeFault order bytes.now p) }
     {
         spelled_is_read();
         read_is_spelled();
@@ -145,6 +146,7 @@ impl<'a> ThemeView<'a> {
         ensures more { steps.old ≤ steps.new }
         ensures sorted { self.now.sorted ≡ true → 2 ^ (steps.new - steps.old) ≤ 2 * length self.now.entries + 1 }
         ensures plain { self.now.sorted ≡ false → steps.new ≤ steps.old + length self.now.entries }
+        ensures compared { steps.new ≡ steps.old + compared_for (view value.now) self.now }
     {
         let i = find_place(&self.layout, self.bytes, value, steps)?;
         Some(hits_at(&self.layout, self.bytes, i))

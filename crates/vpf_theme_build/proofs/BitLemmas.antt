@@ -1,5 +1,5 @@
 -- Rows that rise, and the bits of a bitmap.
-use Rattle.std.proofs.Common.{◌≡◌, ℕ, zero, suc, ◌+◌, ◌-◌, ◌*◌, ◌%◌, ◌^◌, ◌<◌, ◌≤◌, Bool, true, false, ◌||◌, ◌==◌, nat_eq, List, [], ◌∷◌, length, map, get_or, refl, sym, ◌∙◌, arith, inl, inr}
+use Rattle.std.proofs.Common.{◌≡◌, ℕ, zero, suc, ◌+◌, ◌-◌, ◌*◌, ◌%◌, ◌^◌, ◌<◌, ◌≤◌, Bool, true, false, ◌==◌, nat_eq, List, [], ◌∷◌, length, map, get_or, refl, sym, ◌∙◌, arith, inl, inr}
 use Rattle.std.specs.Prelude.{All, MatchBool, bit_or}
 use Rattle.std.specs.List.{list_any}
 use Rattle.std.specs.List.Sorted.{IsStrictlyIncreasing}
@@ -10,9 +10,10 @@ use Rattle.std.proofs.lemmas.Nat.{or_disjoint}
 use Rattle.std.proofs.lemmas.Nat.Bits.{and_pow}
 use Rattle.std.proofs.Math.Nat.{div-eq_of_lt, mod-eq_of_lt, pow-succ'}
 use Rattle.std.proofs.Math.Pow.{pow-lt}
+use Rattle.vpf_base.proofs.Booleans.{or_true}
 use Rattle.vpf_theme_build.specs.declared.grouping.Spot.{Spot}
-use Rattle.vpf_theme_build.specs.Grouping.{IsNext, row_of}
-use Rattle.vpf_theme_build.specs.Text.{bit_of, bits_of}
+use Rattle.vpf_theme_build.specs.Grouping.{IsNext, spot_row}
+use Rattle.vpf_theme_build.specs.Text.{bit_of, row_bits}
 
 -- ---- rows that rise
 
@@ -30,10 +31,6 @@ rise rows i j r a b = let e : i + suc (j - (i + 1)) ≡ j = omega arith in let x
 any_none : (rows : List ℕ) (row : ℕ) → ((i : ℕ) → i < length rows → get_or rows i 0 ≡ row → ⊥) → list_any (λ r. r == row) rows ≡ false
 any_none [] row h = refl
 any_none (x ∷ rows) row h = rw (ne_eqb x row (h zero (omega arith))) (any_none rows row (λ i m. h (suc i) (omega arith)))
-
-or_true : (b : Bool) → (b || true) ≡ true
-or_true true = refl
-or_true false = refl
 
 any_some : (rows : List ℕ) (row i : ℕ) → i < length rows → get_or rows i 0 ≡ row → list_any (λ r. r == row) rows ≡ true
 any_some [] row i h e = absurd (omega arith)
@@ -79,12 +76,12 @@ next_match false rows next row t n r h =
 pub next_past : (rows : List ℕ) (next row : ℕ) → IsNext rows next row → (next < length rows → ⊥) → IsNext rows next (row + 1)
 next_past rows next row n h = record { inside = n.inside; below = λ i m. omega (arith, n.below i m); above = λ i a m. absurd (h (omega arith)) }
 
-pub row_there : (spots : List Spot) (k : ℕ) (spot : Spot) → k < length spots → (get_or spots k spot).row ≡ get_or (map row_of spots) k 0
-row_there spots k spot h = sym (get_or-map row_of spots k spot 0 h)
+pub row_there : (spots : List Spot) (k : ℕ) (spot : Spot) → k < length spots → (get_or spots k spot).row ≡ get_or (map spot_row spots) k 0
+row_there spots k spot h = sym (get_or-map spot_row spots k spot 0 h)
 
 -- ---- bits
 
-pub bits_more : (rows : List ℕ) (first b : ℕ) → bits_of rows first (b + 1) ≡ bits_of rows first b + bit_of rows first b
+pub bits_more : (rows : List ℕ) (first b : ℕ) → row_bits rows first (b + 1) ≡ row_bits rows first b + bit_of rows first b
 bits_more rows first b = sum_by-map-range_with_len_more (λ (x : ℕ). x) (bit_of rows first) 0 b b (omega arith)
 
 pub or_bit : (n b : ℕ) → n < 2 ^ b → bit_or n (2 ^ b) ≡ n + 2 ^ b
@@ -93,14 +90,14 @@ or_bit n b h = or_disjoint n (2 ^ b) (and_pow n b ∙ rw (div-eq_of_lt h) (omega
 pub below_more : (n b : ℕ) → n < 2 ^ b → n + 2 ^ b < 2 ^ (b + 1)
 below_more n b h = let e : b + 1 ≡ suc b = omega arith in rw e (omega (arith, pow-succ' 2 b))
 
-pub next_first : (spots : List Spot) → All (λ (s : Spot). 1 ≤ s.row) spots → IsNext (map row_of spots) 0 1
+pub next_first : (spots : List Spot) → All (λ (s : Spot). 1 ≤ s.row) spots → IsNext (map spot_row spots) 0 1
 next_first spots h = record {
   inside = omega arith;
   below = λ i m. absurd (omega arith);
-  above = λ i a m. let k : i < length spots = omega (arith, length-map spots row_of) in above_at spots i h k;
+  above = λ i a m. let k : i < length spots = omega (arith, length-map spots spot_row) in above_at spots i h k;
 }
   where
-    above_at : (spots : List Spot) (i : ℕ) → All (λ (s : Spot). 1 ≤ s.row) spots → i < length spots → 1 ≤ get_or (map row_of spots) i 0
+    above_at : (spots : List Spot) (i : ℕ) → All (λ (s : Spot). 1 ≤ s.row) spots → i < length spots → 1 ≤ get_or (map spot_row spots) i 0
     above_at [] i h k = absurd (omega arith)
     above_at (s ∷ spots) zero h k = h zero s (omega arith)
     above_at (s ∷ spots) (suc i) h k = above_at spots i (λ j d m. h (suc j) d (omega arith)) (omega arith)
@@ -111,14 +108,14 @@ small_pow b h =
     let k : 2 ^ b < 2 ^ 8 = pow-lt h in
     rw e (mod-eq_of_lt k)
 
-pub byte_set : (rows : List ℕ) (first b byte new : ℕ) → b < 8 → true ≡ list_any (λ row. row == first + b) rows → byte ≡ bits_of rows first b → byte < 2 ^ b → new ≡ bit_or byte (1 * 2 ^ b % 256) → new ≡ bits_of rows first (b + 1)
+pub byte_set : (rows : List ℕ) (first b byte new : ℕ) → b < 8 → true ≡ list_any (λ row. row == first + b) rows → byte ≡ row_bits rows first b → byte < 2 ^ b → new ≡ bit_or byte (1 * 2 ^ b % 256) → new ≡ row_bits rows first (b + 1)
 byte_set rows first b byte new h any is small e =
     let o = or_bit byte b small in
     let p = small_pow b h in
     let f = rw (p, o, is) at e in
     e' f
   where
-    e' : new ≡ bits_of rows first b + 2 ^ b → new ≡ bits_of rows first (b + 1)
+    e' : new ≡ row_bits rows first b + 2 ^ b → new ≡ row_bits rows first (b + 1)
     e' f = f ∙ sym (bits_more rows first b ∙ rw (← any) refl)
 
 pub byte_small : (b byte new : ℕ) → b < 8 → byte < 2 ^ b → new ≡ bit_or byte (1 * 2 ^ b % 256) → new < 2 ^ (b + 1)
@@ -128,7 +125,7 @@ byte_small b byte new h small e =
     let f = rw (p, o) at e in
     rw f (below_more byte b small)
 
-pub byte_clear : (rows : List ℕ) (first b byte : ℕ) → false ≡ list_any (λ row. row == first + b) rows → byte ≡ bits_of rows first b → byte ≡ bits_of rows first (b + 1)
+pub byte_clear : (rows : List ℕ) (first b byte : ℕ) → false ≡ list_any (λ row. row == first + b) rows → byte ≡ row_bits rows first b → byte ≡ row_bits rows first (b + 1)
 byte_clear rows first b byte any is = is ∙ sym (bits_more rows first b ∙ rw (← any) (omega arith))
 
 pub still_small : (b byte : ℕ) → byte < 2 ^ b → byte < 2 ^ (b + 1)

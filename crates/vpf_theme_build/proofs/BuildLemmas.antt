@@ -4,6 +4,8 @@ use Rattle.std.specs.Prelude.{All, IfOk, nat_le, slice_get, slice_index_or, if�
 use Rattle.std.proofs.lemmas.Bool.{leb-true}
 use Rattle.std.proofs.lemmas.List.{get_or-map, length-map}
 use Rattle.std.proofs.lemmas.Option.{get_or_from_slice_get, slice_get_within, same_Some}
+use Rattle.vpf_base.specs.Limits.{most_bytes}
+use Rattle.vpf_base.proofs.Results.{ok_is}
 use Rattle.vpf_triplet.specs.declared.orders.Order.{Order}
 use Rattle.vpf_triplet.specs.declared.kinds.Kind.{Kind}
 use Rattle.vpf_triplet.specs.declared.places.Place.{Place}
@@ -24,7 +26,7 @@ use Rattle.vpf_theme.specs.Agreeing.{AgreesWithColumn}
 use Rattle.vpf_theme.specs.Reading.{theme_of}
 use Rattle.vpf_theme_build.specs.declared.errors.BuildError.{BuildError}
 use Rattle.vpf_theme_build.specs.declared.errors.BuildError.TheVariants as errors
-use Rattle.vpf_theme_build.specs.Building.{AgreeAt, AreRead, Builds, built_by, index_for, layout_for, limited, most_bytes}
+use Rattle.vpf_theme_build.specs.Building.{AgreeAt, AreRead, Builds, built_by, index_for, layout_for, within_limit}
 use Rattle.vpf_theme_build.specs.Grouping.{entries_for, values_of}
 use Rattle.vpf_theme_build.specs.Text.{index_len, index_text, row_size_for}
 use Rattle.vpf_theme_build.proofs.FieldLemmas.{counted}
@@ -48,10 +50,10 @@ layout_is o order form column count cells size rows entries a b c d =
     ∙ ap (λ (x : ℕ). layout_with form column.kind count order size x (length (values_of cells))) c
     ∙ ap (λ (x : ℕ). layout_with form column.kind count order size rows x) d
 
-pub built_is : (o : Order) (name : List ℕ) (form : Form) (column : Col) (cells : List Value) (count : ℕ) (l : Layout) (es : List Entry) → is_indexed column.kind ≡ true → layout_for o form column count cells ≡ l → es ≡ entries_for cells → built_by o name form column cells (Fixed count) ≡ limited (index_len l es) (index_text l name column.name es)
+pub built_is : (o : Order) (name : List ℕ) (form : Form) (column : Col) (cells : List Value) (count : ℕ) (l : Layout) (es : List Entry) → is_indexed column.kind ≡ true → layout_for o form column count cells ≡ l → es ≡ entries_for cells → built_by o name form column cells (Fixed count) ≡ within_limit (index_len l es) (index_text l name column.name es)
 built_is o name form column cells count l es indexed e f =
-    rw indexed (ap (λ (x : Layout). limited (index_len x (entries_for cells)) (index_text x name column.name (entries_for cells))) e
-    ∙ ap (λ (x : List Entry). limited (index_len l x) (index_text l name column.name x)) (sym f))
+    rw indexed (ap (λ (x : Layout). within_limit (index_len x (entries_for cells)) (index_text x name column.name (entries_for cells))) e
+    ∙ ap (λ (x : List Entry). within_limit (index_len l x) (index_text l name column.name x)) (sym f))
 
 pub one_column : (columns : List Col) (c : ℕ) (a b : Col) → slice_get columns c ≡ Some a → slice_get columns c ≡ Some b → a ≡ b
 one_column columns c a b x y = same_Some a b (sym x ∙ y)
@@ -70,15 +72,9 @@ cells_fit grid c column fits is k d h =
     let m : k < length grid.rows = omega (arith, h, length-map grid.rows f) in
     rw (get_or-map f grid.rows k [] d m) (row_fits grid.head.columns (get_or grid.rows k []) c column (fits k [] m) is)
 
-abbrev done : List ℕ → Result (List ℕ) BuildError
-done x = Ok x
-
-ok_is : (x y : List ℕ) → done x ≡ done y → x ≡ y
-ok_is x y e = cc
-
 -- bytes that are not too many
 pub limited_ok : (b : Bool) (size : ℕ) (text out : List ℕ) → nat_le size most_bytes ≡ b → (if b then Ok text else Err (errors.Limit size)) ≡ Ok out → (size ≤ most_bytes) × (text ≡ out)
-limited_ok true size text out t e = (leb-true size most_bytes t, ok_is text out e)
+limited_ok true size text out t e = (leb-true size most_bytes t, ok_is {x = text} {y = out} e)
 limited_ok false size text out t e = absurd (cc e)
 
 -- what holds of the bytes of an index that are not too many holds of what a call built

@@ -4,19 +4,19 @@ use Rattle.std.specs.Prelude.{All}
 use Rattle.std.specs.Cmp.{IsTotalOrder}
 use Rattle.std.proofs.lemmas.Bool.Decides.{nat_tests}
 use Rattle.std.proofs.lemmas.List.{length-map}
+use Rattle.vpf_base.specs.Limits.{most_values, most_bytes}
 use Rattle.vpf_triplet.specs.declared.orders.Order.{Order}
 use Rattle.vpf_triplet.specs.declared.kinds.Kind.{Kind}
 use Rattle.vpf_triplet.specs.declared.kinds.Count.TheVariants.{Fixed}
 use Rattle.vpf_value.specs.Values.{Value}
 use Rattle.vpf_value.specs.Fitting.{FitsCell}
-use Rattle.vpf_head.specs.Fields.{most_values}
 use Rattle.vpf_head.specs.Head.{Col}
 use Rattle.vpf_theme.specs.declared.layout.Form.{Form}
 use Rattle.vpf_theme.specs.declared.layout.Layout.{Layout}
 use Rattle.vpf_theme.specs.Layouts.{is_count}
 use Rattle.vpf_theme.specs.Ordering.{value_cmp}
 use Rattle.vpf_theme.specs.Spelling.{IsThematicIndex, layout_from}
-use Rattle.vpf_theme_build.specs.Building.{CanIndex, index_for, layout_for, most_bytes}
+use Rattle.vpf_theme_build.specs.Building.{CanIndex, index_for, layout_for}
 use Rattle.vpf_theme_build.specs.Grouping.{entries_for, entry_for, values_of}
 use Rattle.vpf_theme_build.specs.Text.{index_len, index_text, row_size_for}
 use Rattle.vpf_theme_build.proofs.FieldLemmas.{scan_inside, scan_rises, values_len}

@@ -4,13 +4,13 @@ use Rattle.std.specs.Prelude.{All, IsTrue, nat_le, slice_get}
 use Rattle.std.specs.List.Sorted.{IsStrictlyIncreasing}
 use Rattle.std.proofs.lemmas.Bool.Decides.{nat_tests}
 use Rattle.std.proofs.lemmas.List.{length-map}
+use Rattle.vpf_base.specs.Limits.{most_values}
 use Rattle.vpf_triplet.specs.declared.kinds.Kind.{Kind}
 use Rattle.vpf_triplet.specs.declared.kinds.Count.{Count}
 use Rattle.vpf_triplet.specs.declared.kinds.Count.TheVariants.{Fixed}
 use Rattle.vpf_triplet.specs.Kinds.{allows}
 use Rattle.vpf_value.specs.Values.{Value, Nothing, view}
 use Rattle.vpf_value.specs.Fitting.{FitsCell}
-use Rattle.vpf_head.specs.Fields.{most_values}
 use Rattle.vpf_head.specs.Head.{Col}
 use Rattle.vpf_head.specs.Soundness.{IsInBounds}
 use Rattle.vpf_table.specs.Grid.{Row, Grid}
@@ -21,7 +21,7 @@ use Rattle.vpf_theme.specs.Findings.{cells_of}
 use Rattle.vpf_theme.specs.Agreeing.{scan_from, scan_of}
 use Rattle.vpf_theme_build.specs.declared.grouping.Spot.{Spot}
 use Rattle.vpf_theme_build.specs.declared.grouping.Group.{Group}
-use Rattle.vpf_theme_build.specs.Grouping.{AreOfOneField, FitColumn, IsIndexed, cells_in, entries_for, entry_for, entry_in, numbered, placed, row_of, seen, values_of, with_value}
+use Rattle.vpf_theme_build.specs.Grouping.{AreOfOneField, FitColumn, IsIndexable, cells_in, entries_for, entry_for, entry_in, numbered, placed, spot_row, seen, values_of, with_value}
 use Rattle.vpf_theme_build.specs.Text.{row_size_for}
 use Rattle.vpf_theme_build.specs.Writing.{AreEntries}
 use Rattle.vpf_theme.specs.declared.layout.Layout.{Layout}
@@ -53,7 +53,7 @@ spot_step P (s ∷ spots) at (v ∷ cells) e h =
     let q = first_of (seen s) (v, at) (map seen spots) (numbered (at + 1) cells) e in
     all_cons P v cells (subst P (ap (λ (p : Value × ℕ). p.0) q) (h zero s (omega arith))) (spot_step P spots (at + 1) cells (rest_of (seen s) (v, at) (map seen spots) (numbered (at + 1) cells) e) (λ j x y. h (suc j) x (omega arith)))
 
-pub one_field : (grid : Grid) (c : ℕ) (spots : List Spot) → c < length grid.head.columns → IsIndexed grid c → FitColumn grid c spots → map seen spots ≡ numbered 1 (cells_of grid c)
+pub one_field : (grid : Grid) (c : ℕ) (spots : List Spot) → c < length grid.head.columns → IsIndexable grid c → FitColumn grid c spots → map seen spots ≡ numbered 1 (cells_of grid c)
     → ((kind : Kind) (count : Count) (v u : Value) → IsTrue (is_indexed kind) → FitsCell kind count v → FitsCell kind count u → value_cmp v u ≡ Equal → v ≡ u) → AreOfOneField (cells_of grid c)
 one_field grid c spots h indexed fits e law i j a b k =
     let s = some_at grid.head.columns c h in
@@ -132,7 +132,7 @@ scan_inside at n v (u ∷ cells) low high = inside_cons (λ row. (1 ≤ row) × 
 
 -- ---- groups are entries
 
-rows_of_group : (spots : List Spot) (groups : List Group) (cells vs : List Value) (k : ℕ) (d : Group) → map (entry_in spots) groups ≡ map (entry_for cells) vs → k < length groups → (v : Value) × (map row_of (cells_in spots (get_or groups k d)) ≡ scan_of v cells)
+rows_of_group : (spots : List Spot) (groups : List Group) (cells vs : List Value) (k : ℕ) (d : Group) → map (entry_in spots) groups ≡ map (entry_for cells) vs → k < length groups → (v : Value) × (map spot_row (cells_in spots (get_or groups k d)) ≡ scan_of v cells)
 rows_of_group spots [] cells vs k d e h = absurd (omega arith)
 rows_of_group spots (g ∷ groups) cells [] k d e h = absurd (cc e)
 rows_of_group spots (g ∷ groups) cells (v ∷ vs) zero d e h = (v, ap (λ (x : Entry). x.rows) (first (entry_in spots g) (entry_for cells v) (map (entry_in spots) groups) (map (entry_for cells) vs) e))

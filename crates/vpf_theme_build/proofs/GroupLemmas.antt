@@ -8,7 +8,7 @@ use Rattle.vpf_theme.specs.Ordering.{same_value, value_cmp}
 use Rattle.vpf_theme.specs.Entries.{Entry, found_in}
 use Rattle.vpf_theme.specs.Agreeing.{listed}
 use Rattle.vpf_theme.specs.KeyLaws.{Decides-same_value, same_yes}
-use Rattle.vpf_theme_build.specs.Grouping.{Spotted, joined, grouped}
+use Rattle.vpf_theme_build.specs.Grouping.{Spotted, joined_spot, grouped}
 use Rattle.vpf_theme_build.proofs.EntryLists.{AllAbove, Rising, Filled, EachValue, Told, back, above_trans, not_found}
 
 -- no cell is below the one before
@@ -35,7 +35,7 @@ joined_case : (b : Bool) (p q : Spotted) (e : Entry) (es : List Entry) → is_lt
 joined_case true p q e es h = h
 joined_case false p q e es h = h
 
-joined_head : (p q : Spotted) (gs : List Entry) → is_lt (value_cmp q.0 p.0) ≡ false → HeadAbove p (joined q gs)
+joined_head : (p q : Spotted) (gs : List Entry) → is_lt (value_cmp q.0 p.0) ≡ false → HeadAbove p (joined_spot q gs)
 joined_head p q [] h = h
 joined_head p q (e ∷ es) h = joined_case (same_value q.0 e.value) p q e es h
 
@@ -61,7 +61,7 @@ rising_case P o eq false p e es t x y r h =
     let l = below_next P o eq p.0 e.value (value_cmp p.0 e.value) refl x y h t in
     ((l, above_trans o p.0 e.value es l r.0), r)
 
-joined_rising : (P : Value → Type 0) → IsTotalOrder value_cmp → Told P → (p : Spotted) (gs : List Entry) → P p.0 → EachValue P gs → Rising gs → HeadAbove p gs → Rising (joined p gs)
+joined_rising : (P : Value → Type 0) → IsTotalOrder value_cmp → Told P → (p : Spotted) (gs : List Entry) → P p.0 → EachValue P gs → Rising gs → HeadAbove p gs → Rising (joined_spot p gs)
 joined_rising P o eq p [] x y r h = (tt, tt)
 joined_rising P o eq p (e ∷ es) x y r h = rising_case P o eq (same_value p.0 e.value) p e es refl x y.0 r h
 
@@ -69,7 +69,7 @@ each_case : (P : Value → Type 0) (b : Bool) (p : Spotted) (e : Entry) (es : Li
 each_case P true p e es x y = (x, y.1)
 each_case P false p e es x y = (x, y)
 
-joined_each : (P : Value → Type 0) (p : Spotted) (gs : List Entry) → P p.0 → EachValue P gs → EachValue P (joined p gs)
+joined_each : (P : Value → Type 0) (p : Spotted) (gs : List Entry) → P p.0 → EachValue P gs → EachValue P (joined_spot p gs)
 joined_each P p [] x y = (x, tt)
 joined_each P p (e ∷ es) x y = each_case P (same_value p.0 e.value) p e es x y
 
@@ -77,7 +77,7 @@ filled_case : (b : Bool) (p : Spotted) (e : Entry) (es : List Entry) → Filled 
 filled_case true p e es f = (omega arith, f.1)
 filled_case false p e es f = (omega arith, f)
 
-joined_filled : (p : Spotted) (gs : List Entry) → Filled gs → Filled (joined p gs)
+joined_filled : (p : Spotted) (gs : List Entry) → Filled gs → Filled (joined_spot p gs)
 joined_filled p [] f = (omega arith, tt)
 joined_filled p (e ∷ es) f = filled_case (same_value p.0 e.value) p e es f
 
@@ -118,7 +118,7 @@ listed_case P o eq false p e es v rows t x y r h i =
     let l = below_next P o eq p.0 e.value (value_cmp p.0 e.value) refl x y h t in
     joined_apart (same_value p.0 v) p.1 rows (found_in v (e ∷ es)) i (λ s. let k = (Decides-same_value p.0 v).0 s in subst (λ (z : Value). found_in z (e ∷ es) ≡ None) k (not_found o p.0 (e ∷ es) (l, above_trans o p.0 e.value es l r.0)))
 
-joined_listed : (P : Value → Type 0) → IsTotalOrder value_cmp → Told P → (p : Spotted) (gs : List Entry) (v : Value) (rows : List ℕ) → P p.0 → EachValue P gs → Rising gs → HeadAbove p gs → listed (found_in v gs) ≡ rows → listed (found_in v (joined p gs)) ≡ cond (same_value p.0 v) (p.1 ∷ rows) rows
+joined_listed : (P : Value → Type 0) → IsTotalOrder value_cmp → Told P → (p : Spotted) (gs : List Entry) (v : Value) (rows : List ℕ) → P p.0 → EachValue P gs → Rising gs → HeadAbove p gs → listed (found_in v gs) ≡ rows → listed (found_in v (joined_spot p gs)) ≡ cond (same_value p.0 v) (p.1 ∷ rows) rows
 joined_listed P o eq p [] v rows x y r h i = one_listed (same_value p.0 v) p.1 rows (sym i)
 joined_listed P o eq p (e ∷ es) v rows x y r h i = listed_case P o eq (same_value p.0 e.value) p e es v rows refl x y.0 r h i
 

@@ -2,8 +2,7 @@
 use Rattle.std.proofs.Common.{◌≡◌, ℕ, ◌^◌, ◌<◌, true, List, [], ◌∷◌, ◌++◌, length, drop, append_assoc, refl, ◌∙◌, inr, arith}
 use Rattle.std.specs.Int.{w32}
 use Rattle.std.proofs.lemmas.List.{length-append, length-take-le}
-use Rattle.vpf_triplet.specs.declared.kinds.Kind.{Kind}
-use Rattle.vpf_triplet.specs.declared.kinds.Kind.TheVariants as kinds
+use Rattle.vpf_triplet.proofs.KindLemmas.{length-kind}
 use Rattle.vpf_triplet.specs.Kinds.{kind_text}
 use Rattle.vpf_triplet.specs.Numbers.{number}
 use Rattle.vpf_theme.specs.declared.layout.Form.{Form}
@@ -12,7 +11,7 @@ use Rattle.vpf_theme.specs.declared.layout.RowSize.{RowSize}
 use Rattle.vpf_theme.specs.declared.layout.RowSize.TheVariants as sizes
 use Rattle.vpf_theme.specs.declared.layout.Layout.{Layout}
 use Rattle.vpf_theme.specs.Layouts.{directory_end, form_text, row_size_text}
-use Rattle.vpf_theme.specs.Spelling.{IsHeader}
+use Rattle.vpf_theme.specs.Spelling.{IsThemeHeader}
 use Rattle.vpf_theme.proofs.PieceLemmas.{after, length-u32, piece_inside}
 use Rattle.vpf_theme_build.specs.Text.{header_text, spaced}
 use Rattle.vpf_theme_build.proofs.TextLemmas.{length-spaces, spaces}
@@ -22,23 +21,6 @@ use Rattle.vpf_theme_build.proofs.TextLemmas.{length-spaces, spaces}
 length-form : (form : Form) → length (form_text form) ≡ 1
 length-form forms.List = refl
 length-form forms.Bitmap = refl
-
-length-kind : (kind : Kind) → length (kind_text kind) ≡ 1
-length-kind kinds.T = refl
-length-kind kinds.L = refl
-length-kind kinds.M = refl
-length-kind kinds.N = refl
-length-kind kinds.F = refl
-length-kind kinds.R = refl
-length-kind kinds.S = refl
-length-kind kinds.I = refl
-length-kind kinds.D = refl
-length-kind kinds.X = refl
-length-kind kinds.K = refl
-length-kind kinds.C = refl
-length-kind kinds.B = refl
-length-kind kinds.Z = refl
-length-kind kinds.Y = refl
 
 length-size : (size : RowSize) → length (row_size_text size) ≡ 1
 length-size sizes.Short = refl
@@ -62,7 +44,7 @@ grouped a b c d e f g h i j k rest = simp append_assoc
 
 -- a header, and the directory behind it
 pub record IsFront (l : Layout) (bytes rest : List ℕ) : Type 0 where
-  pub header : IsHeader l bytes
+  pub header : IsThemeHeader l bytes
   pub directory : drop 60 bytes ≡ rest
 
 pub front_stands : (l : Layout) (bytes table column rest : List ℕ) → IsStored l → bytes ≡ header_text l table column ++ rest → IsFront l bytes rest

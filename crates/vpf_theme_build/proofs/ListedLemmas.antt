@@ -9,7 +9,7 @@ use Rattle.vpf_theme.specs.declared.layout.RowSize.TheVariants as sizes
 use Rattle.vpf_theme.specs.declared.layout.Layout.{Layout}
 use Rattle.vpf_theme.specs.declared.entries.Extent.{Extent}
 use Rattle.vpf_theme.specs.Layouts.{directory_end, row_bytes}
-use Rattle.vpf_theme.specs.Spelling.{AreData, HoldsRow, IsBitmap, IsList, rows_text}
+use Rattle.vpf_theme.specs.Spelling.{AreData, HoldsRow, IsBitmap, IsList, row_numbers_text}
 use Rattle.vpf_theme.proofs.PieceLemmas.{piece_inside}
 use Rattle.vpf_theme_build.specs.Text.{bitmap_text, count_by, data_by, offset_by}
 use Rattle.vpf_theme_build.specs.Writing.{AreEntryRows}
@@ -42,7 +42,7 @@ many_stand : (l : Layout) (bytes rest : List ℕ) (at : ℕ) (rows : List ℕ) �
 many_stand l bytes rest at rows r some t low e =
     let f = rw t at e in
     let len = length-rows l.order l.row_size rows in
-    let inside = piece_inside bytes (rows_text l.order l.row_size rows) at (omega (arith, len, size_some l.row_size (length rows))) (rest, f) in
+    let inside = piece_inside bytes (row_numbers_text l.order l.row_size rows) at (omega (arith, len, size_some l.row_size (length rows))) (rest, f) in
     rw t (inr (record { some = some; count = refl; behind = (low, omega (arith, inside, len)); held = held l rows r; stand = (rest, f) }))
 
 list_stands : (l : Layout) (bytes rest : List ℕ) (at : ℕ) (rows : List ℕ) → AreEntryRows l rows → 0 < length rows → directory_end l ≤ at → drop at bytes ≡ data_by forms.List l rows ++ rest → IsList l bytes (extent_for forms.List l at rows) rows

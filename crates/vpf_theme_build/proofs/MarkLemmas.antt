@@ -1,5 +1,5 @@
 -- The bits of a bitmap that is written mark its rows.
-use Rattle.std.proofs.Common.{◌≡◌, ℕ, zero, suc, ◌+◌, ◌-◌, ◌*◌, ◌/◌, ◌%◌, ◌^◌, ◌<◌, Bool, true, false, ◌==◌, ◌||◌, List, [], ◌∷◌, ◌++◌, length, drop, get_or, refl, sym, ap, subst, ◌∙◌, arith, inl, inr}
+use Rattle.std.proofs.Common.{◌≡◌, ℕ, zero, suc, ◌+◌, ◌-◌, ◌*◌, ◌/◌, ◌%◌, ◌^◌, ◌<◌, Bool, true, false, ◌==◌, List, [], ◌∷◌, ◌++◌, length, drop, get_or, refl, sym, ap, subst, ◌∙◌, arith, inl, inr}
 use Rattle.std.specs.Prelude.{◌↔◌, Contains, if◌then◌else◌}
 use Rattle.std.specs.List.{list_any}
 use Rattle.std.specs.Int.{bit_at}
@@ -7,18 +7,15 @@ use Rattle.std.proofs.lemmas.Bool.{cases_lt, cases_eq, eq-eqb, ne_eqb}
 use Rattle.std.proofs.lemmas.List.{get_or-drop}
 use Rattle.std.proofs.lemmas.List.FromFn.{get_or-map-range_with_len, length-map-range_with_len}
 use Rattle.std.proofs.lemmas.Nat.Bits.{bit_at_cat_low, bit_at_cat_high}
+use Rattle.vpf_base.proofs.Booleans.{or_true}
 use Rattle.vpf_theme.specs.Entries.{is_marked}
-use Rattle.vpf_theme_build.specs.Text.{bits_of, bitmap_byte, bitmap_text}
+use Rattle.vpf_theme_build.specs.Text.{row_bits, bitmap_byte, bitmap_text}
 use Rattle.vpf_theme_build.proofs.BitLemmas.{bits_more, below_more, still_small}
 
 -- ---- members
 
 abbrev has : List ℕ → ℕ → Bool
 has rows row = list_any (λ r. r == row) rows
-
-or_true : (b : Bool) → (b || true) ≡ true
-or_true true = refl
-or_true false = refl
 
 has_member : (rows : List ℕ) (row k : ℕ) → k < length rows → get_or rows k row ≡ row → has rows row ≡ true
 has_member [] row k h e = absurd (omega arith)
@@ -46,12 +43,12 @@ bit_small : (b : Bool) (m n : ℕ) → m < 2 ^ n → m + (if b then 2 ^ n else 0
 bit_small true m n h = below_more m n h
 bit_small false m n h = let k = still_small n m h in omega (arith, k)
 
-bits_small : (rows : List ℕ) (first n : ℕ) → bits_of rows first n < 2 ^ n
+bits_small : (rows : List ℕ) (first n : ℕ) → row_bits rows first n < 2 ^ n
 bits_small rows first zero = omega arith
 bits_small rows first (suc n) =
     let e : n + 1 ≡ suc n = omega arith in
-    let small : bits_of rows first (n + 1) < 2 ^ (n + 1) = subst (λ (m : ℕ). m < 2 ^ (n + 1)) (sym (bits_more rows first n)) (bit_small (has rows (first + n)) (bits_of rows first n) n (bits_small rows first n)) in
-    subst (λ (m : ℕ). bits_of rows first m < 2 ^ m) e small
+    let small : row_bits rows first (n + 1) < 2 ^ (n + 1) = subst (λ (m : ℕ). m < 2 ^ (n + 1)) (sym (bits_more rows first n)) (bit_small (has rows (first + n)) (row_bits rows first n) n (bits_small rows first n)) in
+    subst (λ (m : ℕ). row_bits rows first m < 2 ^ m) e small
 
 bit_alone : (b : Bool) → bit_at (bit b) 0 ≡ bit b
 bit_alone true = refl
@@ -63,14 +60,14 @@ top_bit t m n b e h =
     let high = bit_at_cat_high (bit t) n m b h (omega arith) in
     rw d at high ∙ bit_alone t
 
-bits_again : (rows : List ℕ) (first n b : ℕ) → b < n → bit_at (bits_of rows first n) b ≡ bit (has rows (first + b))
+bits_again : (rows : List ℕ) (first n b : ℕ) → b < n → bit_at (row_bits rows first n) b ≡ bit (has rows (first + b))
 bits_again rows first zero b h = absurd (omega arith)
 bits_again rows first (suc n) b h =
     let t = has rows (first + n) in
-    let m = bits_of rows first n in
-    let more : bits_of rows first (n + 1) ≡ bit t * 2 ^ n + m = bits_more rows first n ∙ ap (λ (x : ℕ). m + x) (bit_value t n) ∙ omega arith in
+    let m = row_bits rows first n in
+    let more : row_bits rows first (n + 1) ≡ bit t * 2 ^ n + m = bits_more rows first n ∙ ap (λ (x : ℕ). m + x) (bit_value t n) ∙ omega arith in
     let e : n + 1 ≡ suc n = omega arith in
-    ap (λ (k : ℕ). bit_at (bits_of rows first k) b) (sym e) ∙ ap (λ (k : ℕ). bit_at k b) more ∙ elim (cases_lt b n) [
+    ap (λ (k : ℕ). bit_at (row_bits rows first k) b) (sym e) ∙ ap (λ (k : ℕ). bit_at k b) more ∙ elim (cases_lt b n) [
       | inl lt ↦ bit_at_cat_low (bit t) n m b lt ∙ bits_again rows first n b lt
       | inr ge ↦ top_bit t m n b (omega arith) (bits_small rows first n) ∙ ap (λ (k : ℕ). bit (has rows (first + k))) (let z : n ≡ b = omega arith in z)
     ]

@@ -7,14 +7,14 @@ use Rattle.vpf_theme.specs.Entries.{Entry}
 use Rattle.vpf_theme.specs.KeyLaws.{same_yes, same_no}
 use Rattle.vpf_theme_build.specs.declared.grouping.Spot.{Spot}
 use Rattle.vpf_theme_build.specs.declared.grouping.Group.{Group}
-use Rattle.vpf_theme_build.specs.Grouping.{EndsAt, Spotted, entry_in, entry_of, grouped, joined, seen, value_at}
+use Rattle.vpf_theme_build.specs.Grouping.{EndsAt, Spotted, entry_in, group_entry, grouped, joined_spot, seen, value_at}
 
 -- the first entry has another value
 abbrev HeadDiffers : Spotted → List Entry → Type 0
 HeadDiffers p [] = Unit {0}
 HeadDiffers p (e ∷ es) = same_value p.0 e.value ≡ false
 
-differs : (p : Spotted) (gs : List Entry) → HeadDiffers p gs → joined p gs ≡ record { value = p.0; rows = p.1 ∷ [] } ∷ gs
+differs : (p : Spotted) (gs : List Entry) → HeadDiffers p gs → joined_spot p gs ≡ record { value = p.0; rows = p.1 ∷ [] } ∷ gs
 differs p [] h = refl
 differs p (e ∷ es) h = rw h refl
 
@@ -22,7 +22,7 @@ value_case : (b : Bool) (p q : Spotted) (e : Entry) (es : List Entry) → same_v
 value_case true p q e es h = h
 value_case false p q e es h = h
 
-joined_differs : (p q : Spotted) (gs : List Entry) → same_value p.0 q.0 ≡ false → HeadDiffers p (joined q gs)
+joined_differs : (p q : Spotted) (gs : List Entry) → same_value p.0 q.0 ≡ false → HeadDiffers p (joined_spot q gs)
 joined_differs p q [] h = h
 joined_differs p q (e ∷ es) h = value_case (same_value q.0 e.value) p q e es h
 
@@ -35,7 +35,7 @@ ends_tail : (s : Spot) (spots : List Spot) (n : ℕ) → EndsAt (s ∷ spots) (s
 ends_tail s spots n (inl e) = inl (omega arith)
 ends_tail s spots n (inr e) = inr (λ d k. let z : suc n + 1 ≡ suc (n + 1) = omega arith in let f = e d in let g = rw z at f in g k)
 
-pub run_of : (n : ℕ) (spots : List Spot) → n < length spots → ((k : ℕ) (d : Spot) → k < n → value_at spots k d ≡ value_at spots (k + 1) d) → EndsAt spots n → grouped (map seen spots) ≡ entry_of (take (n + 1) spots) ∷ grouped (map seen (drop (n + 1) spots))
+pub run_of : (n : ℕ) (spots : List Spot) → n < length spots → ((k : ℕ) (d : Spot) → k < n → value_at spots k d ≡ value_at spots (k + 1) d) → EndsAt spots n → grouped (map seen spots) ≡ group_entry (take (n + 1) spots) ∷ grouped (map seen (drop (n + 1) spots))
 run_of n [] h same e = absurd (omega arith)
 run_of zero (s ∷ spots) h same e = differs (seen s) (grouped (map seen spots)) (last_differs s spots e)
 run_of (suc n) (s ∷ []) h same e = absurd (omega arith)

@@ -3,16 +3,17 @@ use Rattle.std.proofs.Common.{◌≡◌, ℕ, ◌≤◌, Bool, true, false, List
 use Rattle.std.specs.Prelude.{All, nat_le, slice_get, slice_index_or}
 use Rattle.std.specs.Cmp.{IsTotalOrder}
 use Rattle.std.proofs.lemmas.List.{length-map}
+use Rattle.vpf_base.specs.Limits.{most_rows, most_bytes}
+use Rattle.vpf_base.specs.Bytes.{IsBytes}
 use Rattle.vpf_triplet.specs.declared.orders.Order.{Order}
 use Rattle.vpf_triplet.specs.declared.kinds.Count.{Count}
 use Rattle.vpf_triplet.specs.declared.kinds.Count.TheVariants.{Fixed, Star}
-use Rattle.vpf_triplet.specs.Numbers.{IsBytes}
 use Rattle.vpf_value.specs.Values.{Value, Nothing}
 use Rattle.vpf_value.specs.Fitting.{FitsCell}
 use Rattle.vpf_head.specs.Head.{Col}
 use Rattle.vpf_table.specs.Canonical.{IsWritable, in_order}
 use Rattle.vpf_table.specs.Grid.{Grid, Row}
-use Rattle.vpf_table.specs.Reading.{most_rows, table_of}
+use Rattle.vpf_table.specs.Reading.{table_of}
 use Rattle.vpf_table.specs.Spelling.{IsTable}
 use Rattle.vpf_theme.specs.declared.layout.Form.{Form}
 use Rattle.vpf_theme.specs.Layouts.{is_indexed}
@@ -20,7 +21,7 @@ use Rattle.vpf_theme.specs.Agreeing.{AgreesAt, AgreesWithColumn, ServesColumn}
 use Rattle.vpf_theme.specs.Findings.{cells_of}
 use Rattle.vpf_theme.specs.Ordering.{value_cmp}
 use Rattle.vpf_theme.specs.Reading.{theme_of}
-use Rattle.vpf_theme_build.specs.Building.{BuiltIndexesServe, CanIndex, built_by, index_for, layout_for, most_bytes}
+use Rattle.vpf_theme_build.specs.Building.{BuiltIndexesServe, CanIndex, built_by, index_for, layout_for}
 use Rattle.vpf_theme_build.specs.Grouping.{entries_for}
 use Rattle.vpf_theme_build.specs.Text.{index_len, index_text}
 use Rattle.vpf_theme_build.proofs.BuildLemmas.{cells_fit, has_values, limited_ok, one_column}

@@ -11,29 +11,29 @@ use Rattle.vpf_theme.specs.declared.layout.RowSize.{RowSize}
 use Rattle.vpf_theme.specs.declared.layout.RowSize.TheVariants as sizes
 use Rattle.vpf_theme.specs.declared.layout.Layout.{Layout}
 use Rattle.vpf_theme.specs.Layouts.{row_bytes}
-use Rattle.vpf_theme.specs.Spelling.{row_width, rows_text}
+use Rattle.vpf_theme.specs.Spelling.{row_width, row_numbers_text}
 use Rattle.vpf_theme.proofs.PieceLemmas.{length-row}
 use Rattle.vpf_theme_build.specs.declared.grouping.Spot.{Spot}
 use Rattle.vpf_theme_build.specs.declared.grouping.Group.{Group}
-use Rattle.vpf_theme_build.specs.Grouping.{IsGroup, cells_in, entry_in, row_of}
+use Rattle.vpf_theme_build.specs.Grouping.{IsGroup, cells_in, entry_in, spot_row}
 use Rattle.vpf_theme_build.specs.Text.{all_data, bitmap_byte, data_by, data_text, directory_text, entry_text}
 use Rattle.vpf_theme_build.specs.Writing.{data_len, data_len_by}
 
-pub rows_inside : (n : ℕ) (spots : List Spot) → All (λ row. (1 ≤ row) × (row ≤ n)) (map row_of spots) → (k : ℕ) (d : Spot) → k < length spots → (1 ≤ (get_or spots k d).row) × ((get_or spots k d).row ≤ n)
-rows_inside n spots h k d m = subst (λ (r : ℕ). (1 ≤ r) × (r ≤ n)) (get_or-map row_of spots k d 0 m) (h k 0 (omega (arith, length-map spots row_of)))
+pub rows_inside : (n : ℕ) (spots : List Spot) → All (λ row. (1 ≤ row) × (row ≤ n)) (map spot_row spots) → (k : ℕ) (d : Spot) → k < length spots → (1 ≤ (get_or spots k d).row) × ((get_or spots k d).row ≤ n)
+rows_inside n spots h k d m = subst (λ (r : ℕ). (1 ≤ r) × (r ≤ n)) (get_or-map spot_row spots k d 0 m) (h k 0 (omega (arith, length-map spots spot_row)))
 
 -- ---- lengths
 
-pub length-rows : (o : Order) (size : RowSize) (rows : List ℕ) → length (rows_text o size rows) ≡ length rows * row_bytes size
+pub length-rows : (o : Order) (size : RowSize) (rows : List ℕ) → length (row_numbers_text o size rows) ≡ length rows * row_bytes size
 length-rows o size [] = omega arith
-length-rows o size (row ∷ rows) = length-append (number o (row_width size) row) (rows_text o size rows) ∙ omega (arith, length-row o size row, length-rows o size rows)
+length-rows o size (row ∷ rows) = length-append (number o (row_width size) row) (row_numbers_text o size rows) ∙ omega (arith, length-row o size row, length-rows o size rows)
 
 data_case : (b : Bool) (text : List ℕ) (n : ℕ) → length text ≡ n → length (if b then [] else text) ≡ (if b then 0 else n)
 data_case true text n h = refl
 data_case false text n h = h
 
 length-data_by : (form : Form) (l : Layout) (rows : List ℕ) → length (data_by form l rows) ≡ data_len_by form l (length rows)
-length-data_by forms.List l rows = data_case (nat_eq (length rows) 1) (rows_text l.order l.row_size rows) (length rows * row_bytes l.row_size) (length-rows l.order l.row_size rows)
+length-data_by forms.List l rows = data_case (nat_eq (length rows) 1) (row_numbers_text l.order l.row_size rows) (length rows * row_bytes l.row_size) (length-rows l.order l.row_size rows)
 length-data_by forms.Bitmap l rows = length-map-range_with_len (bitmap_byte rows) 0 ((l.rows + 7) / 8)
 
 pub length-cells : (spots : List Spot) (g : Group) → IsGroup spots g → length (cells_in spots g) ≡ g.end - g.start
@@ -41,8 +41,8 @@ length-cells spots g h = omega (arith, h.0, h.1, length-take (g.end - g.start) (
 
 pub length-data : (l : Layout) (spots : List Spot) (g : Group) (n : ℕ) → IsGroup spots g → n ≡ data_len l (g.end - g.start) → n ≡ length (data_text l (entry_in spots g).rows)
 length-data l spots g n h e =
-    let a = length-data_by l.form l (map row_of (cells_in spots g)) in
-    let b = length-map (cells_in spots g) row_of ∙ length-cells spots g h in
+    let a = length-data_by l.form l (map spot_row (cells_in spots g)) in
+    let b = length-map (cells_in spots g) spot_row ∙ length-cells spots g h in
     e ∙ sym (rw b at a)
 
 -- ---- one more group

@@ -3,6 +3,7 @@ use Rattle.std.proofs.Common.{◌≡◌, ℕ, ◌+◌, ◌<◌, Bool, true, fals
 use Rattle.std.specs.Cmp.{IsTotalOrder}
 use Rattle.std.specs.List.{list_any}
 use Rattle.std.proofs.lemmas.Bool.{false≢true}
+use Rattle.vpf_base.proofs.Booleans.{or_true}
 use Rattle.vpf_value.specs.Values.{Value, Nothing}
 use Rattle.vpf_theme.specs.Ordering.{same_value, value_cmp}
 use Rattle.vpf_theme.specs.Entries.{found_in}
@@ -68,10 +69,6 @@ with_each P v (u ∷ us) a x = each_case P v u us (with_value v us) (value_cmp v
 pub values_each : (P : Value → Type 0) (cells : List Value) → Each P cells → Each P (values_of cells)
 values_each P [] x = tt
 values_each P (v ∷ cells) x = with_each P v (values_of cells) x.0 (values_each P cells x.1)
-
-or_true : (b : Bool) → (b || true) ≡ true
-or_true true = refl
-or_true false = refl
 
 or_same : (b c : Bool) → (b || (b || c)) ≡ (b || c)
 or_same true c = refl

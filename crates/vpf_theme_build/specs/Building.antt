@@ -1,9 +1,11 @@
 -- The thematic index that is built of a column.
-use Rattle.std.specs.Prelude.{◌≡◌, ◌<◌, ◌≤◌, ◌^◌, ℕ, All, slice_get, Some, nat_le, if◌then◌else◌, true, List, length, Result, Ok, Err}
+use Rattle.std.specs.Prelude.{◌≡◌, ◌<◌, ◌≤◌, ◌^◌, ℕ, All, slice_get, Option, Some, None, nat_le, if◌then◌else◌, true, List, length, Result, Ok, Err}
+use Rattle.vpf_base.specs.Limits.{most_bytes}
+use Rattle.vpf_base.specs.Bytes.{IsBytes}
+use Rattle.vpf_base.specs.Results.{Meets}
 use Rattle.vpf_triplet.specs.declared.orders.Order.{Order}
 use Rattle.vpf_triplet.specs.declared.kinds.Count.{Count}
 use Rattle.vpf_triplet.specs.declared.kinds.Count.TheVariants.{Fixed, Star}
-use Rattle.vpf_triplet.specs.Numbers.{IsBytes}
 use Rattle.vpf_value.specs.Values.{Value}
 use Rattle.vpf_value.specs.Fitting.{FitsCell}
 use Rattle.vpf_head.specs.Head.{Col}
@@ -20,10 +22,6 @@ use Rattle.vpf_theme_build.specs.declared.errors.BuildError.{BuildError}
 use Rattle.vpf_theme_build.specs.declared.errors.BuildError.TheVariants as errors
 use Rattle.vpf_theme_build.specs.Grouping.{entries_for, values_of}
 use Rattle.vpf_theme_build.specs.Text.{index_len, index_text, row_size_for}
-
--- the most bytes of a file
-abbrev pub most_bytes : ℕ
-most_bytes = 67108864
 
 -- what the header of an index of these cells says
 abbrev pub layout_for : Order → Form → Col → ℕ → List Value → Layout
@@ -44,22 +42,25 @@ pub record CanIndex (o : Order) (form : Form) (column : Col) (count : ℕ) (cell
   pub small : index_len (layout_for o form column count cells) (entries_for cells) ≤ most_bytes
 
 -- the bytes of an index, unless they are too many
-abbrev pub limited : ℕ → List ℕ → Result (List ℕ) BuildError
-limited size bytes = if nat_le size most_bytes then Ok bytes else Err (errors.Limit size)
+abbrev pub within_limit : ℕ → List ℕ → Result (List ℕ) BuildError
+within_limit size bytes = if nat_le size most_bytes then Ok bytes else Err (errors.Limit size)
 
 -- the bytes of the index of a column with this count
 abbrev pub built_by : Order → List ℕ → Form → Col → List Value → Count → Result (List ℕ) BuildError
 built_by o table form column cells (Fixed count) =
     let l = layout_for o form column count cells in
-    if is_indexed column.kind then limited (index_len l (entries_for cells)) (index_text l table column.name (entries_for cells)) else Err errors.Kind
+    if is_indexed column.kind then within_limit (index_len l (entries_for cells)) (index_text l table column.name (entries_for cells)) else Err errors.Kind
 built_by o table form column cells Star = Err errors.Kind
 
--- a call answered the bytes, or why there are none; of memory nothing is said
+-- why there are no bytes; of want of memory nothing is said
+abbrev pub reason_in : BuildError → Option BuildError
+reason_in errors.Kind = Some errors.Kind
+reason_in (errors.Limit size) = Some (errors.Limit size)
+reason_in errors.NoMemory = None
+
+-- a call answered the bytes, or why there are none
 abbrev pub Builds : {V : Type 0} → (V → List ℕ) → Result V BuildError → Result (List ℕ) BuildError → Type 0
-Builds bytes (Ok v) want = want ≡ Ok (bytes v)
-Builds bytes (Err errors.Kind) want = want ≡ Err errors.Kind
-Builds bytes (Err (errors.Limit size)) want = want ≡ Err (errors.Limit size)
-Builds bytes (Err errors.NoMemory) want = Unit {0}
+Builds bytes result want = Meets bytes reason_in result want
 
 -- the column at this position has this count and a kind that can be indexed
 abbrev pub CanBuild : Grid → ℕ → ℕ → Type 0

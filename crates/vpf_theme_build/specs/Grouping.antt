@@ -47,8 +47,8 @@ abbrev pub seen : Spot → Spotted
 seen s = (view s.cell, s.row)
 
 -- the row of a cell
-abbrev pub row_of : Spot → ℕ
-row_of s = s.row
+abbrev pub spot_row : Spot → ℕ
+spot_row s = s.row
 
 -- values that the order does not tell apart are equal
 abbrev pub AreOfOneField : List Value → Type 0
@@ -60,22 +60,22 @@ numbered at [] = []
 numbered at (v ∷ vs) = (v, at) ∷ numbered (at + 1) vs
 
 -- a cell joined to the entries of the cells behind it
-abbrev pub joined : Spotted → List Entry → List Entry
-joined p [] = record { value = p.0; rows = p.1 ∷ [] } ∷ []
-joined p (e ∷ es) = if same_value p.0 e.value then record { value = p.0; rows = p.1 ∷ e.rows } ∷ es else record { value = p.0; rows = p.1 ∷ [] } ∷ e ∷ es
+abbrev pub joined_spot : Spotted → List Entry → List Entry
+joined_spot p [] = record { value = p.0; rows = p.1 ∷ [] } ∷ []
+joined_spot p (e ∷ es) = if same_value p.0 e.value then record { value = p.0; rows = p.1 ∷ e.rows } ∷ es else record { value = p.0; rows = p.1 ∷ [] } ∷ e ∷ es
 
 -- the entries of cells of which equal ones stand side by side
 abbrev pub grouped : List Spotted → List Entry
 grouped [] = []
-grouped (p ∷ ps) = joined p (grouped ps)
+grouped (p ∷ ps) = joined_spot p (grouped ps)
 
 -- what is read past the last cell
 abbrev pub no_spot : Spotted
 no_spot = (Nothing, 0)
 
 -- the entry of cells of one value
-abbrev pub entry_of : List Spot → Entry
-entry_of spots = record { value = (slice_index_or (map seen spots) 0 no_spot).0; rows = map row_of spots }
+abbrev pub group_entry : List Spot → Entry
+group_entry spots = record { value = (slice_index_or (map seen spots) 0 no_spot).0; rows = map spot_row spots }
 
 -- the cells of a group
 abbrev pub cells_in : List Spot → Group → List Spot
@@ -83,7 +83,7 @@ cells_in spots g = slice_range spots g.start g.end
 
 -- the entry of a group
 abbrev pub entry_in : List Spot → Group → Entry
-entry_in spots g = entry_of (cells_in spots g)
+entry_in spots g = group_entry (cells_in spots g)
 
 -- a group of some cells
 abbrev pub IsGroup : List Spot → Group → Type 0
@@ -123,5 +123,5 @@ abbrev pub GoesOn : List Spot → ℕ → Type 0
 GoesOn spots i = (i + 1 < length spots) × ((d : Spot) → value_at spots i d ≡ value_at spots (i + 1) d)
 
 -- the column at this position has a kind that can be indexed
-abbrev pub IsIndexed : Grid → ℕ → Type 0
-IsIndexed grid c = (column : Col) → slice_get grid.head.columns c ≡ Some column → is_indexed column.kind ≡ true
+abbrev pub IsIndexable : Grid → ℕ → Type 0
+IsIndexable grid c = (column : Col) → slice_get grid.head.columns c ≡ Some column → is_indexed column.kind ≡ true

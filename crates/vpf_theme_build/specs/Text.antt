@@ -14,7 +14,7 @@ use Rattle.vpf_theme.specs.declared.layout.RowSize.TheVariants as sizes
 use Rattle.vpf_theme.specs.declared.layout.Layout.{Layout}
 use Rattle.vpf_theme.specs.Layouts.{directory_end, form_text, row_size_text}
 use Rattle.vpf_theme.specs.Entries.{Entry}
-use Rattle.vpf_theme.specs.Spelling.{rows_text}
+use Rattle.vpf_theme.specs.Spelling.{row_numbers_text}
 
 -- row numbers have 2 bytes where they are at most 32,767, and else 4
 abbrev pub row_size_for : ℕ → RowSize
@@ -29,12 +29,12 @@ abbrev pub bit_of : List ℕ → ℕ → ℕ → ℕ
 bit_of rows first b = if list_any (λ row. row == first + b) rows then 2 ^ b else 0
 
 -- the bits of n rows from `first` on, the least first
-abbrev pub bits_of : List ℕ → ℕ → ℕ → ℕ
-bits_of rows first n = sum (map (bit_of rows first) (range_with_len 0 n))
+abbrev pub row_bits : List ℕ → ℕ → ℕ → ℕ
+row_bits rows first n = sum (map (bit_of rows first) (range_with_len 0 n))
 
 -- byte j of a bitmap, which begins with row 8 * j + 1
 abbrev pub bitmap_byte : List ℕ → ℕ → ℕ
-bitmap_byte rows j = bits_of rows (8 * j + 1) 8
+bitmap_byte rows j = row_bits rows (8 * j + 1) 8
 
 -- a bitmap of n rows
 abbrev pub bitmap_text : ℕ → List ℕ → List ℕ
@@ -42,7 +42,7 @@ bitmap_text n rows = map (bitmap_byte rows) (range_with_len 0 ((n + 7) / 8))
 
 -- the data of an entry; a list of one row has none
 abbrev pub data_by : Form → Layout → List ℕ → List ℕ
-data_by forms.List l rows = if length rows == 1 then [] else rows_text l.order l.row_size rows
+data_by forms.List l rows = if length rows == 1 then [] else row_numbers_text l.order l.row_size rows
 data_by forms.Bitmap l rows = bitmap_text l.rows rows
 
 abbrev pub data_text : Layout → List ℕ → List ℕ

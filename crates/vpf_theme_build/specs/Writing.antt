@@ -10,7 +10,7 @@ use Rattle.vpf_theme.specs.declared.layout.Layout.{Layout}
 use Rattle.vpf_theme.specs.Layouts.{row_bytes}
 use Rattle.vpf_theme_build.specs.declared.grouping.Spot.{Spot}
 use Rattle.vpf_theme_build.specs.declared.grouping.Group.{Group}
-use Rattle.vpf_theme_build.specs.Grouping.{cells_in, row_of}
+use Rattle.vpf_theme_build.specs.Grouping.{cells_in, spot_row}
 use Rattle.vpf_theme_build.specs.Text.{row_size_for}
 
 -- an entry of so many rows is a list of one row
@@ -39,4 +39,4 @@ FitsSpot l s = FitsCell l.kind (Fixed l.count) (view s.cell)
 
 -- the rows of each group are those of an entry
 abbrev pub AreEntries : Layout → List Spot → List Group → Type 0
-AreEntries l spots groups = All (λ (g : Group). AreEntryRows l (map row_of (cells_in spots g))) groups
+AreEntries l spots groups = All (λ (g : Group). AreEntryRows l (map spot_row (cells_in spots g))) groups

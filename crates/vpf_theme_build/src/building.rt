@@ -1,6 +1,7 @@
 //! Thematic indexes of columns.
 
 ghost use Rattle.std.specs.Prelude.{◌≡◌, ◌<◌, ◌≤◌, ◌+◌, ◌++◌, ◌^◌, All, IfOk, OnOk, Some, length, map, slice_get};
+ghost use Rattle.vpf_base.specs.Limits.{most_bytes};
 ghost use Rattle.vpf_triplet.specs.declared.kinds.Count.{Count};
 ghost use Rattle.vpf_head.specs.Head.{Col};
 ghost use Rattle.vpf_theme.specs.Layouts.{HasValues, directory_end, is_indexed};
@@ -8,7 +9,7 @@ ghost use Rattle.vpf_theme.specs.Findings.{cells_of};
 ghost use Rattle.vpf_theme_build.specs.Grouping.{IsGroup, entry_in};
 ghost use Rattle.vpf_theme_build.specs.Text.{all_data, directory_text, index_len, index_text};
 ghost use Rattle.vpf_theme_build.specs.Writing.{AreEntries, FitsSpot};
-ghost use Rattle.vpf_theme_build.specs.Building.{AgreeAt, AreRead, Builds, CanBuild, built_by, limited, most_bytes};
+ghost use Rattle.vpf_theme_build.specs.Building.{AgreeAt, AreRead, Builds, CanBuild, built_by, within_limit};
 
 use crate::errors::BuildError;
 use crate::grouping::{Group, Spot, groups_of, sorted_spots};
@@ -16,12 +17,10 @@ use crate::heading::put_header;
 use crate::laws::{built_indexes_agree, built_indexes_are_read};
 use crate::writing::{data_len, put_data, put_entry, row_size_for};
 use std::alloc::{AllocError, Global};
+use vpf_base::limits::MOST_FILE_BYTES;
 use vpf_table::TableView;
 use vpf_theme::{Form, Layout};
 use vpf_triplet::{Count, Kind};
-
-/// The most bytes of a file.
-const MOST_BYTES: u64 = 67_108_864;
 
 /// Whether a kind can be indexed.
 fn is_indexed(kind: Kind) -> bool
@@ -136,10 +135,11 @@ fn finish(
     requires few { length groups.now < 2 ^ 24 }
     requires some { layout.now.rows < 2 ^ 24 }
     requires rows { AreEntries layout.now spots.now groups.now }
-    ensures { Builds (λ v. v.items) result (limited (index_len layout.now (map (entry_in spots.now) groups.now)) (index_text layout.now table.now column.now (map (entry_in spots.now) groups.now))) }
+    ensures { Builds (λ v. v.items) result (within_limit (index_len layout.now (map (entry_in spots.now) groups.now))
+        (index_text layout.now table.now column.now (map (entry_in spots.now) groups.now))) }
 {
     let size = index_len(layout, spots, groups);
-    if size > MOST_BYTES {
+    if size > MOST_FILE_BYTES {
         return Err(BuildError::Limit { size });
     }
     let size = size as usize;
@@ -156,7 +156,8 @@ fn build_fixed(
     form: Form,
 ) -> Result<Vec<u8>, BuildError>
     requires { CanBuild table.now column count }
-    ensures bytes { (c : Col) → slice_get table.now.head.columns column ≡ Some c → Builds (λ v. v.items) result (built_by table.now.head.order table_name.now form c (cells_of table.now column) (Count.Fixed count)) }
+    ensures bytes { (c : Col) → slice_get table.now.head.columns column ≡ Some c
+        → Builds (λ v. v.items) result (built_by table.now.head.order table_name.now form c (cells_of table.now column) (Count.Fixed count)) }
     ensures opened { IfOk result (λ v. AreRead table.now column form v.items) }
     ensures agrees { IfOk result (λ v. AgreeAt table.now column v.items) }
 {
@@ -196,7 +197,8 @@ pub fn build(
 ) -> Result<Vec<u8>, BuildError>
     requires { column < length table.now.head.columns }
     // The bytes of the index, or why there are none.
-    ensures bytes { (c : Col) → slice_get table.now.head.columns column ≡ Some c → Builds (λ v. v.items) result (built_by table.now.head.order table_name.now form c (cells_of table.now column) c.count) }
+    ensures bytes { (c : Col) → slice_get table.now.head.columns column ≡ Some c
+        → Builds (λ v. v.items) result (built_by table.now.head.order table_name.now form c (cells_of table.now column) c.count) }
     // These bytes are read as the index of the column's cells.
     ensures opened { IfOk result (λ v. AreRead table.now column form v.items) }
     // The index that they are read as agrees with the column.

@@ -2,7 +2,7 @@
 
 ghost use Rattle.std.specs.Prelude.{◌≡◌, ◌<◌, All, IfOk, MatchBool, OnOk, length, map};
 ghost use Rattle.vpf_theme.specs.Findings.{cells_of};
-ghost use Rattle.vpf_theme_build.specs.Grouping.{EndsAt, FitColumn, GoesOn, IsGroup, IsIndexed, Sorts, entries_for, entry_in, grouped, numbered, seen};
+ghost use Rattle.vpf_theme_build.specs.Grouping.{EndsAt, FitColumn, GoesOn, IsGroup, IsIndexable, Sorts, entries_for, entry_in, grouped, numbered, seen};
 
 use std::alloc::{AllocError, Global};
 use vpf_table::TableView;
@@ -66,7 +66,7 @@ pub fn sorted_spots<'a>(
     column: usize,
 ) -> Result<Vec<Spot<'a>>, AllocError>
     requires column { column < length table.now.head.columns }
-    requires indexed { IsIndexed table.now column }
+    requires indexed { IsIndexable table.now column }
     ensures entries { IfOk result (λ spots. grouped (map seen spots.items) ≡ entries_for (cells_of table.now column)) }
     ensures fits { IfOk result (λ spots. FitColumn table.now column spots.items) }
     ensures len { IfOk result (λ spots. length spots.items ≡ length table.now.rows) }

@@ -1,13 +1,11 @@
 //! The header of a thematic index, written.
 
 ghost use Rattle.std.specs.Prelude.{◌≡◌, ◌<◌, ◌++◌, ◌^◌, OnOk};
-ghost use Rattle.vpf_triplet.specs.Kinds.{kind_text};
 ghost use Rattle.vpf_theme.specs.Layouts.{HasValues, directory_end, form_text, row_size_text};
 ghost use Rattle.vpf_theme_build.specs.Text.{header_text, spaced};
 
 use std::alloc::AllocError;
 use vpf_theme::{Form, Layout, RowSize};
-use vpf_triplet::Kind;
 
 /// The bytes of the header that name the table's file.
 const TABLE_NAME_BYTES: usize = 12;
@@ -32,29 +30,6 @@ fn row_size_text(size: RowSize) -> &'static [u8]
     match size {
         RowSize::Short => b"S",
         RowSize::Long => b"I",
-    }
-}
-
-/// The letter of a kind.
-fn kind_text(kind: Kind) -> &'static [u8]
-    ensures { result.now ≡ kind_text kind }
-{
-    match kind {
-        Kind::T => b"T",
-        Kind::L => b"L",
-        Kind::M => b"M",
-        Kind::N => b"N",
-        Kind::F => b"F",
-        Kind::R => b"R",
-        Kind::S => b"S",
-        Kind::I => b"I",
-        Kind::D => b"D",
-        Kind::X => b"X",
-        Kind::K => b"K",
-        Kind::C => b"C",
-        Kind::B => b"B",
-        Kind::Z => b"Z",
-        Kind::Y => b"Y",
     }
 }
 
@@ -85,7 +60,7 @@ pub fn put_header(
     order.put_u32(layout.entries, out)?;
     order.put_u32(layout.rows, out)?;
     out.extend_from_slice(form_text(layout.form))?;
-    out.extend_from_slice(kind_text(layout.kind))?;
+    out.extend_from_slice(layout.kind.letter().as_bytes())?;
     order.put_u32(layout.count, out)?;
     out.extend_from_slice(row_size_text(layout.row_size))?;
     put_spaced(table, TABLE_NAME_BYTES, out)?;

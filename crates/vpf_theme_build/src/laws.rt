@@ -21,7 +21,8 @@ use vpf_value::laws::fitting_is_written;
 
 /// The index that is built of a column agrees with it.
 pub fn built_indexes_agree()
-    ensures { (form : Form) (column : Col) (count : ℕ) (cells : List Value) → column.count ≡ Count.Fixed count → is_indexed column.kind ≡ true → All (FitsCell column.kind column.count) cells → AgreesWithColumn (index_for form column count cells) column cells }
+    ensures { (form : Form) (column : Col) (count : ℕ) (cells : List Value) → column.count ≡ Count.Fixed count → is_indexed column.kind ≡ true
+        → All (FitsCell column.kind column.count) cells → AgreesWithColumn (index_for form column count cells) column cells }
 {
     values_are_ordered();
 }
@@ -29,7 +30,9 @@ pub fn built_indexes_agree()
 /// The bytes that are built of the cells of a column are a file of the index of these cells, whatever the table's file is
 /// called.
 pub fn built_indexes_are_spelled()
-    ensures { (order : Order) (form : Form) (column : Col) (count : ℕ) (cells : List Value) (table : List ℕ) → CanIndex order form column count cells → IsThematicIndex order (index_for form column count cells) (index_text (layout_for order form column count cells) table column.name (entries_for cells)) }
+    ensures { (order : Order) (form : Form) (column : Col) (count : ℕ) (cells : List Value) (table : List ℕ) → CanIndex order form column count cells
+        → IsThematicIndex order (index_for form column count cells) (index_text (layout_for order form column count cells) table column.name
+        (entries_for cells)) }
 {
     values_are_ordered();
     fitting_is_written();
@@ -37,7 +40,9 @@ pub fn built_indexes_are_spelled()
 
 /// They are read as that index.
 pub fn built_indexes_are_read()
-    ensures { (order : Order) (form : Form) (column : Col) (count : ℕ) (cells : List Value) (table : List ℕ) → CanIndex order form column count cells → theme_of order (index_text (layout_for order form column count cells) table column.name (entries_for cells)) ≡ Ok (index_for form column count cells) }
+    ensures { (order : Order) (form : Form) (column : Col) (count : ℕ) (cells : List Value) (table : List ℕ) → CanIndex order form column count cells
+        → theme_of order (index_text (layout_for order form column count cells) table column.name (entries_for cells))
+        ≡ Ok (index_for form column count cells) }
 {
     built_indexes_are_spelled();
     spelled_is_read();

@@ -4,9 +4,9 @@ ghost use Rattle.std.specs.Prelude.{◌≡◌, ◌<◌, ◌≤◌, ◌+◌, ◌/
 ghost use Rattle.std.specs.List.{list_any};
 ghost use Rattle.std.specs.List.Sorted.{IsStrictlyIncreasing};
 ghost use Rattle.vpf_triplet.specs.Numbers.{number};
-ghost use Rattle.vpf_theme.specs.Spelling.{row_width, rows_text};
-ghost use Rattle.vpf_theme_build.specs.Grouping.{IsNext, entry_of, row_of};
-ghost use Rattle.vpf_theme_build.specs.Text.{bitmap_text, bits_of, count_by, data_text, entry_text, offset_by, row_size_for};
+ghost use Rattle.vpf_theme.specs.Spelling.{row_width, row_numbers_text};
+ghost use Rattle.vpf_theme_build.specs.Grouping.{IsNext, group_entry, spot_row};
+ghost use Rattle.vpf_theme_build.specs.Text.{bitmap_text, row_bits, count_by, data_text, entry_text, offset_by, row_size_for};
 ghost use Rattle.vpf_theme_build.specs.Writing.{AreEntryRows, FitsSpot, data_len, is_alone};
 
 use crate::grouping::Spot;
@@ -45,7 +45,7 @@ fn put_row(layout: &Layout, row: u32, out: &mut Vec<u8>) -> Result<(), AllocErro
 fn put_rows(layout: &Layout, spots: &[Spot<'_>], out: &mut Vec<u8>) -> Result<(), AllocError>
     requires size { layout.now.row_size ≡ row_size_for layout.now.rows }
     requires rows { All (λ s. s.row ≤ layout.now.rows) spots.now }
-    ensures { OnOk result (out.new.items ≡ out.old.items ++ rows_text layout.now.order layout.now.row_size (map row_of spots.now)) }
+    ensures { OnOk result (out.new.items ≡ out.old.items ++ row_numbers_text layout.now.order layout.now.row_size (map spot_row spots.now)) }
 {
     for spot in spots {
         put_row(layout, spot.row, out)?;
@@ -55,10 +55,10 @@ fn put_rows(layout: &Layout, spots: &[Spot<'_>], out: &mut Vec<u8>) -> Result<()
 
 /// Whether the row is that of spot `next`, where the rows of the spots before are below it.
 fn is_next(spots: &[Spot<'_>], next: usize, row: u32) -> bool
-    requires next { IsNext (map row_of spots.now) next row }
-    requires rise { IsStrictlyIncreasing (map row_of spots.now) }
-    ensures row { result ≡ list_any (λ r. r == row) (map row_of spots.now) }
-    ensures behind { MatchBool result (IsNext (map row_of spots.now) (next + 1) (row + 1)) (IsNext (map row_of spots.now) next (row + 1)) }
+    requires next { IsNext (map spot_row spots.now) next row }
+    requires rise { IsStrictlyIncreasing (map spot_row spots.now) }
+    ensures row { result ≡ list_any (λ r. r == row) (map spot_row spots.now) }
+    ensures behind { MatchBool result (IsNext (map spot_row spots.now) (next + 1) (row + 1)) (IsNext (map spot_row spots.now) next (row + 1)) }
 {
     next < spots.len() && spots[next].row == row
 }
@@ -67,10 +67,10 @@ fn is_next(spots: &[Spot<'_>], next: usize, row: u32) -> bool
 /// the bits.
 fn byte_at(spots: &[Spot<'_>], next: usize, first: u32) -> (u8, usize)
     requires few { first + 8 < 2 ^ 32 }
-    requires next { IsNext (map row_of spots.now) next first }
-    requires rise { IsStrictlyIncreasing (map row_of spots.now) }
-    ensures byte { result.0 ≡ bits_of (map row_of spots.now) first 8 }
-    ensures next { IsNext (map row_of spots.now) result.1 (first + 8) }
+    requires next { IsNext (map spot_row spots.now) next first }
+    requires rise { IsStrictlyIncreasing (map spot_row spots.now) }
+    ensures byte { result.0 ≡ row_bits (map spot_row spots.now) first 8 }
+    ensures next { IsNext (map spot_row spots.now) result.1 (first + 8) }
 {
     let mut byte = 0;
     let mut behind = next;
@@ -94,8 +94,8 @@ fn bitmap_len(rows: u32) -> usize
 fn put_bitmap(rows: u32, spots: &[Spot<'_>], out: &mut Vec<u8>) -> Result<(), AllocError>
     requires few { rows < 2 ^ 24 }
     requires first { All (λ s. 1 ≤ s.row) spots.now }
-    requires rise { IsStrictlyIncreasing (map row_of spots.now) }
-    ensures { OnOk result (out.new.items ≡ out.old.items ++ bitmap_text rows (map row_of spots.now)) }
+    requires rise { IsStrictlyIncreasing (map spot_row spots.now) }
+    ensures { OnOk result (out.new.items ≡ out.old.items ++ bitmap_text rows (map spot_row spots.now)) }
 {
     let mut next = 0;
     for j in 0..bitmap_len(rows) {
@@ -129,8 +129,8 @@ pub fn data_len(layout: &Layout, rows: usize) -> usize
 
 /// Appends the data of an entry.
 pub fn put_data(layout: &Layout, spots: &[Spot<'_>], out: &mut Vec<u8>) -> Result<(), AllocError>
-    requires { AreEntryRows layout.now (map row_of spots.now) }
-    ensures { OnOk result (out.new.items ≡ out.old.items ++ data_text layout.now (map row_of spots.now)) }
+    requires { AreEntryRows layout.now (map spot_row spots.now) }
+    ensures { OnOk result (out.new.items ≡ out.old.items ++ data_text layout.now (map spot_row spots.now)) }
 {
     if is_alone(layout, spots.len()) {
         return Ok(());
@@ -145,8 +145,8 @@ pub fn put_data(layout: &Layout, spots: &[Spot<'_>], out: &mut Vec<u8>) -> Resul
 fn extent_of(layout: &Layout, at: u32, spots: &[Spot<'_>]) -> (u32, u32)
     requires some { 0 < length spots.now }
     requires few { length spots.now < 2 ^ 32 }
-    ensures offset { result.0 ≡ offset_by layout.now.form at (map row_of spots.now) }
-    ensures count { result.1 ≡ count_by layout.now.form layout.now (map row_of spots.now) }
+    ensures offset { result.0 ≡ offset_by layout.now.form at (map spot_row spots.now) }
+    ensures count { result.1 ≡ count_by layout.now.form layout.now (map spot_row spots.now) }
 {
     if is_alone(layout, spots.len()) {
         return (spots[0].row, 0);
@@ -167,7 +167,7 @@ pub fn put_entry(
     requires some { 0 < length spots.now }
     requires few { length spots.now < 2 ^ 32 }
     requires fits { All (FitsSpot layout.now) spots.now }
-    ensures { OnOk result (out.new.items ≡ out.old.items ++ entry_text layout.now at (entry_of spots.now)) }
+    ensures { OnOk result (out.new.items ≡ out.old.items ++ entry_text layout.now at (group_entry spots.now)) }
 {
     let (offset, count) = extent_of(layout, at, spots);
     put_cell(

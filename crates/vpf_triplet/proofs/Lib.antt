@@ -2,3 +2,5 @@ pub mod Spelled
 pub mod Faults
 pub mod Decided
 pub mod Canonicals
+pub mod NumberLemmas
+pub mod KindLemmas

@@ -1,47 +1,23 @@
 -- What is read is spelled so, and what is spelled so is read.
-use Rattle.std.proofs.Common.{ltb-true, take-add, ◌≡◌, ℕ, zero, suc, ◌+◌, ◌*◌, ◌/◌, ◌%◌, ◌<◌, ◌≤◌, Bool, true, false, cond, ltb, eqb, List, [], ◌∷◌, ◌++◌, length, take, drop, Option, Some, None, Result, Ok, Err, refl, sym, ap, subst, ◌∙◌, append_assoc, arith, inl, inr}
-use Rattle.std.specs.Prelude.{◌&&◌}
-use Rattle.std.proofs.lemmas.Bool.{cases_lt, lt-ltb, ltb-false, le-ltb, eqb-true, eq-eqb}
-use Rattle.std.proofs.lemmas.List.{drop_at, length-append, length-take, length-drop, get_or-drop, get_or-take, get_or_past}
+use Rattle.std.proofs.Common.{ltb-true, take-add, ◌≡◌, ℕ, zero, suc, ◌+◌, ◌*◌, ◌/◌, ◌%◌, ◌<◌, ◌≤◌, true, false, ltb, eqb, List, [], ◌∷◌, ◌++◌, length, take, drop, Option, Some, None, Ok, refl, sym, ap, subst, ◌∙◌, append_assoc, arith}
+use Rattle.std.proofs.lemmas.Bool.{lt-ltb, ltb-false, le-ltb, eqb-true, eq-eqb}
+use Rattle.std.proofs.lemmas.List.{drop_at, length-append, length-drop}
 use Rattle.std.proofs.lemmas.Nat.{le_bytes_2, be_bytes_2, le_bytes_4, be_bytes_4, from_le_bytes-to_le_bytes_2, from_be_bytes-to_be_bytes_2, from_le_bytes-to_le_bytes_4, from_be_bytes-to_be_bytes_4}
+use Rattle.vpf_base.specs.Bytes.{IsBytes}
+use Rattle.vpf_base.proofs.Booleans.{both}
+use Rattle.vpf_base.proofs.Results.{ok_is, passed, guarded}
+use Rattle.vpf_base.proofs.ByteLists.{IsBytes-drop, IsBytes-take}
 use Rattle.vpf_triplet.specs.declared.orders.Order.{Order}
 use Rattle.vpf_triplet.specs.declared.orders.Order.TheVariants.{Little, Big}
-use Rattle.vpf_triplet.specs.declared.places.Code.{Code}
 use Rattle.vpf_triplet.specs.declared.sizes.Size.{Size}
 use Rattle.vpf_triplet.specs.declared.sizes.Size.TheVariants.{Absent, One, Two, Four}
 use Rattle.vpf_triplet.specs.declared.triplets.Triplet.{Triplet}
-use Rattle.vpf_triplet.specs.Numbers.{IsBytes}
-use Rattle.vpf_triplet.specs.Sizes.{size_of, bytes_of, part_of}
-use Rattle.vpf_triplet.specs.Spelling.{bits_of, Holds, part, type_byte, spelling, IsTriplet}
+use Rattle.vpf_triplet.specs.Sizes.{size_of, size_bytes, part_of}
+use Rattle.vpf_triplet.specs.Spelling.{bits_of, HoldsPart, part, type_byte, spelling, IsTriplet}
 use Rattle.vpf_triplet.specs.Reading.{is_small, parts_at, triplet_at}
-
-pub IsBytes-drop : (n : ℕ) (bytes : List ℕ) → IsBytes bytes → IsBytes (drop n bytes)
-IsBytes-drop n bytes h i = rw get_or-drop (h (n + i))
-
-pub IsBytes-take : (n : ℕ) (bytes : List ℕ) → IsBytes bytes → IsBytes (take n bytes)
-IsBytes-take n bytes h i =
-    elim (cases_lt i n) [
-      | inl lt ↦ rw (get_or-take n bytes i 0 lt) (h i)
-      | inr le ↦ rw (get_or_past (take n bytes) i 0 (omega (arith, length-take n bytes))) (omega arith)
-    ]
 
 IsBytes-two : (x y : ℕ) (bytes : List ℕ) → IsBytes (x ∷ y ∷ bytes) → IsBytes (x ∷ y ∷ [])
 IsBytes-two x y bytes h = IsBytes-take 2 (x ∷ y ∷ bytes) h
-
-abbrev done : {A : Type 0} → A → Result A Code
-done x = Ok x
-
-pub ok_is : {A : Type 0} (x y : A) → done x ≡ done y → x ≡ y
-ok_is x y e = cc
-
--- a test that did not fail
-pub passed : {A : Type 0} (b : Bool) (d : Code) (r : Result A Code) (y : A) → cond b r (Err d) ≡ Ok y → (b ≡ true) × (r ≡ Ok y)
-passed true d r y e = (refl, e)
-passed false d r y e = absurd cc
-
-pub guarded : {A : Type 0} (b : Bool) (d : Code) (r : Result A Code) (y : A) → cond b (Err d) r ≡ Ok y → (b ≡ false) × (r ≡ Ok y)
-guarded true d r y e = absurd cc
-guarded false d r y e = (refl, e)
 
 size_back : (s : Size) → size_of (bits_of s) ≡ s
 size_back Absent = refl
@@ -78,7 +54,7 @@ reserved a b c = omega arith
 
 -- ---- parts
 
-pub length-part : (o : Order) (s : Size) (v : Option ℕ) → Holds s v → length (part o s v) ≡ bytes_of s
+pub length-part : (o : Order) (s : Size) (v : Option ℕ) → HoldsPart s v → length (part o s v) ≡ size_bytes s
 length-part o Absent None h = refl
 length-part o Absent (Some n) h = absurd h
 length-part o One None h = absurd h
@@ -90,7 +66,7 @@ length-part o Four None h = absurd h
 length-part Little Four (Some n) h = refl
 length-part Big Four (Some n) h = refl
 
-part_again : (o : Order) (s : Size) (v : Option ℕ) (rest : List ℕ) → Holds s v → part_of o s (part o s v ++ rest) ≡ v
+part_again : (o : Order) (s : Size) (v : Option ℕ) (rest : List ℕ) → HoldsPart s v → part_of o s (part o s v ++ rest) ≡ v
 part_again o Absent None rest h = refl
 part_again o Absent (Some n) rest h = absurd h
 part_again o One None rest h = absurd h
@@ -102,7 +78,7 @@ part_again o Four None rest h = absurd h
 part_again Little Four (Some n) rest h = ap (λ (k : ℕ). Some k) (from_le_bytes-to_le_bytes_4 n (omega arith))
 part_again Big Four (Some n) rest h = ap (λ (k : ℕ). Some k) (from_be_bytes-to_be_bytes_4 n (omega arith))
 
-pub small_again : (s : Size) (v : Option ℕ) → Holds s v → is_small v ≡ true
+pub small_again : (s : Size) (v : Option ℕ) → HoldsPart s v → is_small v ≡ true
 small_again s None h = refl
 small_again Absent (Some n) h = absurd h
 small_again One (Some n) h = lt-ltb _ _ (omega arith)
@@ -111,8 +87,8 @@ small_again Four (Some n) h = lt-ltb _ _ h
 
 -- ---- triplets
 
-pub parts_again : (o : Order) (a b c : Size) (t : Triplet) (rest : List ℕ) → Holds a t.id → Holds b t.tile → Holds c t.ext
-    → parts_at o a b c ((part o a t.id ++ (part o b t.tile ++ part o c t.ext)) ++ rest) ≡ Ok (t, 1 + (bytes_of a + bytes_of b + bytes_of c))
+pub parts_again : (o : Order) (a b c : Size) (t : Triplet) (rest : List ℕ) → HoldsPart a t.id → HoldsPart b t.tile → HoldsPart c t.ext
+    → parts_at o a b c ((part o a t.id ++ (part o b t.tile ++ part o c t.ext)) ++ rest) ≡ Ok (t, 1 + (size_bytes a + size_bytes b + size_bytes c))
 unfolding parts_at
 parts_again o a b c t rest p q r =
     let la = length-part o a t.id p in
@@ -123,10 +99,10 @@ parts_again o a b c t rest p q r =
     let z = part o c t.ext in
     let regrouped : (x ++ (y ++ z)) ++ rest ≡ x ++ (y ++ (z ++ rest)) = simp append_assoc in
     let regrouped2 : x ++ (y ++ (z ++ rest)) ≡ (x ++ y) ++ (z ++ rest) = simp append_assoc in
-    let lxy : length (x ++ y) ≡ bytes_of a + bytes_of b = length-append x y ∙ omega arith in
-    let long : ltb (length (x ++ (y ++ (z ++ rest)))) (bytes_of a + bytes_of b + bytes_of c) ≡ false = le-ltb _ _ (omega (arith, length-append x (y ++ (z ++ rest)), length-append y (z ++ rest), length-append z rest)) in
-    let third : drop (bytes_of a + bytes_of b) (x ++ (y ++ (z ++ rest))) ≡ z ++ rest = rw regrouped2 (drop_at (x ++ y) (z ++ rest) (bytes_of a + bytes_of b) lxy) in
-    ap (parts_at o a b c) regrouped ∙ rw (long, part_again o a t.id (y ++ (z ++ rest)) p, drop_at x (y ++ (z ++ rest)) (bytes_of a) la, part_again o b t.tile (z ++ rest) q, third, part_again o c t.ext rest r, small_again a t.id p, small_again b t.tile q, small_again c t.ext r) refl
+    let lxy : length (x ++ y) ≡ size_bytes a + size_bytes b = length-append x y ∙ omega arith in
+    let long : ltb (length (x ++ (y ++ (z ++ rest)))) (size_bytes a + size_bytes b + size_bytes c) ≡ false = le-ltb _ _ (omega (arith, length-append x (y ++ (z ++ rest)), length-append y (z ++ rest), length-append z rest)) in
+    let third : drop (size_bytes a + size_bytes b) (x ++ (y ++ (z ++ rest))) ≡ z ++ rest = rw regrouped2 (drop_at (x ++ y) (z ++ rest) (size_bytes a + size_bytes b) lxy) in
+    ap (parts_at o a b c) regrouped ∙ rw (long, part_again o a t.id (y ++ (z ++ rest)) p, drop_at x (y ++ (z ++ rest)) (size_bytes a) la, part_again o b t.tile (z ++ rest) q, third, part_again o c t.ext rest r, small_again a t.id p, small_again b t.tile q, small_again c t.ext r) refl
 
 -- the sizes that a type byte says
 pub type_back : (o : Order) (a b c : Size) (rest : List ℕ) → triplet_at o (type_byte a b c ∷ rest) ≡ parts_at o a b c rest
@@ -151,15 +127,15 @@ triplet_again o t text rest s =
     let b = s.tile in
     let c = s.ext in
     let body = part o a t.id ++ (part o b t.tile ++ part o c t.ext) in
-    let len : length (spelling o a b c t) ≡ 1 + (bytes_of a + bytes_of b + bytes_of c) = omega (arith, length-append (part o a t.id) (part o b t.tile ++ part o c t.ext), length-append (part o b t.tile) (part o c t.ext), length-part o a t.id s.holds_id, length-part o b t.tile s.holds_tile, length-part o c t.ext s.holds_ext) in
-    let read : triplet_at o (type_byte a b c ∷ (body ++ rest)) ≡ Ok (t, 1 + (bytes_of a + bytes_of b + bytes_of c)) = type_back o a b c (body ++ rest) ∙ parts_again o a b c t rest s.holds_id s.holds_tile s.holds_ext in
+    let len : length (spelling o a b c t) ≡ 1 + (size_bytes a + size_bytes b + size_bytes c) = omega (arith, length-append (part o a t.id) (part o b t.tile ++ part o c t.ext), length-append (part o b t.tile) (part o c t.ext), length-part o a t.id s.holds_id, length-part o b t.tile s.holds_tile, length-part o c t.ext s.holds_ext) in
+    let read : triplet_at o (type_byte a b c ∷ (body ++ rest)) ≡ Ok (t, 1 + (size_bytes a + size_bytes b + size_bytes c)) = type_back o a b c (body ++ rest) ∙ parts_again o a b c t rest s.holds_id s.holds_tile s.holds_ext in
     let goal : triplet_at o (spelling o a b c t ++ rest) ≡ Ok (t, length (spelling o a b c t)) = rw len read in
     subst (λ (x : List ℕ). triplet_at o (x ++ rest) ≡ Ok (t, length x)) (sym s.spelled) goal
 
 -- ---- the other way
 
-part_takes : (o : Order) (s : Size) (bytes : List ℕ) → IsBytes bytes → bytes_of s ≤ length bytes → is_small (part_of o s bytes) ≡ true
-    → Holds s (part_of o s bytes) × (part o s (part_of o s bytes) ≡ take (bytes_of s) bytes)
+part_takes : (o : Order) (s : Size) (bytes : List ℕ) → IsBytes bytes → size_bytes s ≤ length bytes → is_small (part_of o s bytes) ≡ true
+    → HoldsPart s (part_of o s bytes) × (part o s (part_of o s bytes) ≡ take (size_bytes s) bytes)
 part_takes o Absent bytes fits h e = (tt, refl)
 part_takes o One [] fits h e = absurd (omega arith)
 part_takes o One (x ∷ bytes) fits h e = (omega (arith, fits 0), refl)
@@ -174,31 +150,26 @@ part_takes o Four (x ∷ y ∷ z ∷ []) fits h e = absurd (omega arith)
 part_takes Little Four (x ∷ y ∷ z ∷ w ∷ bytes) fits h e = (ltb-true _ _ e, le_bytes_4 (x ∷ y ∷ z ∷ w ∷ []) _ refl (IsBytes-take 4 (x ∷ y ∷ z ∷ w ∷ bytes) fits) refl)
 part_takes Big Four (x ∷ y ∷ z ∷ w ∷ bytes) fits h e = (ltb-true _ _ e, be_bytes_4 (x ∷ y ∷ z ∷ w ∷ []) _ refl (IsBytes-take 4 (x ∷ y ∷ z ∷ w ∷ bytes) fits) refl)
 
-both : (a b : Bool) → (a && b) ≡ true → (a ≡ true) × (b ≡ true)
-both true true e = (refl, refl)
-both true false e = absurd cc
-both false b e = absurd cc
-
 parts_take : (o : Order) (a b c : Size) (rest : List ℕ) (t : Triplet) (n : ℕ) → IsBytes rest → parts_at o a b c rest ≡ Ok (t, n)
-    → (n ≡ 1 + (bytes_of a + bytes_of b + bytes_of c)) × (bytes_of a + bytes_of b + bytes_of c ≤ length rest) × Holds a t.id × Holds b t.tile × Holds c t.ext
-    × (take (bytes_of a + bytes_of b + bytes_of c) rest ≡ part o a t.id ++ (part o b t.tile ++ part o c t.ext))
+    → (n ≡ 1 + (size_bytes a + size_bytes b + size_bytes c)) × (size_bytes a + size_bytes b + size_bytes c ≤ length rest) × HoldsPart a t.id × HoldsPart b t.tile × HoldsPart c t.ext
+    × (take (size_bytes a + size_bytes b + size_bytes c) rest ≡ part o a t.id ++ (part o b t.tile ++ part o c t.ext))
 unfolding parts_at
 parts_take o a b c rest t n fits e =
     let g = guarded _ _ _ _ e in
     let p = passed _ _ _ _ g.1 in
-    let long : bytes_of a + bytes_of b + bytes_of c ≤ length rest = ltb-false _ _ g.0 in
-    let rest2 = drop (bytes_of a) rest in
-    let rest3 = drop (bytes_of a + bytes_of b) rest in
+    let long : size_bytes a + size_bytes b + size_bytes c ≤ length rest = ltb-false _ _ g.0 in
+    let rest2 = drop (size_bytes a) rest in
+    let rest3 = drop (size_bytes a + size_bytes b) rest in
     let s1 = both _ _ p.0 in
     let s2 = both _ _ s1.0 in
     let t1 = part_takes o a rest fits (omega arith) s2.0 in
-    let t2 = part_takes o b rest2 (IsBytes-drop _ _ fits) (omega (arith, length-drop (bytes_of a) rest)) s2.1 in
-    let t3 = part_takes o c rest3 (IsBytes-drop _ _ fits) (omega (arith, length-drop (bytes_of a + bytes_of b) rest)) s1.1 in
+    let t2 = part_takes o b rest2 (IsBytes-drop _ _ fits) (omega (arith, length-drop (size_bytes a) rest)) s2.1 in
+    let t3 = part_takes o c rest3 (IsBytes-drop _ _ fits) (omega (arith, length-drop (size_bytes a + size_bytes b) rest)) s1.1 in
     let got : Triplet = record { id = part_of o a rest; tile = part_of o b rest2; ext = part_of o c rest3 } in
-    let is = ok_is (got, 1 + (bytes_of a + bytes_of b + bytes_of c)) (t, n) p.1 in
-    subst (λ (x : Triplet × ℕ). (x.1 ≡ 1 + (bytes_of a + bytes_of b + bytes_of c)) × (bytes_of a + bytes_of b + bytes_of c ≤ length rest) × Holds a x.0.id × Holds b x.0.tile × Holds c x.0.ext
-    × (take (bytes_of a + bytes_of b + bytes_of c) rest ≡ part o a x.0.id ++ (part o b x.0.tile ++ part o c x.0.ext))) is
-    (refl, long, t1.0, t2.0, t3.0, rw (t1.1, t2.1, t3.1) (take-add (bytes_of a + bytes_of b) (bytes_of c) rest ∙ rw (take-add (bytes_of a) (bytes_of b) rest) (append_assoc (take (bytes_of a) rest) (take (bytes_of b) rest2) (take (bytes_of c) rest3))))
+    let is = ok_is {x = (got, 1 + (size_bytes a + size_bytes b + size_bytes c))} {y = (t, n)} p.1 in
+    subst (λ (x : Triplet × ℕ). (x.1 ≡ 1 + (size_bytes a + size_bytes b + size_bytes c)) × (size_bytes a + size_bytes b + size_bytes c ≤ length rest) × HoldsPart a x.0.id × HoldsPart b x.0.tile × HoldsPart c x.0.ext
+    × (take (size_bytes a + size_bytes b + size_bytes c) rest ≡ part o a x.0.id ++ (part o b x.0.tile ++ part o c x.0.ext))) is
+    (refl, long, t1.0, t2.0, t3.0, rw (t1.1, t2.1, t3.1) (take-add (size_bytes a + size_bytes b) (size_bytes c) rest ∙ rw (take-add (size_bytes a) (size_bytes b) rest) (append_assoc (take (size_bytes a) rest) (take (size_bytes b) rest2) (take (size_bytes c) rest3))))
 
 pub triplet_takes : (o : Order) (bytes : List ℕ) (t : Triplet) (n : ℕ) → IsBytes bytes → triplet_at o bytes ≡ Ok (t, n) → (n ≤ length bytes) × IsTriplet o t (take n bytes)
 unfolding triplet_at
@@ -211,7 +182,7 @@ triplet_takes o (first ∷ rest) t n fits e =
     let low2 : first % 4 ≡ 0 = eqb-true _ _ p.0 in
     let k = parts_take o a b c rest t n (λ i. fits (suc i)) p.1 in
     let first_is : type_byte a b c ≡ first = type_parts first (fits 0) low2 in
-    let n_is : n ≡ suc (bytes_of a + bytes_of b + bytes_of c) = omega (arith, k.0) in (
+    let n_is : n ≡ suc (size_bytes a + size_bytes b + size_bytes c) = omega (arith, k.0) in (
       omega (arith, k.0, k.1),
       record {
         id = a;

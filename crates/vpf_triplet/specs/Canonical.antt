@@ -17,7 +17,7 @@ unfoldable pub canonical : Order → Triplet → List ℕ
 canonical o t = spelling o (least t.id) (least t.tile) (least t.ext) t
 
 -- each part that is there is below 2^31, as every part that is read is
-pub record IsSmall (t : Triplet) : Type 0 where
+pub record HasSmallParts (t : Triplet) : Type 0 where
   pub id : IsTrue (is_small t.id)
   pub tile : IsTrue (is_small t.tile)
   pub ext : IsTrue (is_small t.ext)

@@ -7,7 +7,7 @@ use Rattle.vpf_triplet.specs.declared.places.Code.TheVariants as codes
 use Rattle.vpf_triplet.specs.declared.sizes.Size.{Size}
 use Rattle.vpf_triplet.specs.declared.sizes.Size.TheVariants.{Absent, One, Two, Four}
 use Rattle.vpf_triplet.specs.Numbers.{number_of}
-use Rattle.vpf_triplet.specs.Sizes.{bytes_of}
+use Rattle.vpf_triplet.specs.Sizes.{size_bytes}
 use Rattle.vpf_triplet.specs.Spelling.{type_byte}
 
 -- the number at the front is too large for a part of this size; those of fewer bytes never are
@@ -19,17 +19,17 @@ IsLarge o Four bytes = 2 ^ 31 ≤ number_of o w32 bytes
 
 -- how many bytes the parts of these sizes take
 abbrev pub parts_bytes : Size → Size → Size → ℕ
-parts_bytes a b c = bytes_of a + bytes_of b + bytes_of c
+parts_bytes a b c = size_bytes a + size_bytes b + size_bytes c
 
 -- the first fault of the bytes
-pub data FirstFault (o : Order) : List ℕ → Code → Type 0 where
+pub data FirstTripletFault (o : Order) : List ℕ → Code → Type 0 where
   -- there is no type byte
-  no_type : FirstFault o [] codes.CellCut
+  no_type : FirstTripletFault o [] codes.CellCut
   -- its reserved field isn't 0
-  reserved : (first : ℕ) (rest : List ℕ) → first % 4 ≢ 0 → FirstFault o (first ∷ rest) codes.Triplet
+  reserved : (first : ℕ) (rest : List ℕ) → first % 4 ≢ 0 → FirstTripletFault o (first ∷ rest) codes.Triplet
   -- the parts aren't whole
-  cut : (a b c : Size) (rest : List ℕ) → length rest < parts_bytes a b c → FirstFault o (type_byte a b c ∷ rest) codes.CellCut
+  cut : (a b c : Size) (rest : List ℕ) → length rest < parts_bytes a b c → FirstTripletFault o (type_byte a b c ∷ rest) codes.CellCut
   -- one of them is too large
-  large_id : (a b c : Size) (rest : List ℕ) → parts_bytes a b c ≤ length rest → IsLarge o a rest → FirstFault o (type_byte a b c ∷ rest) codes.Triplet
-  large_tile : (a b c : Size) (rest : List ℕ) → parts_bytes a b c ≤ length rest → IsLarge o b (drop (bytes_of a) rest) → FirstFault o (type_byte a b c ∷ rest) codes.Triplet
-  large_ext : (a b c : Size) (rest : List ℕ) → parts_bytes a b c ≤ length rest → IsLarge o c (drop (bytes_of a + bytes_of b) rest) → FirstFault o (type_byte a b c ∷ rest) codes.Triplet
+  large_id : (a b c : Size) (rest : List ℕ) → parts_bytes a b c ≤ length rest → IsLarge o a rest → FirstTripletFault o (type_byte a b c ∷ rest) codes.Triplet
+  large_tile : (a b c : Size) (rest : List ℕ) → parts_bytes a b c ≤ length rest → IsLarge o b (drop (size_bytes a) rest) → FirstTripletFault o (type_byte a b c ∷ rest) codes.Triplet
+  large_ext : (a b c : Size) (rest : List ℕ) → parts_bytes a b c ≤ length rest → IsLarge o c (drop (size_bytes a + size_bytes b) rest) → FirstTripletFault o (type_byte a b c ∷ rest) codes.Triplet

@@ -1,5 +1,6 @@
 -- The kinds of fields and their counts (MIL-STD-2407, 5.4, allowable field types).
-use Rattle.std.specs.Prelude.{ℕ, List, Bool, true, false, codes, ◌==◌}
+use Rattle.std.specs.Prelude.{ℕ, List, [], ◌∷◌, Option, Bool, true, false, bytes_eq, codes, ◌==◌}
+use Rattle.std.specs.List.{find}
 use Rattle.std.specs.Fmt.{decimal}
 use Rattle.vpf_triplet.specs.declared.kinds.Kind.{Kind}
 use Rattle.vpf_triplet.specs.declared.kinds.Kind.TheVariants as kinds
@@ -28,6 +29,23 @@ kind_text kinds.Y = codes "Y"
 abbrev pub count_text : Count → List ℕ
 count_text (Fixed n) = decimal n
 count_text Star = codes "*"
+
+-- every kind
+abbrev pub every_kind : List Kind
+every_kind = kinds.T ∷ kinds.L ∷ kinds.M ∷ kinds.N ∷ kinds.F ∷ kinds.R ∷ kinds.S ∷ kinds.I ∷ kinds.D ∷ kinds.X ∷ kinds.K ∷ kinds.C ∷ kinds.B ∷ kinds.Z ∷ kinds.Y ∷ []
+
+-- the kind whose letter the text is
+abbrev pub kind_of : List ℕ → Option Kind
+kind_of text = find (λ kind. bytes_eq text (kind_text kind)) every_kind
+
+-- whether two kinds have one letter, and so are one
+abbrev pub same_kind : Kind → Kind → Bool
+same_kind a b = bytes_eq (kind_text a) (kind_text b)
+
+-- the count is this number
+abbrev pub is_fixed : ℕ → Count → Bool
+is_fixed n (Fixed m) = n == m
+is_fixed n Star = false
 
 -- exactly one value
 abbrev pub is_one : Count → Bool

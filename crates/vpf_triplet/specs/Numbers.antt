@@ -1,12 +1,8 @@
 -- The numbers of a file in its byte order (MIL-STD-2407, 5.4, table header: least or most significant byte first).
-use Rattle.std.specs.Prelude.{ℕ, List, ◌<◌, codes, slice_index}
+use Rattle.std.specs.Prelude.{ℕ, List, codes}
 use Rattle.std.specs.Int.{Width, to_le_bytes, to_be_bytes, from_le_bytes, from_be_bytes}
 use Rattle.vpf_triplet.specs.declared.orders.Order.{Order}
 use Rattle.vpf_triplet.specs.declared.orders.Order.TheVariants.{Little, Big}
-
--- a list of bytes
-abbrev pub IsBytes : List ℕ → Type 0
-IsBytes bytes = (i : ℕ) → slice_index bytes i < 256
 
 -- the unsigned number of this width that the first bytes spell
 abbrev pub number_of : Order → Width → List ℕ → ℕ

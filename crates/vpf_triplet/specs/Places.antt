@@ -1,6 +1,7 @@
 -- What a call that reads answers, against what reading gives.
-use Rattle.std.specs.Prelude.{◌≡◌, ℕ, ◌-◌, ◌≤◌, List, ◌++◌, codes, Result, Ok, Err}
+use Rattle.std.specs.Prelude.{◌≡◌, ℕ, ◌-◌, ◌≤◌, List, ◌++◌, codes, Result, Ok, Err, Option, Some, None, IfSome}
 use Rattle.std.specs.Fmt.{decimal}
+use Rattle.vpf_base.specs.Results.{Meets, Told}
 use Rattle.vpf_triplet.specs.declared.places.Place.{Place}
 use Rattle.vpf_triplet.specs.declared.places.PlaceError.{PlaceError}
 use Rattle.vpf_triplet.specs.declared.places.PlaceError.TheVariants as errors
@@ -24,12 +25,6 @@ theme_fault at code = record { part = Theme; at = at; code = code }
 abbrev pub place_text : Place → List ℕ
 place_text place = code_text place.code ++ (codes " at " ++ decimal place.at)
 
--- first one thing and then another; the first error ends it
-infixl 10 ◌>>=◌
-abbrev pub ◌>>=◌ : {A B E : Type 0} → Result A E → (A → Result B E) → Result B E
-(Ok x) >>= next = next x
-(Err e) >>= next = Err e
-
 -- A call answered for what begins at `at`: the value and the offset past it, or the fault there. What is read is counted
 -- from `at` on.
 abbrev pub Reads : {X : Type 0} → ℕ → Result (X × ℕ) Place → Result (X × ℕ) Code → Type 0
@@ -38,20 +33,21 @@ Reads at (Err p) read = (read ≡ Err p.code) × (p ≡ fault at p.code)
 
 -- a call answered what reading gives
 abbrev pub Gives : {X Y : Type 0} → (X → Y) → Result X Place → Result Y Place → Type 0
-Gives view (Ok x) read = read ≡ Ok (view x)
-Gives view (Err p) read = read ≡ Err p
+Gives view result read = Meets view (λ p. Some p) result read
+
+-- the place of a refusal; want of memory has none
+abbrev pub place_in : PlaceError → Option Place
+place_in errors.NoMemory = None
+place_in (errors.Place p) = Some p
 
 -- an error is that of reading, or memory ran out
 abbrev pub Fails : {Y : Type 0} → PlaceError → Result Y Place → Type 0
-Fails errors.NoMemory read = Unit {0}
-Fails (errors.Place p) read = read ≡ Err p
+Fails error read = Told (place_in error) read
 
--- what holds of the place of a refusal; want of memory has none
+-- what holds of the place of a refusal
 abbrev pub ForPlace : (Place → Type 0) → PlaceError → Type 0
-ForPlace P errors.NoMemory = Unit {0}
-ForPlace P (errors.Place p) = P p
+ForPlace P error = IfSome (place_in error) P
 
 -- a call answered what reading gives, unless memory ran out
 abbrev pub Answers : {X Y : Type 0} → (X → Y) → Result X PlaceError → Result Y Place → Type 0
-Answers view (Ok x) read = read ≡ Ok (view x)
-Answers view (Err e) read = Fails e read
+Answers view result read = Meets view place_in result read

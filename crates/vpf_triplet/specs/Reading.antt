@@ -5,7 +5,7 @@ use Rattle.vpf_triplet.specs.declared.places.Code.{Code}
 use Rattle.vpf_triplet.specs.declared.places.Code.TheVariants as codes
 use Rattle.vpf_triplet.specs.declared.triplets.Triplet.{Triplet}
 use Rattle.vpf_triplet.specs.declared.sizes.Size.{Size}
-use Rattle.vpf_triplet.specs.Sizes.{size_of, bytes_of, part_of}
+use Rattle.vpf_triplet.specs.Sizes.{size_of, size_bytes, part_of}
 
 -- a part is absent or below 2^31
 abbrev pub is_small : Option ℕ → Bool
@@ -16,10 +16,10 @@ is_small (Some n) = nat_lt n 0x8000_0000
 unfoldable pub parts_at : Order → Size → Size → Size → List ℕ → Result (Triplet × ℕ) Code
 parts_at o a b c rest =
     let id = part_of o a rest in
-    let tile = part_of o b (drop (bytes_of a) rest) in
-    let ext = part_of o c (drop (bytes_of a + bytes_of b) rest) in
-    if nat_lt (length rest) (bytes_of a + bytes_of b + bytes_of c) then Err codes.CellCut
-    else if is_small id && is_small tile && is_small ext then Ok (record { id = id; tile = tile; ext = ext }, 1 + (bytes_of a + bytes_of b + bytes_of c))
+    let tile = part_of o b (drop (size_bytes a) rest) in
+    let ext = part_of o c (drop (size_bytes a + size_bytes b) rest) in
+    if nat_lt (length rest) (size_bytes a + size_bytes b + size_bytes c) then Err codes.CellCut
+    else if is_small id && is_small tile && is_small ext then Ok (record { id = id; tile = tile; ext = ext }, 1 + (size_bytes a + size_bytes b + size_bytes c))
     else Err codes.Triplet
 
 -- The triplet id at the front, and how many bytes it takes. The type byte has four fields of two bits, the highest

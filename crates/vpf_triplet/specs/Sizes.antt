@@ -14,11 +14,11 @@ size_of (suc (suc zero)) = Two
 size_of (suc (suc (suc n))) = Four
 
 -- how many bytes a part takes
-abbrev pub bytes_of : Size → ℕ
-bytes_of Absent = 0
-bytes_of One = 1
-bytes_of Two = 2
-bytes_of Four = 4
+abbrev pub size_bytes : Size → ℕ
+size_bytes Absent = 0
+size_bytes One = 1
+size_bytes Two = 2
+size_bytes Four = 4
 
 -- the part of this size at the front
 abbrev pub part_of : Order → Size → List ℕ → Option ℕ

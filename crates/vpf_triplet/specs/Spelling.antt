@@ -15,15 +15,15 @@ bits_of Two = 2
 bits_of Four = 3
 
 -- a part has a spelling of this size
-abbrev pub Holds : Size → Option ℕ → Type 0
-Holds Absent None = Unit {0}
-Holds Absent (Some n) = ⊥
-Holds One None = ⊥
-Holds One (Some n) = n < 2 ^ 8
-Holds Two None = ⊥
-Holds Two (Some n) = n < 2 ^ 16
-Holds Four None = ⊥
-Holds Four (Some n) = n < 2 ^ 31
+abbrev pub HoldsPart : Size → Option ℕ → Type 0
+HoldsPart Absent None = Unit {0}
+HoldsPart Absent (Some n) = ⊥
+HoldsPart One None = ⊥
+HoldsPart One (Some n) = n < 2 ^ 8
+HoldsPart Two None = ⊥
+HoldsPart Two (Some n) = n < 2 ^ 16
+HoldsPart Four None = ⊥
+HoldsPart Four (Some n) = n < 2 ^ 31
 
 -- the spelling of a part in this size
 abbrev pub part : Order → Size → Option ℕ → List ℕ
@@ -46,7 +46,7 @@ pub record IsTriplet (o : Order) (t : Triplet) (bytes : List ℕ) : Type 0 where
   pub id : Size
   pub tile : Size
   pub ext : Size
-  pub holds_id : Holds id t.id
-  pub holds_tile : Holds tile t.tile
-  pub holds_ext : Holds ext t.ext
+  pub holds_id : HoldsPart id t.id
+  pub holds_tile : HoldsPart tile t.tile
+  pub holds_ext : HoldsPart ext t.ext
   pub spelled : bytes ≡ spelling o id tile ext t

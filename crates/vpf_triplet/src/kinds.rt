@@ -1,7 +1,7 @@
 //! The kinds of fields, and how many values a field holds.
 
 ghost use Rattle.std.specs.Prelude.{◌≡◌};
-ghost use Rattle.vpf_triplet.specs.Kinds.{allows};
+ghost use Rattle.vpf_triplet.specs.Kinds.{allows, kind_of, kind_text};
 
 use std::fmt;
 
@@ -47,7 +47,16 @@ impl fmt::Display for Kind {
     ghost output = { λ kind. Some (kind_text kind) };
 
     fn fmt<W: fmt::Write>(&self, f: &mut fmt::Formatter<W>) -> fmt::Result {
-        f.write_str(match self {
+        f.write_str(self.letter())
+    }
+}
+
+impl Kind {
+    /// The letter that stands for the kind in a header.
+    pub fn letter(self) -> &'static str
+        ensures { result.now ≡ kind_text self }
+    {
+        match self {
             Kind::T => "T",
             Kind::L => "L",
             Kind::M => "M",
@@ -63,11 +72,33 @@ impl fmt::Display for Kind {
             Kind::B => "B",
             Kind::Z => "Z",
             Kind::Y => "Y",
-        })
+        }
     }
-}
 
-impl Kind {
+    /// The kind whose letter the text is, where it is one.
+    pub fn of_letter(text: &[u8]) -> Option<Kind>
+        ensures { result ≡ kind_of text.now }
+    {
+        match text {
+            b"T" => Some(Kind::T),
+            b"L" => Some(Kind::L),
+            b"M" => Some(Kind::M),
+            b"N" => Some(Kind::N),
+            b"F" => Some(Kind::F),
+            b"R" => Some(Kind::R),
+            b"S" => Some(Kind::S),
+            b"I" => Some(Kind::I),
+            b"D" => Some(Kind::D),
+            b"X" => Some(Kind::X),
+            b"K" => Some(Kind::K),
+            b"C" => Some(Kind::C),
+            b"B" => Some(Kind::B),
+            b"Z" => Some(Kind::Z),
+            b"Y" => Some(Kind::Y),
+            _ => None,
+        }
+    }
+
     /// Whether a field of this kind may hold so many values: text and coordinates any number, every other kind one.
     pub fn allows(self, count: Count) -> bool
         ensures { result ≡ allows self count }

@@ -2,7 +2,7 @@
 
 ghost use Rattle.std.specs.Prelude.{◌≡◌, ◌≤◌, ◌++◌, OnOk, OnErr, length};
 ghost use Rattle.std.specs.Int.{w16, w32, w64};
-ghost use Rattle.vpf_triplet.specs.Numbers.{number, number_of};
+ghost use Rattle.vpf_triplet.specs.Numbers.{number, number_of, order_text};
 
 use std::alloc::AllocError;
 use std::fmt;
@@ -23,14 +23,21 @@ impl fmt::Display for Order {
     ghost output = { λ order. Some (order_text order) };
 
     fn fmt<W: fmt::Write>(&self, f: &mut fmt::Formatter<W>) -> fmt::Result {
-        f.write_str(match self {
-            Order::Little => "L",
-            Order::Big => "M",
-        })
+        f.write_str(self.letter())
     }
 }
 
 impl Order {
+    /// The letter that stands for the order in a header.
+    pub fn letter(self) -> &'static str
+        ensures { result.now ≡ order_text self }
+    {
+        match self {
+            Order::Little => "L",
+            Order::Big => "M",
+        }
+    }
+
     /// The unsigned number that the first two bytes spell.
     #[inline]
     pub fn u16_from(self, bytes: &[u8]) -> u16

@@ -3,7 +3,7 @@
 ghost use Rattle.std.specs.Prelude.{◌≡◌, ◌≤◌, length};
 ghost use Rattle.std.specs.Prelude.{◌++◌, OnOk, OnErr};
 ghost use Rattle.vpf_triplet.specs.Canonical.{least};
-ghost use Rattle.vpf_triplet.specs.Sizes.{size_of, bytes_of, part_of};
+ghost use Rattle.vpf_triplet.specs.Sizes.{size_of, size_bytes, part_of};
 ghost use Rattle.vpf_triplet.specs.Spelling.{bits_of, part};
 
 use crate::orders::Order;
@@ -57,7 +57,7 @@ impl Size {
 
     /// The number of bytes.
     pub fn bytes(self) -> usize
-        ensures { result ≡ bytes_of self }
+        ensures { result ≡ size_bytes self }
     {
         match self {
             Size::Absent => 0,
@@ -70,7 +70,7 @@ impl Size {
 
 /// The part of this size at the front of the bytes.
 pub fn first_part(order: Order, size: Size, bytes: &[u8]) -> Option<u32>
-    requires { bytes_of size ≤ length bytes.now }
+    requires { size_bytes size ≤ length bytes.now }
     ensures { result ≡ part_of order size bytes.now }
 {
     match size {

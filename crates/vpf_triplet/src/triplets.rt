@@ -86,10 +86,10 @@ fn put_parts(id: &Triplet, order: Order, out: &mut Vec<u8>) -> Result<(), AllocE
 impl Triplet {
     ghost use Rattle.std.specs.Prelude.{◌≡◌, ◌≤◌, ◌+◌, ◌++◌, ℕ, List, length, drop, slice_range, IfOk, IfErr, OnOk, OnErr, Ok};
     ghost use Rattle.vpf_triplet.specs.declared.orders.Order.{Order};
-    ghost use Rattle.vpf_triplet.specs.Canonical.{canonical, IsSmall};
+    ghost use Rattle.vpf_triplet.specs.Canonical.{canonical, HasSmallParts};
     ghost use Rattle.vpf_triplet.specs.Spelling.{IsTriplet};
-    ghost use Rattle.vpf_triplet.specs.Deciding.{Begins};
-    ghost use Rattle.vpf_triplet.specs.Faults.{FirstFault};
+    ghost use Rattle.vpf_triplet.specs.Deciding.{BeginsTriplet};
+    ghost use Rattle.vpf_triplet.specs.Faults.{FirstTripletFault};
     ghost use Rattle.vpf_triplet.specs.Places.{Reads};
     ghost use Rattle.vpf_triplet.specs.Reading.{triplet_at};
 
@@ -101,11 +101,11 @@ impl Triplet {
         // What is read is spelled so, up to the offset.
         ensures found { IfOk result (λ r. (at ≤ r.1) × (r.1 ≤ length bytes.now) × IsTriplet order r.0 (slice_range bytes.now at r.1)) }
         // What is spelled so is read, whatever follows.
-        ensures only { (t : Triplet) (text rest : List ℕ) → Begins order (drop at bytes.now) t text rest → result ≡ Ok (t, at + length text) }
+        ensures only { (t : Triplet) (text rest : List ℕ) → BeginsTriplet order (drop at bytes.now) t text rest → result ≡ Ok (t, at + length text) }
         // The value and its end, or the code of the first fault.
         ensures exact { Reads at result (triplet_at order (drop at bytes.now)) }
         // What is refused has this first fault.
-        ensures refused { IfErr result (λ p. FirstFault order (drop at bytes.now) p.code) }
+        ensures refused { IfErr result (λ p. FirstTripletFault order (drop at bytes.now) p.code) }
     {
         read_at(order, bytes, at)
     }
@@ -124,7 +124,7 @@ impl Triplet {
     /// hold it. After an error nothing is appended.
     pub fn put(&self, order: Order, out: &mut Vec<u8>) -> Result<(), AllocError>
         // Each part is below 2^31.
-        requires { IsSmall self.now }
+        requires { HasSmallParts self.now }
         ensures ok { OnOk result (out.new.items ≡ out.old.items ++ canonical order self.now) }
         ensures err { OnErr result (out.new.items ≡ out.old.items) }
     {

@@ -1,28 +1,27 @@
 -- The canonical spelling is a spelling, and the shortest; and how long it is.
 use Rattle.std.specs.Int.{Width, w16, w32}
-use Rattle.std.proofs.Common.{◌≡◌, ◌≢◌, ℕ, ◌+◌, ◌*◌, ◌/◌, ◌≤◌, List, [], ◌++◌, length, Option, Some, None, Result, Ok, Err, refl, sym, ap, ◌∙◌, arith, inl, inr}
+use Rattle.std.proofs.Common.{◌≡◌, ◌≢◌, ℕ, ◌+◌, ◌*◌, ◌/◌, ◌≤◌, List, [], ◌++◌, length, Option, Some, None, Ok, refl, sym, ap, ◌∙◌, arith, inl, inr}
 use Rattle.std.proofs.lemmas.Bool.{cases_lt}
 use Rattle.std.proofs.lemmas.List.{length-append}
+use Rattle.vpf_base.proofs.Results.{ok_not_err, ok_is}
 use Rattle.vpf_triplet.specs.declared.orders.Order.{Order}
 use Rattle.vpf_triplet.specs.declared.kinds.Kind.{Kind}
 use Rattle.vpf_triplet.specs.declared.kinds.Kind.TheVariants as kinds
 use Rattle.vpf_triplet.specs.declared.kinds.Count.{Count}
 use Rattle.vpf_triplet.specs.declared.kinds.Count.TheVariants.{Fixed, Star}
-use Rattle.vpf_triplet.specs.declared.places.Code.{Code}
 use Rattle.vpf_triplet.specs.Numbers.{number}
 use Rattle.vpf_triplet.proofs.Canonicals.{canonical_spelled, length-canonical, shortest as shortest_triplet}
-use Rattle.vpf_triplet.proofs.Spelled.{ok_is}
 use Rattle.vpf_value.specs.declared.coords.WordWidth.{WordWidth}
 use Rattle.vpf_value.specs.declared.coords.WordWidth.TheVariants.{Four, Eight}
 use Rattle.vpf_value.specs.declared.coords.Tuple.{Tuple}
 use Rattle.vpf_value.specs.declared.coords.Tuple.TheVariants.{Pair, Triple}
-use Rattle.vpf_value.specs.Words.{tuple_len, word_text, word_bytes}
+use Rattle.vpf_value.specs.Words.{tuple_len, spelled_words, word_bytes}
 use Rattle.vpf_value.specs.Values.{Value, TextOf, Word4Of, Word8Of, NumberOf, DateOf, Nothing, TripletOf, WordsOf}
 use Rattle.vpf_value.specs.Reading.{cell_from}
-use Rattle.vpf_value.specs.Spelling.{IsText, IsWord4, IsWord8, IsSigned, IsDate, IsNothing, IsId, IsTuples, IsMany, IsCell}
+use Rattle.vpf_value.specs.Spelling.{IsTextOf, IsWord4, IsWord8, IsSigned, IsDate, IsNothing, IsId, IsTuples, IsMany, IsCell}
 use Rattle.vpf_value.specs.Fitting.{FitsText, FitsWord4, FitsWord8, FitsNumber, FitsDate, FitsNothing, FitsId, FitsTuples, FitsKind, FitsCell}
 use Rattle.vpf_value.specs.Widths.{cell_width, many_width}
-use Rattle.vpf_value.specs.Canonical.{counted, spelled_text, spelled_word4, spelled_word8, spelled_number, spelled_date, spelled_id, spelled_tuples, spelled}
+use Rattle.vpf_value.specs.Canonical.{with_count, spelled_text, spelled_word4, spelled_word8, spelled_number, spelled_date, spelled_id, spelled_tuples, spelled}
 use Rattle.vpf_value.proofs.Numbers.{length-number, length-number16}
 use Rattle.vpf_value.proofs.WordTexts.{length-word_text}
 use Rattle.vpf_value.proofs.CellLaws.{cell_again}
@@ -30,7 +29,7 @@ use Rattle.vpf_value.proofs.WidthLaws.{fixed_cell}
 
 -- ---- it is a spelling
 
-text_canonical : (o : Order) (count : Count) (v : Value) → FitsText count v → IsMany o IsText count v (spelled_text o count v)
+text_canonical : (o : Order) (count : Count) (v : Value) → FitsText count v → IsMany o IsTextOf count v (spelled_text o count v)
 text_canonical o (Fixed n) (TextOf text) h = (refl, h)
 text_canonical o Star (TextOf text) h = record { count = length text; rest = text; small = h; parts = refl; spelled = (refl, refl) }
 text_canonical o c v h = absurd h
@@ -66,16 +65,16 @@ whole_tuples Triple words tuples e = omega arith
 tuples_canonical : (o : Order) (width : WordWidth) (tuple : Tuple) (count : Count) (v : Value) → FitsTuples width tuple count v → IsMany o (IsTuples o width tuple) count v (spelled_tuples o tuple count v)
 tuples_canonical o width tuple (Fixed n) (WordsOf w words) h =
     let is : WordsOf w words ≡ WordsOf width words = ap (λ (x : WordWidth). WordsOf x words) h.0 in
-    record { words = words; many = h.1.whole ∙ ap (λ (k : ℕ). tuple_len tuple * k) h.1.held; small = h.2; is = is; spelled = ap (λ (x : WordWidth). word_text o x words) h.0 }
+    record { words = words; many = h.1.whole ∙ ap (λ (k : ℕ). tuple_len tuple * k) h.1.held; small = h.2; is = is; spelled = ap (λ (x : WordWidth). spelled_words o x words) h.0 }
 tuples_canonical o width tuple Star (WordsOf w words) h =
     let is : WordsOf w words ≡ WordsOf width words = ap (λ (x : WordWidth). WordsOf x words) h.0 in
     let tuples : length words / tuple_len tuple ≡ h.1.tuples = whole_tuples tuple (length words) h.1.tuples h.1.whole in
     record {
       count = length words / tuple_len tuple;
-      rest = word_text o w words;
+      rest = spelled_words o w words;
       small = rw tuples h.1.held;
       parts = refl;
-      spelled = record { words = words; many = rw tuples h.1.whole; small = h.2; is = is; spelled = ap (λ (x : WordWidth). word_text o x words) h.0 };
+      spelled = record { words = words; many = rw tuples h.1.whole; small = h.2; is = is; spelled = ap (λ (x : WordWidth). spelled_words o x words) h.0 };
     }
 tuples_canonical o width tuple c v h = absurd h
 
@@ -104,7 +103,7 @@ canonical_again o kind count v rest h = cell_again o kind count v (spelled o kin
 
 -- ---- no spelling is shorter: but for triplet ids there is only one
 
-one_text : (o : Order) (count : Count) (v : Value) (bytes : List ℕ) → IsMany o IsText count v bytes → bytes ≡ spelled_text o count v
+one_text : (o : Order) (count : Count) (v : Value) (bytes : List ℕ) → IsMany o IsTextOf count v bytes → bytes ≡ spelled_text o count v
 one_text o (Fixed n) v bytes h = rw (h.0) refl
 one_text o Star v bytes h = rw (h.spelled.0, h.spelled.1) h.parts
 
@@ -156,9 +155,6 @@ shortest o kinds.Y c v bytes h = same_length _ bytes (one_spelling o kinds.Y c v
 
 -- ---- how long it is
 
-ok_not_err : {A : Type 0} (r : Result A Code) (x : A) (c : Code) → r ≡ Ok x → r ≡ Err c → ⊥
-ok_not_err r x c e f = cc
-
 -- where cells have one width, that is its length
 pub length-fixed : (o : Order) (kind : Kind) (count : Count) (v : Value) (width : ℕ) → cell_width kind count ≡ Some width → FitsCell kind count v → length (spelled o kind count v) ≡ width
 length-fixed o kind count v width e h =
@@ -167,7 +163,7 @@ length-fixed o kind count v width e h =
     let takes = fixed_cell o kind count bytes width e in
     elim (cases_lt (length bytes) width) [
       | inl short ↦ absurd (ok_not_err _ _ _ again (takes.cut short))
-      | inr long ↦ ap (λ (p : Value × ℕ). p.1) (ok_is (v, length (spelled o kind count v)) ((takes.whole long).0, width) (sym again ∙ (takes.whole long).1))
+      | inr long ↦ ap (λ (p : Value × ℕ). p.1) (ok_is {x = (v, length (spelled o kind count v))} {y = ((takes.whole long).0, width)} (sym again ∙ (takes.whole long).1))
     ]
 
 abbrev no_width : Option ℕ
@@ -177,7 +173,7 @@ length-counted_words : (o : Order) (tuple : Tuple) (count : Count) (w : WordWidt
 length-counted_words o tuple (Fixed n) w words e = absurd cc
 length-counted_words o tuple Star w words e =
     let front = number o w32 (length words / tuple_len tuple) in
-    omega (arith, length-append front (word_text o w words), length-number o Four (length words / tuple_len tuple), length-word_text o w words)
+    omega (arith, length-append front (spelled_words o w words), length-number o Four (length words / tuple_len tuple), length-word_text o w words)
 
 star_varies : (size : ℕ) (count : Count) → many_width size count ≡ None → count ≡ Star
 star_varies size (Fixed n) e = absurd cc
@@ -193,7 +189,7 @@ length-words o kind c w words e h = absurd h.1
 
 -- ---- it is as long in either order
 
-same_counted : (o p : Order) (count : Count) (many : ℕ) (a b : List ℕ) → length a ≡ length b → length (counted o count many a) ≡ length (counted p count many b)
+same_counted : (o p : Order) (count : Count) (many : ℕ) (a b : List ℕ) → length a ≡ length b → length (with_count o count many a) ≡ length (with_count p count many b)
 same_counted o p (Fixed n) many a b e = e
 same_counted o p Star many a b e = omega (arith, length-append (number o w32 many) a, length-append (number p w32 many) b, length-number o Four many, length-number p Four many)
 

@@ -3,6 +3,9 @@ use Rattle.std.proofs.Common.{◌≡◌, ℕ, ◌+◌, ◌*◌, Bool, true, fals
 use Rattle.std.specs.Int.{w32}
 use Rattle.std.proofs.lemmas.Bool.{lt-ltb, ltb-true, ltb-false}
 use Rattle.std.proofs.lemmas.List.{length-drop}
+use Rattle.vpf_base.specs.Results.{◌>>=◌}
+use Rattle.vpf_base.specs.Bytes.{IsBytes}
+use Rattle.vpf_base.proofs.Results.{failed, err_is, no_ok}
 use Rattle.vpf_triplet.specs.declared.orders.Order.{Order}
 use Rattle.vpf_triplet.specs.declared.kinds.Kind.{Kind}
 use Rattle.vpf_triplet.specs.declared.kinds.Kind.TheVariants as kinds
@@ -12,33 +15,23 @@ use Rattle.vpf_triplet.specs.declared.places.Code.{Code}
 use Rattle.vpf_triplet.specs.declared.places.Code.TheVariants as codes
 use Rattle.vpf_triplet.specs.declared.triplets.Triplet.{Triplet}
 use Rattle.vpf_triplet.specs.Faults as triplets
-use Rattle.vpf_triplet.specs.Numbers.{IsBytes, number_of}
-use Rattle.vpf_triplet.specs.Places.{◌>>=◌}
+use Rattle.vpf_triplet.specs.Numbers.{number_of}
 use Rattle.vpf_triplet.specs.Reading.{triplet_at}
 use Rattle.vpf_value.specs.declared.coords.WordWidth.{WordWidth}
 use Rattle.vpf_value.specs.declared.coords.WordWidth.TheVariants.{Four, Eight}
 use Rattle.vpf_value.specs.declared.coords.Tuple.{Tuple}
 use Rattle.vpf_value.specs.declared.coords.Tuple.TheVariants.{Pair, Triple}
-use Rattle.vpf_value.specs.Faults.{IsCut, AreCut, FirstFault}
-use Rattle.vpf_value.specs.Reading.{Answer, sized, text_from, tuples_from, counted_from, triplet_from, many_from, cell_from}
+use Rattle.vpf_value.specs.Faults.{IsCut, AreCut, FirstCellFault}
+use Rattle.vpf_value.specs.Reading.{CellAnswer, sized, text_from, tuples_from, counted_from, triplet_from, many_from, cell_from}
 use Rattle.vpf_value.specs.Values.{Value, TripletOf}
 use Rattle.vpf_value.specs.Words.{word_bytes, tuple_len}
 
 -- what is known of the faults of triplet ids
 abbrev pub TripletFaults : Type 0
-TripletFaults = (o : Order) (bytes : List ℕ) (code : Code) → IsBytes bytes → triplet_at o bytes ≡ Err code → triplets.FirstFault o bytes code
+TripletFaults = (o : Order) (bytes : List ℕ) (code : Code) → IsBytes bytes → triplet_at o bytes ≡ Err code → triplets.FirstTripletFault o bytes code
 
 abbrev pub TripletRefused : Type 0
-TripletRefused = (o : Order) (bytes : List ℕ) (code : Code) → triplets.FirstFault o bytes code → triplet_at o bytes ≡ Err code
-
-abbrev failed : Code → Answer
-failed code = Err code
-
-err_is : {c d : Code} → failed c ≡ failed d → c ≡ d
-err_is e = cc
-
-no_ok : (x : Value × ℕ) (c : Code) → Ok x ≡ failed c → ⊥
-no_ok x c e = cc
+TripletRefused = (o : Order) (bytes : List ℕ) (code : Code) → triplets.FirstTripletFault o bytes code → triplet_at o bytes ≡ Err code
 
 -- ---- values of so many bytes
 
@@ -46,7 +39,7 @@ sized_fault : (n : ℕ) (v : Value) (bytes : List ℕ) (code : Code) → sized n
 unfolding sized
 sized_fault n v bytes code e = by (ltb (length bytes) n) refl e
   where
-    by : (t : Bool) → ltb (length bytes) n ≡ t → cond t (Err codes.CellCut) (Ok (v, n)) ≡ failed code → IsCut n bytes code
+    by : (t : Bool) → ltb (length bytes) n ≡ t → cond t (Err codes.CellCut) (Ok (v, n)) ≡ failed {A = Value × ℕ} code → IsCut n bytes code
     by true q f = (ltb-true _ _ q, sym (err_is f))
     by false q f = absurd (no_ok (v, n) code f)
 
@@ -56,46 +49,46 @@ sized_refused n v bytes code h = rw (lt-ltb _ _ h.0, h.1) refl
 
 -- ---- values with a count
 
-abbrev Faults : ℕ → (ℕ → List ℕ → Answer) → Type 0
+abbrev Faults : ℕ → (ℕ → List ℕ → CellAnswer) → Type 0
 Faults size read = (n : ℕ) (bytes : List ℕ) (code : Code) → read n bytes ≡ Err code → IsCut (size * n) bytes code
 
-abbrev Refused : ℕ → (ℕ → List ℕ → Answer) → Type 0
+abbrev Refused : ℕ → (ℕ → List ℕ → CellAnswer) → Type 0
 Refused size read = (n : ℕ) (bytes : List ℕ) (code : Code) → IsCut (size * n) bytes code → read n bytes ≡ Err code
 
-abbrev behind : Answer → Answer
+abbrev behind : CellAnswer → CellAnswer
 behind r = r >>= λ x. Ok (x.0, 4 + x.1)
 
-behind_fault : (r : Answer) (code : Code) → behind r ≡ failed code → r ≡ Err code
+behind_fault : (r : CellAnswer) (code : Code) → behind r ≡ failed code → r ≡ Err code
 behind_fault (Ok x) code e = absurd (no_ok (x.0, 4 + x.1) code e)
 behind_fault (Err c) code e = ap failed (err_is e)
 
-counted_fault : (o : Order) (size : ℕ) (read : ℕ → List ℕ → Answer) (bytes : List ℕ) (code : Code) → Faults size read → counted_from o read bytes ≡ Err code → AreCut size o Star bytes code
+counted_fault : (o : Order) (size : ℕ) (read : ℕ → List ℕ → CellAnswer) (bytes : List ℕ) (code : Code) → Faults size read → counted_from o read bytes ≡ Err code → AreCut size o Star bytes code
 unfolding counted_from
 counted_fault o size read bytes code each e = by (ltb (length bytes) 4) refl e
   where
-    by : (t : Bool) → ltb (length bytes) 4 ≡ t → cond t (Err codes.CellCut) (behind (read (number_of o w32 bytes) (drop 4 bytes))) ≡ failed code → AreCut size o Star bytes code
+    by : (t : Bool) → ltb (length bytes) 4 ≡ t → cond t (Err codes.CellCut) (behind (read (number_of o w32 bytes) (drop 4 bytes))) ≡ failed {A = Value × ℕ} code → AreCut size o Star bytes code
     by true q f = inl (ltb-true _ _ q, sym (err_is f))
     by false q f =
         let c = each (number_of o w32 bytes) (drop 4 bytes) code (behind_fault (read (number_of o w32 bytes) (drop 4 bytes)) code f) in
         inr (omega (arith, c.0, length-drop 4 bytes), c.1)
 
-counted_refused : (o : Order) (size : ℕ) (read : ℕ → List ℕ → Answer) (bytes : List ℕ) (code : Code) → Refused size read → AreCut size o Star bytes code → counted_from o read bytes ≡ Err code
+counted_refused : (o : Order) (size : ℕ) (read : ℕ → List ℕ → CellAnswer) (bytes : List ℕ) (code : Code) → Refused size read → AreCut size o Star bytes code → counted_from o read bytes ≡ Err code
 unfolding counted_from
 counted_refused o size read bytes code each (inl h) = rw (lt-ltb _ _ h.0, h.1) refl
 counted_refused o size read bytes code each (inr h) = by (ltb (length bytes) 4) refl
   where
-    rest : ltb (length bytes) 4 ≡ false → behind (read (number_of o w32 bytes) (drop 4 bytes)) ≡ failed code
+    rest : ltb (length bytes) 4 ≡ false → behind (read (number_of o w32 bytes) (drop 4 bytes)) ≡ failed {A = Value × ℕ} code
     rest q = let c = each (number_of o w32 bytes) (drop 4 bytes) code (omega (arith, h.0, length-drop 4 bytes, ltb-false _ _ q), h.1) in rw c refl
 
-    by : (t : Bool) → ltb (length bytes) 4 ≡ t → cond (ltb (length bytes) 4) (Err codes.CellCut) (behind (read (number_of o w32 bytes) (drop 4 bytes))) ≡ failed code
+    by : (t : Bool) → ltb (length bytes) 4 ≡ t → cond (ltb (length bytes) 4) (Err codes.CellCut) (behind (read (number_of o w32 bytes) (drop 4 bytes))) ≡ failed {A = Value × ℕ} code
     by true q = rw (q, h.1) refl
     by false q = rw q (rest q)
 
-many_fault : (o : Order) (size : ℕ) (read : ℕ → List ℕ → Answer) (count : Count) (bytes : List ℕ) (code : Code) → Faults size read → many_from o read count bytes ≡ Err code → AreCut size o count bytes code
+many_fault : (o : Order) (size : ℕ) (read : ℕ → List ℕ → CellAnswer) (count : Count) (bytes : List ℕ) (code : Code) → Faults size read → many_from o read count bytes ≡ Err code → AreCut size o count bytes code
 many_fault o size read (Fixed n) bytes code each e = each n bytes code e
 many_fault o size read Star bytes code each e = counted_fault o size read bytes code each e
 
-many_refused : (o : Order) (size : ℕ) (read : ℕ → List ℕ → Answer) (count : Count) (bytes : List ℕ) (code : Code) → Refused size read → AreCut size o count bytes code → many_from o read count bytes ≡ Err code
+many_refused : (o : Order) (size : ℕ) (read : ℕ → List ℕ → CellAnswer) (count : Count) (bytes : List ℕ) (code : Code) → Refused size read → AreCut size o count bytes code → many_from o read count bytes ≡ Err code
 many_refused o size read (Fixed n) bytes code each h = each n bytes code h
 many_refused o size read Star bytes code each h = counted_refused o size read bytes code each h
 
@@ -125,24 +118,24 @@ twenty_four n = omega arith
 
 -- ---- triplet ids
 
-abbrev as_value : Result (Triplet × ℕ) Code → Answer
+abbrev as_value : Result (Triplet × ℕ) Code → CellAnswer
 as_value r = r >>= λ x. Ok (TripletOf x.0, x.1)
 
 as_value_fault : (r : Result (Triplet × ℕ) Code) (code : Code) → as_value r ≡ failed code → r ≡ Err code
 as_value_fault (Ok x) code e = absurd (no_ok (TripletOf x.0, x.1) code e)
 as_value_fault (Err c) code e = let k : c ≡ code = err_is e in ap (λ (d : Code). let r : Result (Triplet × ℕ) Code = Err d in r) k
 
-id_fault : TripletFaults → (o : Order) (bytes : List ℕ) (code : Code) → IsBytes bytes → triplet_from o bytes ≡ Err code → triplets.FirstFault o bytes code
+id_fault : TripletFaults → (o : Order) (bytes : List ℕ) (code : Code) → IsBytes bytes → triplet_from o bytes ≡ Err code → triplets.FirstTripletFault o bytes code
 unfolding triplet_from
 id_fault tf o bytes code fits e = tf o bytes code fits (as_value_fault (triplet_at o bytes) code e)
 
-id_refused : TripletRefused → (o : Order) (bytes : List ℕ) (code : Code) → triplets.FirstFault o bytes code → triplet_from o bytes ≡ Err code
+id_refused : TripletRefused → (o : Order) (bytes : List ℕ) (code : Code) → triplets.FirstTripletFault o bytes code → triplet_from o bytes ≡ Err code
 unfolding triplet_from
 id_refused tr o bytes code f = rw (tr o bytes code f) refl
 
 -- ---- cells
 
-pub cell_faults : TripletFaults → (o : Order) (kind : Kind) (count : Count) (bytes : List ℕ) (code : Code) → IsBytes bytes → cell_from o kind count bytes ≡ Err code → FirstFault o kind count bytes code
+pub cell_faults : TripletFaults → (o : Order) (kind : Kind) (count : Count) (bytes : List ℕ) (code : Code) → IsBytes bytes → cell_from o kind count bytes ≡ Err code → FirstCellFault o kind count bytes code
 cell_faults tf o kinds.T count bytes code fits e = many_fault o 1 text_from count bytes code text_faults e
 cell_faults tf o kinds.L count bytes code fits e = many_fault o 1 text_from count bytes code text_faults e
 cell_faults tf o kinds.M count bytes code fits e = many_fault o 1 text_from count bytes code text_faults e
@@ -159,7 +152,7 @@ cell_faults tf o kinds.B count bytes code fits e = many_fault o 16 (tuples_from 
 cell_faults tf o kinds.Z count bytes code fits e = many_fault o 12 (tuples_from o Four Triple) count bytes code (tuple_faults o Four Triple 12 twelve) e
 cell_faults tf o kinds.Y count bytes code fits e = many_fault o 24 (tuples_from o Eight Triple) count bytes code (tuple_faults o Eight Triple 24 twenty_four) e
 
-pub cell_refused : TripletRefused → (o : Order) (kind : Kind) (count : Count) (bytes : List ℕ) (code : Code) → FirstFault o kind count bytes code → cell_from o kind count bytes ≡ Err code
+pub cell_refused : TripletRefused → (o : Order) (kind : Kind) (count : Count) (bytes : List ℕ) (code : Code) → FirstCellFault o kind count bytes code → cell_from o kind count bytes ≡ Err code
 cell_refused tr o kinds.T count bytes code h = many_refused o 1 text_from count bytes code text_refused h
 cell_refused tr o kinds.L count bytes code h = many_refused o 1 text_from count bytes code text_refused h
 cell_refused tr o kinds.M count bytes code h = many_refused o 1 text_from count bytes code text_refused h

@@ -1,29 +1,30 @@
 -- Cells: what is read is spelled so, and what is spelled so is read.
 use Rattle.std.specs.Prelude.{ℤ, FitsSigned}
 use Rattle.std.specs.Int.{Width, w16, w32, w64, cast_signed, cast_unsigned}
-use Rattle.std.proofs.Common.{◌≡◌, ℕ, ◌+◌, ◌*◌, ◌≤◌, Fits, List, ◌++◌, length, take, drop, Result, Ok, Err, refl, sym, ap, subst, ◌∙◌, append_assoc, take-add, arith}
+use Rattle.std.proofs.Common.{◌≡◌, ℕ, ◌+◌, ◌*◌, ◌≤◌, Fits, List, ◌++◌, length, take, drop, Ok, refl, sym, ap, subst, ◌∙◌, append_assoc, take-add, arith}
 use Rattle.std.proofs.Math.Facts.{Fits-of_z, sfits_to_z}
 use Rattle.std.proofs.lemmas.Bool.{ltb-false}
 use Rattle.std.proofs.lemmas.Int.{to_z-of_z, of_z-to_z}
 use Rattle.std.proofs.lemmas.List.{take_at, drop_at, length-append, length-drop, length-take-le}
+use Rattle.vpf_base.proofs.ByteLists.{IsBytes-drop}
+use Rattle.vpf_base.specs.Bytes.{IsBytes}
+use Rattle.vpf_base.proofs.Results.{bind_ok, guarded, ok_is}
 use Rattle.vpf_triplet.specs.declared.orders.Order.{Order}
 use Rattle.vpf_triplet.specs.declared.kinds.Kind.{Kind}
 use Rattle.vpf_triplet.specs.declared.kinds.Kind.TheVariants as kinds
 use Rattle.vpf_triplet.specs.declared.kinds.Count.{Count}
 use Rattle.vpf_triplet.specs.declared.kinds.Count.TheVariants.{Fixed, Star}
-use Rattle.vpf_triplet.specs.declared.places.Code.{Code}
-use Rattle.vpf_triplet.specs.Numbers.{IsBytes, number, number_of}
-use Rattle.vpf_triplet.specs.Places.{◌>>=◌}
+use Rattle.vpf_triplet.specs.Numbers.{number, number_of}
 use Rattle.vpf_triplet.specs.Reading.{triplet_at}
-use Rattle.vpf_triplet.proofs.Spelled.{IsBytes-drop, guarded, ok_is, triplet_again, triplet_takes}
+use Rattle.vpf_triplet.proofs.Spelled.{triplet_again, triplet_takes}
 use Rattle.vpf_value.specs.declared.coords.WordWidth.{WordWidth}
 use Rattle.vpf_value.specs.declared.coords.WordWidth.TheVariants.{Four, Eight}
 use Rattle.vpf_value.specs.declared.coords.Tuple.{Tuple}
 use Rattle.vpf_value.specs.declared.coords.Tuple.TheVariants.{Pair, Triple}
 use Rattle.vpf_value.specs.Words.{word_bytes, tuple_len, words_of}
 use Rattle.vpf_value.specs.Values.{Value, TextOf, Word4Of, Word8Of, NumberOf, DateOf, Nothing, TripletOf, WordsOf}
-use Rattle.vpf_value.specs.Reading.{Answer, sized, text_from, tuples_from, counted_from, many_from, triplet_from, cell_from}
-use Rattle.vpf_value.specs.Spelling.{IsText, IsWord4, IsWord8, IsSigned, IsDate, IsNothing, IsId, IsTuples, IsCounted, IsMany, IsCell}
+use Rattle.vpf_value.specs.Reading.{CellAnswer, sized, text_from, tuples_from, counted_from, many_from, triplet_from, cell_from}
+use Rattle.vpf_value.specs.Spelling.{IsTextOf, IsWord4, IsWord8, IsSigned, IsDate, IsNothing, IsId, IsTuples, IsCountedCell, IsMany, IsCell}
 use Rattle.vpf_value.proofs.Numbers.{length-number, number_of-number, number-number_of, number_of_below, length-number16, number_of-number16, number-number_of16, number_of16_below}
 use Rattle.vpf_value.proofs.WordLists.{length-words_of, words_of_below}
 use Rattle.vpf_value.proofs.WordTexts.{length-word_text, words_of-word_text, word_text-words_of}
@@ -36,17 +37,17 @@ sized_takes : (n : ℕ) (v : Value) (bytes : List ℕ) (u : Value) (k : ℕ) →
 unfolding sized
 sized_takes n v bytes u k e =
     let g = guarded _ _ _ _ e in
-    let same = ok_is (v, n) (u, k) g.1 in
+    let same = ok_is {x = (v, n)} {y = (u, k)} g.1 in
     (ltb-false _ _ g.0, sym (ap (λ (x : Value × ℕ). x.0) same), sym (ap (λ (x : Value × ℕ). x.1) same))
 
 sized_again : (n : ℕ) (v u : Value) (text rest : List ℕ) → length text ≡ n → u ≡ v → sized n u (text ++ rest) ≡ Ok (v, length text)
 sized_again n v u text rest long same =
     rw (sized-enough n u (text ++ rest) (omega (arith, length-append text rest)), same, long) refl
 
-text_again : (n : ℕ) (v : Value) (text rest : List ℕ) → IsText n v text → text_from n (text ++ rest) ≡ Ok (v, length text)
+text_again : (n : ℕ) (v : Value) (text rest : List ℕ) → IsTextOf n v text → text_from n (text ++ rest) ≡ Ok (v, length text)
 text_again n v text rest h = sized_again n v _ text rest h.1 (ap TextOf (take_at text rest n h.1) ∙ sym h.0)
 
-text_takes : (n : ℕ) (bytes : List ℕ) (v : Value) (k : ℕ) → text_from n bytes ≡ Ok (v, k) → (k ≤ length bytes) × IsText n v (take k bytes)
+text_takes : (n : ℕ) (bytes : List ℕ) (v : Value) (k : ℕ) → text_from n bytes ≡ Ok (v, k) → (k ≤ length bytes) × IsTextOf n v (take k bytes)
 text_takes n bytes v k e =
     let t = sized_takes n _ bytes v k e in
     rw t.2 (t.0, (t.1, length-take-le n bytes t.0))
@@ -122,10 +123,6 @@ long_takes o bytes v k fits e =
 
 -- ---- nothing, and triplet ids
 
-bind_ok : {A B : Type 0} (r : Result A Code) (f : A → Result B Code) (y : B) → (r >>= f) ≡ Ok y → (x : A) × (r ≡ Ok x) × (f x ≡ Ok y)
-bind_ok (Ok x) f y e = (x, refl, e)
-bind_ok (Err d) f y e = absurd cc
-
 id_again : (o : Order) (v : Value) (text rest : List ℕ) → IsId o v text → triplet_from o (text ++ rest) ≡ Ok (v, length text)
 unfolding triplet_from
 id_again o v text rest h = rw (triplet_again o h.triplet text rest h.spelled, h.is) refl
@@ -134,7 +131,7 @@ id_takes : (o : Order) (bytes : List ℕ) (v : Value) (k : ℕ) → IsBytes byte
 unfolding triplet_from
 id_takes o bytes v k fits e =
     let b = bind_ok (triplet_at o bytes) (λ x. Ok (TripletOf x.0, x.1)) (v, k) e in
-    let same = ok_is (TripletOf b.0.0, b.0.1) (v, k) b.2 in
+    let same = ok_is {x = (TripletOf b.0.0, b.0.1)} {y = (v, k)} b.2 in
     let t = triplet_takes o bytes b.0.0 b.0.1 fits b.1 in
     let is : v ≡ TripletOf b.0.0 = sym (ap (λ (x : Value × ℕ). x.0) same) in
     let long : k ≡ b.0.1 = sym (ap (λ (x : Value × ℕ). x.1) same) in
@@ -158,14 +155,14 @@ tuples_takes o w tuple n bytes v k fits e =
 -- ---- counts
 
 -- whatever is spelled for a count is read for it
-abbrev Again : (ℕ → List ℕ → Answer) → (ℕ → Value → List ℕ → Type 0) → Type 0
+abbrev Again : (ℕ → List ℕ → CellAnswer) → (ℕ → Value → List ℕ → Type 0) → Type 0
 Again read Is = (n : ℕ) (v : Value) (text rest : List ℕ) → Is n v text → read n (text ++ rest) ≡ Ok (v, length text)
 
 -- whatever is read for a count is spelled for it
-abbrev Takes : (ℕ → List ℕ → Answer) → (ℕ → Value → List ℕ → Type 0) → Type 0
+abbrev Takes : (ℕ → List ℕ → CellAnswer) → (ℕ → Value → List ℕ → Type 0) → Type 0
 Takes read Is = (n : ℕ) (bytes : List ℕ) (v : Value) (k : ℕ) → IsBytes bytes → read n bytes ≡ Ok (v, k) → (k ≤ length bytes) × Is n v (take k bytes)
 
-counted_again : (o : Order) (read : ℕ → List ℕ → Answer) (Is : ℕ → Value → List ℕ → Type 0) → Again read Is → (v : Value) (text rest : List ℕ) → IsCounted o Is v text → counted_from o read (text ++ rest) ≡ Ok (v, length text)
+counted_again : (o : Order) (read : ℕ → List ℕ → CellAnswer) (Is : ℕ → Value → List ℕ → Type 0) → Again read Is → (v : Value) (text rest : List ℕ) → IsCountedCell o Is v text → counted_from o read (text ++ rest) ≡ Ok (v, length text)
 counted_again o read Is again v text rest h =
     let front = number o w32 h.count in
     let four : length front ≡ 4 = length-number o Four h.count in
@@ -176,35 +173,35 @@ counted_again o read Is again v text rest h =
     let long : length text ≡ 4 + length h.rest = ap length h.parts ∙ length-append front h.rest ∙ ap (λ (k : ℕ). k + length h.rest) four in
     rw (regrouped, counted-enough o read (front ++ (h.rest ++ rest)) enough, count_is, behind, again h.count v h.rest rest h.spelled, long) refl
 
-counted_takes : (o : Order) (read : ℕ → List ℕ → Answer) (Is : ℕ → Value → List ℕ → Type 0) → Takes read Is → (bytes : List ℕ) (v : Value) (k : ℕ) → IsBytes bytes → counted_from o read bytes ≡ Ok (v, k) → (k ≤ length bytes) × IsCounted o Is v (take k bytes)
+counted_takes : (o : Order) (read : ℕ → List ℕ → CellAnswer) (Is : ℕ → Value → List ℕ → Type 0) → Takes read Is → (bytes : List ℕ) (v : Value) (k : ℕ) → IsBytes bytes → counted_from o read bytes ≡ Ok (v, k) → (k ≤ length bytes) × IsCountedCell o Is v (take k bytes)
 unfolding counted_from
 counted_takes o read Is takes bytes v k fits e =
     let n = number_of o w32 bytes in
     let g = guarded _ _ _ _ e in
     let enough : 4 ≤ length bytes = ltb-false _ _ g.0 in
     let b = bind_ok (read n (drop 4 bytes)) (λ x. Ok (x.0, 4 + x.1)) (v, k) g.1 in
-    let same = ok_is (b.0.0, 4 + b.0.1) (v, k) b.2 in
+    let same = ok_is {x = (b.0.0, 4 + b.0.1)} {y = (v, k)} b.2 in
     let is : b.0.0 ≡ v = ap (λ (x : Value × ℕ). x.0) same in
     let long : k ≡ 4 + b.0.1 = sym (ap (λ (x : Value × ℕ). x.1) same) in
     let t = takes n (drop 4 bytes) b.0.0 b.0.1 (IsBytes-drop 4 bytes fits) b.1 in
     let parts : take (4 + b.0.1) bytes ≡ number o w32 n ++ take b.0.1 (drop 4 bytes) = rw (number-number_of o Four bytes fits enough) (take-add 4 b.0.1 bytes) in
     rw long (omega (arith, length-drop 4 bytes, t.0), record { count = n; rest = take b.0.1 (drop 4 bytes); small = number_of_below o Four bytes fits; parts = parts; spelled = subst (λ (u : Value). Is n u (take b.0.1 (drop 4 bytes))) is t.1 })
 
-many_again : (o : Order) (read : ℕ → List ℕ → Answer) (Is : ℕ → Value → List ℕ → Type 0) → Again read Is → (count : Count) (v : Value) (text rest : List ℕ) → IsMany o Is count v text → many_from o read count (text ++ rest) ≡ Ok (v, length text)
+many_again : (o : Order) (read : ℕ → List ℕ → CellAnswer) (Is : ℕ → Value → List ℕ → Type 0) → Again read Is → (count : Count) (v : Value) (text rest : List ℕ) → IsMany o Is count v text → many_from o read count (text ++ rest) ≡ Ok (v, length text)
 many_again o read Is again (Fixed n) v text rest h = again n v text rest h
 many_again o read Is again Star v text rest h = counted_again o read Is again v text rest h
 
-many_takes : (o : Order) (read : ℕ → List ℕ → Answer) (Is : ℕ → Value → List ℕ → Type 0) → Takes read Is → (count : Count) (bytes : List ℕ) (v : Value) (k : ℕ) → IsBytes bytes → many_from o read count bytes ≡ Ok (v, k) → (k ≤ length bytes) × IsMany o Is count v (take k bytes)
+many_takes : (o : Order) (read : ℕ → List ℕ → CellAnswer) (Is : ℕ → Value → List ℕ → Type 0) → Takes read Is → (count : Count) (bytes : List ℕ) (v : Value) (k : ℕ) → IsBytes bytes → many_from o read count bytes ≡ Ok (v, k) → (k ≤ length bytes) × IsMany o Is count v (take k bytes)
 many_takes o read Is takes (Fixed n) bytes v k fits e = takes n bytes v k fits e
 many_takes o read Is takes Star bytes v k fits e = counted_takes o read Is takes bytes v k fits e
 
 -- ---- every kind
 
 pub cell_again : (o : Order) (kind : Kind) (count : Count) (v : Value) (text rest : List ℕ) → IsCell o kind count v text → cell_from o kind count (text ++ rest) ≡ Ok (v, length text)
-cell_again o kinds.T c v text rest h = many_again o text_from IsText text_again c v text rest h
-cell_again o kinds.L c v text rest h = many_again o text_from IsText text_again c v text rest h
-cell_again o kinds.M c v text rest h = many_again o text_from IsText text_again c v text rest h
-cell_again o kinds.N c v text rest h = many_again o text_from IsText text_again c v text rest h
+cell_again o kinds.T c v text rest h = many_again o text_from IsTextOf text_again c v text rest h
+cell_again o kinds.L c v text rest h = many_again o text_from IsTextOf text_again c v text rest h
+cell_again o kinds.M c v text rest h = many_again o text_from IsTextOf text_again c v text rest h
+cell_again o kinds.N c v text rest h = many_again o text_from IsTextOf text_again c v text rest h
 cell_again o kinds.F c v text rest h = word4_again o v text rest h
 cell_again o kinds.R c v text rest h = word8_again o v text rest h
 cell_again o kinds.S c v text rest h = short_again o v text rest h
@@ -217,24 +214,24 @@ cell_again o kinds.B c v text rest h = many_again o (tuples_from o Eight Pair) (
 cell_again o kinds.Z c v text rest h = many_again o (tuples_from o Four Triple) (IsTuples o Four Triple) (tuples_again o Four Triple) c v text rest h
 cell_again o kinds.Y c v text rest h = many_again o (tuples_from o Eight Triple) (IsTuples o Eight Triple) (tuples_again o Eight Triple) c v text rest h
 
-texts_takes : Takes text_from IsText
+texts_takes : Takes text_from IsTextOf
 texts_takes n bytes v k fits e = text_takes n bytes v k e
 
-abbrev nothing_read : Answer
+abbrev nothing_read : CellAnswer
 nothing_read = Ok (Nothing, 0)
 
 nothing_takes : (bytes : List ℕ) (v : Value) (k : ℕ) → nothing_read ≡ Ok (v, k) → (k ≤ length bytes) × IsNothing v (take k bytes)
 nothing_takes bytes v k e =
-    let same = ok_is (Nothing, 0) (v, k) e in
+    let same = ok_is {x = (Nothing, 0)} {y = (v, k)} e in
     let is : v ≡ Nothing = sym (ap (λ (x : Value × ℕ). x.0) same) in
     let long : k ≡ 0 = sym (ap (λ (x : Value × ℕ). x.1) same) in
     rw long (omega arith, (is, refl))
 
 pub cell_takes : (o : Order) (kind : Kind) (count : Count) (bytes : List ℕ) (v : Value) (n : ℕ) → IsBytes bytes → cell_from o kind count bytes ≡ Ok (v, n) → (n ≤ length bytes) × IsCell o kind count v (take n bytes)
-cell_takes o kinds.T c bytes v n fits e = many_takes o text_from IsText texts_takes c bytes v n fits e
-cell_takes o kinds.L c bytes v n fits e = many_takes o text_from IsText texts_takes c bytes v n fits e
-cell_takes o kinds.M c bytes v n fits e = many_takes o text_from IsText texts_takes c bytes v n fits e
-cell_takes o kinds.N c bytes v n fits e = many_takes o text_from IsText texts_takes c bytes v n fits e
+cell_takes o kinds.T c bytes v n fits e = many_takes o text_from IsTextOf texts_takes c bytes v n fits e
+cell_takes o kinds.L c bytes v n fits e = many_takes o text_from IsTextOf texts_takes c bytes v n fits e
+cell_takes o kinds.M c bytes v n fits e = many_takes o text_from IsTextOf texts_takes c bytes v n fits e
+cell_takes o kinds.N c bytes v n fits e = many_takes o text_from IsTextOf texts_takes c bytes v n fits e
 cell_takes o kinds.F c bytes v n fits e = word4_takes o bytes v n fits e
 cell_takes o kinds.R c bytes v n fits e = word8_takes o bytes v n fits e
 cell_takes o kinds.S c bytes v n fits e = short_takes o bytes v n fits e

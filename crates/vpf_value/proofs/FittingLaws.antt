@@ -13,14 +13,14 @@ use Rattle.vpf_triplet.specs.declared.sizes.Size.{Size}
 use Rattle.vpf_triplet.specs.declared.sizes.Size.TheVariants.{Absent, One, Two, Four as FourBytes}
 use Rattle.vpf_triplet.specs.Numbers.{number}
 use Rattle.vpf_triplet.specs.Reading.{is_small}
-use Rattle.vpf_triplet.specs.Spelling.{Holds as HoldsPart, spelling}
+use Rattle.vpf_triplet.specs.Spelling.{HoldsPart as HoldsPart, spelling}
 use Rattle.vpf_value.specs.declared.coords.WordWidth.{WordWidth}
 use Rattle.vpf_value.specs.declared.coords.WordWidth.TheVariants.{Four, Eight}
 use Rattle.vpf_value.specs.declared.coords.Tuple.{Tuple}
 use Rattle.vpf_value.specs.declared.coords.Tuple.TheVariants.{Pair, Triple}
-use Rattle.vpf_value.specs.Words.{tuple_len, word_text}
+use Rattle.vpf_value.specs.Words.{tuple_len, spelled_words}
 use Rattle.vpf_value.specs.Values.{Value, TextOf, Word4Of, Word8Of, NumberOf, DateOf, Nothing, TripletOf, WordsOf}
-use Rattle.vpf_value.specs.Spelling.{IsText, IsWord4, IsWord8, IsSigned, IsDate, IsNothing, IsId, IsTuples, IsMany, IsCell}
+use Rattle.vpf_value.specs.Spelling.{IsTextOf, IsWord4, IsWord8, IsSigned, IsDate, IsNothing, IsId, IsTuples, IsMany, IsCell}
 use Rattle.vpf_value.specs.Fitting.{FitsText, FitsWord4, FitsWord8, FitsNumber, FitsDate, FitsNothing, FitsId, FitsTuples, FitsKind, FitsCell, HasSpelling}
 
 -- some bytes spell the value
@@ -29,7 +29,7 @@ Spelled Is v = (bytes : List ℕ) × Is v bytes
 
 -- ---- what fits is spelled
 
-text_spelled : (o : Order) (count : Count) (v : Value) → FitsText count v → Spelled (IsMany o IsText count) v
+text_spelled : (o : Order) (count : Count) (v : Value) → FitsText count v → Spelled (IsMany o IsTextOf count) v
 text_spelled o (Fixed n) (TextOf text) h = (text, (refl, h))
 text_spelled o Star (TextOf text) h = (number o w32 (length text) ++ text, record { count = length text; rest = text; small = h; parts = refl; spelled = (refl, refl) })
 text_spelled o c v h = absurd h
@@ -87,13 +87,13 @@ id_spelled o v h = absurd h
 tuples_spelled : (o : Order) (width : WordWidth) (tuple : Tuple) (count : Count) (v : Value) → FitsTuples width tuple count v → Spelled (IsMany o (IsTuples o width tuple) count) v
 tuples_spelled o width tuple (Fixed n) (WordsOf w words) h =
     let is : WordsOf w words ≡ WordsOf width words = ap (λ (x : WordWidth). WordsOf x words) h.0 in
-    (word_text o width words, record { words = words; many = h.1.whole ∙ ap (λ (k : ℕ). tuple_len tuple * k) h.1.held; small = h.2; is = is; spelled = refl })
+    (spelled_words o width words, record { words = words; many = h.1.whole ∙ ap (λ (k : ℕ). tuple_len tuple * k) h.1.held; small = h.2; is = is; spelled = refl })
 tuples_spelled o width tuple Star (WordsOf w words) h =
     let is : WordsOf w words ≡ WordsOf width words = ap (λ (x : WordWidth). WordsOf x words) h.0 in (
-      number o w32 h.1.tuples ++ word_text o width words,
+      number o w32 h.1.tuples ++ spelled_words o width words,
       record {
         count = h.1.tuples;
-        rest = word_text o width words;
+        rest = spelled_words o width words;
         small = h.1.held;
         parts = refl;
         spelled = record { words = words; many = h.1.whole; small = h.2; is = is; spelled = refl };
@@ -120,7 +120,7 @@ kind_spelled o kinds.Y c v h = tuples_spelled o Eight Triple c v h
 
 -- ---- what is spelled fits
 
-text_fits : (o : Order) (count : Count) (v : Value) (bytes : List ℕ) → IsMany o IsText count v bytes → FitsText count v
+text_fits : (o : Order) (count : Count) (v : Value) (bytes : List ℕ) → IsMany o IsTextOf count v bytes → FitsText count v
 text_fits o (Fixed n) v bytes h = rw (h.0) h.1
 text_fits o Star v bytes h = rw (h.spelled.0) (omega (arith, h.spelled.1, h.small))
 

@@ -4,10 +4,11 @@ use Rattle.std.specs.Int.{w32}
 use Rattle.std.proofs.Common.{◌≡◌, ℕ, ◌+◌, ◌-◌, ◌*◌, ◌/◌, ◌≤◌, List, length, drop, take, Result, Ok, Err, refl, sym, ap, subst, ◌∙◌, arith}
 use Rattle.std.proofs.lemmas.Bool.{le-ltb}
 use Rattle.std.proofs.lemmas.List.{drop-drop, length-take-le}
+use Rattle.vpf_base.specs.Results.{◌>>=◌}
 use Rattle.vpf_triplet.specs.declared.orders.Order.{Order}
 use Rattle.vpf_triplet.specs.declared.places.Place.{Place}
 use Rattle.vpf_triplet.specs.Numbers.{number_of}
-use Rattle.vpf_triplet.specs.Places.{fault, ◌>>=◌}
+use Rattle.vpf_triplet.specs.Places.{fault}
 use Rattle.vpf_value.specs.declared.coords.WordWidth.{WordWidth}
 use Rattle.vpf_value.specs.declared.coords.WordWidth.TheVariants.{Four, Eight}
 use Rattle.vpf_value.specs.declared.coords.Tuple.{Tuple}
@@ -15,7 +16,7 @@ use Rattle.vpf_value.specs.declared.cells.Cell.{Cell}
 use Rattle.vpf_value.specs.Words.{word_bytes, tuple_len, words_of}
 use Rattle.vpf_value.specs.Coordinates.{words_in}
 use Rattle.vpf_value.specs.Values.{Value, WordsOf, view}
-use Rattle.vpf_value.specs.Reading.{Answer, sized, counted_from, tuples_from, ReadsCell}
+use Rattle.vpf_value.specs.Reading.{CellAnswer, sized, counted_from, tuples_from, ReadsCell}
 use Rattle.vpf_value.proofs.WordLists.{words_of-take}
 
 -- enough bytes are left
@@ -44,11 +45,11 @@ tuples_read o w t count at len bytes rest width words len_is rest_is enough widt
     rw (← rest_is, sized-enough (word_bytes w * m) (WordsOf w (words_of o w m rest)) rest fits, width_is, same, past) refl
 
 -- the count is whole
-pub counted-enough : (o : Order) (read : ℕ → List ℕ → Answer) (bytes : List ℕ) → 4 ≤ length bytes → counted_from o read bytes ≡ (read (number_of o w32 bytes) (drop 4 bytes) >>= λ x. Ok (x.0, 4 + x.1))
+pub counted-enough : (o : Order) (read : ℕ → List ℕ → CellAnswer) (bytes : List ℕ) → 4 ≤ length bytes → counted_from o read bytes ≡ (read (number_of o w32 bytes) (drop 4 bytes) >>= λ x. Ok (x.0, 4 + x.1))
 unfolding counted_from
 counted-enough o read bytes h = rw (le-ltb (length bytes) 4 h) refl
 
-behind_count : (o : Order) (read : ℕ → List ℕ → Answer) (bytes rest : List ℕ) (at count : ℕ) (answer : Answer)
+behind_count : (o : Order) (read : ℕ → List ℕ → CellAnswer) (bytes rest : List ℕ) (at count : ℕ) (answer : CellAnswer)
     → rest ≡ drop at bytes → 4 ≤ length rest → count ≡ number_of o w32 rest → read count (drop (at + 4) bytes) ≡ answer
     → counted_from o read (drop at bytes) ≡ (answer >>= λ x. Ok (x.0, 4 + x.1))
 behind_count o read bytes rest at count answer rest_is enough count_is given =
@@ -56,7 +57,7 @@ behind_count o read bytes rest at count answer rest_is enough count_is given =
     let enough_there : 4 ≤ length (drop at bytes) = omega (arith, enough, ap length rest_is) in
     counted-enough o read (drop at bytes) enough_there ∙ rw (count_there, drop-drop 4 at bytes, given) refl
 
-pub counted_reads : (o : Order) (read : ℕ → List ℕ → Answer) (bytes rest : List ℕ) (at count : ℕ) (inner outer : Result (Cell × ℕ) Place)
+pub counted_reads : (o : Order) (read : ℕ → List ℕ → CellAnswer) (bytes rest : List ℕ) (at count : ℕ) (inner outer : Result (Cell × ℕ) Place)
     → rest ≡ drop at bytes → 4 ≤ length rest → count ≡ number_of o w32 rest → ReadsCell (at + 4) inner (read count (drop (at + 4) bytes))
     → MatchResult inner (λ r. outer ≡ Ok r) (λ place. outer ≡ Err (fault at place.code))
     → ReadsCell at outer (counted_from o read (drop at bytes))

@@ -15,7 +15,7 @@ use Rattle.vpf_value.specs.declared.coords.Tuple.{Tuple}
 use Rattle.vpf_value.specs.declared.coords.Tuple.TheVariants.{Pair, Triple}
 use Rattle.vpf_value.specs.declared.turning.WordSize.{WordSize}
 use Rattle.vpf_value.specs.declared.turning.WordSize.TheVariants.{One, Two, Four, Eight}
-use Rattle.vpf_value.specs.Words.{word_bytes, number_width, word_text}
+use Rattle.vpf_value.specs.Words.{word_bytes, number_width, spelled_words}
 use Rattle.vpf_value.specs.Values.{Value, TextOf, Word4Of, Word8Of, NumberOf, DateOf, WordsOf}
 use Rattle.vpf_value.specs.Fitting.{FitsKind, FitsCell, FitsTuples}
 use Rattle.vpf_value.specs.Widths.{cell_width, many_width}
@@ -79,24 +79,24 @@ nothing_turned Eight = refl
 
 -- ---- words, one after another
 
-words_turned : (o p : Order) (w : WordWidth) (words : List ℕ) → o ≢ p → word_text p w words ≡ each_piece reverse (length words) (word_bytes w) (word_text o w words)
-unfolding word_text each_piece
+words_turned : (o p : Order) (w : WordWidth) (words : List ℕ) → o ≢ p → spelled_words p w words ≡ each_piece reverse (length words) (word_bytes w) (spelled_words o w words)
+unfolding spelled_words each_piece
 words_turned o p w [] h = refl
 words_turned o p w (n ∷ ns) h =
     let word = number o (number_width w) n in
-    let rest = word_text o w ns in
+    let rest = spelled_words o w ns in
     let front = take_at word rest (word_bytes w) (length-number o w n) in
     let back = drop_at word rest (word_bytes w) (length-number o w n) in
     rw (front, back, reversed o p w n h, words_turned o p w ns h) refl
 
-tuples_turned4 : (o p : Order) (words : List ℕ) → o ≢ p → word_text p widths.Four words ≡ turned_cell Four (word_text o widths.Four words)
+tuples_turned4 : (o p : Order) (words : List ℕ) → o ≢ p → spelled_words p widths.Four words ≡ turned_cell Four (spelled_words o widths.Four words)
 tuples_turned4 o p words h =
-    let n : length (word_text o widths.Four words) / 4 ≡ length words = omega (arith, length-word_text o widths.Four words) in
+    let n : length (spelled_words o widths.Four words) / 4 ≡ length words = omega (arith, length-word_text o widths.Four words) in
     rw n (words_turned o p widths.Four words h)
 
-tuples_turned8 : (o p : Order) (words : List ℕ) → o ≢ p → word_text p widths.Eight words ≡ turned_cell Eight (word_text o widths.Eight words)
+tuples_turned8 : (o p : Order) (words : List ℕ) → o ≢ p → spelled_words p widths.Eight words ≡ turned_cell Eight (spelled_words o widths.Eight words)
 tuples_turned8 o p words h =
-    let n : length (word_text o widths.Eight words) / 8 ≡ length words = omega (arith, length-word_text o widths.Eight words) in
+    let n : length (spelled_words o widths.Eight words) / 8 ≡ length words = omega (arith, length-word_text o widths.Eight words) in
     rw n (words_turned o p widths.Eight words h)
 
 -- ---- cells

@@ -17,7 +17,7 @@ use Rattle.vpf_value.specs.declared.coords.Tuple.TheVariants.{Pair, Triple}
 use Rattle.vpf_value.specs.Words.{word_bytes, tuple_len}
 use Rattle.vpf_value.specs.Values.{Value}
 use Rattle.vpf_value.specs.Reading.{sized, text_from, tuples_from, many_from, cell_from}
-use Rattle.vpf_value.specs.Spelling.{IsText, IsTuples, IsMany, IsCounted, IsCell}
+use Rattle.vpf_value.specs.Spelling.{IsTextOf, IsTuples, IsMany, IsCountedCell, IsCell}
 use Rattle.vpf_value.specs.Widths.{cell_width, many_width, TakesWidth}
 use Rattle.vpf_value.proofs.Numbers.{length-number, length-number16}
 use Rattle.vpf_value.proofs.WordTexts.{length-word_text}
@@ -72,13 +72,13 @@ not_zero : (n : ℕ) → Fixed n ≢ Fixed 0 → 0 < n
 not_zero zero h = absurd (h refl)
 not_zero (suc n) h = omega arith
 
-counted_has_room : (o : Order) (Is : ℕ → Value → List ℕ → Type 0) (v : Value) (text : List ℕ) → IsCounted o Is v text → 0 < length text
+counted_has_room : (o : Order) (Is : ℕ → Value → List ℕ → Type 0) (v : Value) (text : List ℕ) → IsCountedCell o Is v text → 0 < length text
 counted_has_room o Is v text h =
     omega (arith, ap length h.parts, length-append (number o w32 h.count) h.rest, length-number o Four h.count)
 
-texts_have_room : (o : Order) (count : Count) (v : Value) (text : List ℕ) → count ≢ Fixed 0 → IsMany o IsText count v text → 0 < length text
+texts_have_room : (o : Order) (count : Count) (v : Value) (text : List ℕ) → count ≢ Fixed 0 → IsMany o IsTextOf count v text → 0 < length text
 texts_have_room o (Fixed n) v text some h = omega (arith, not_zero n some, h.1)
-texts_have_room o Star v text some h = counted_has_room o IsText v text h
+texts_have_room o Star v text some h = counted_has_room o IsTextOf v text h
 
 room_of : (w : WordWidth) (tuple : Tuple) (n : ℕ) → 0 < n → 0 < word_bytes w * (tuple_len tuple * n)
 room_of Four Pair n h = omega arith

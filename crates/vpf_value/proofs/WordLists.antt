@@ -2,9 +2,10 @@
 use Rattle.std.specs.Prelude.{All}
 use Rattle.std.proofs.Common.{◌≡◌, ℕ, zero, suc, ◌+◌, ◌-◌, ◌*◌, ◌<◌, ◌≤◌, List, length, get_or, drop, take, refl, sym, ap, ◌∙◌, arith}
 use Rattle.std.proofs.lemmas.List.{drop-drop, drop-take}
+use Rattle.vpf_base.proofs.ByteLists.{IsBytes-drop}
+use Rattle.vpf_base.specs.Bytes.{IsBytes}
 use Rattle.vpf_triplet.specs.declared.orders.Order.{Order}
-use Rattle.vpf_triplet.specs.Numbers.{IsBytes, number_of}
-use Rattle.vpf_triplet.proofs.Spelled.{IsBytes-drop}
+use Rattle.vpf_triplet.specs.Numbers.{number_of}
 use Rattle.vpf_value.specs.declared.coords.WordWidth.{WordWidth}
 use Rattle.vpf_value.specs.declared.coords.WordWidth.TheVariants.{Four, Eight}
 use Rattle.vpf_value.specs.Words.{word_bytes, word_limit, number_width, words_of}

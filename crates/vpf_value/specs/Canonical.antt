@@ -10,17 +10,17 @@ use Rattle.vpf_triplet.specs.Numbers.{number}
 use Rattle.vpf_triplet.specs.Canonical.{canonical}
 use Rattle.vpf_value.specs.declared.coords.Tuple.{Tuple}
 use Rattle.vpf_value.specs.declared.coords.Tuple.TheVariants.{Pair, Triple}
-use Rattle.vpf_value.specs.Words.{tuple_len, word_text}
+use Rattle.vpf_value.specs.Words.{tuple_len, spelled_words}
 use Rattle.vpf_value.specs.Values.{Value, TextOf, Word4Of, Word8Of, NumberOf, DateOf, TripletOf, WordsOf}
 
 -- so many values, with a count of 4 bytes before them where the header does not say how many
-abbrev pub counted : Order → Count → ℕ → List ℕ → List ℕ
-counted o (Fixed n) many bytes = bytes
-counted o Star many bytes = number o w32 many ++ bytes
+abbrev pub with_count : Order → Count → ℕ → List ℕ → List ℕ
+with_count o (Fixed n) many bytes = bytes
+with_count o Star many bytes = number o w32 many ++ bytes
 
 -- a text as it is
 abbrev pub spelled_text : Order → Count → Value → List ℕ
-spelled_text o count (TextOf text) = counted o count (length text) text
+spelled_text o count (TextOf text) = with_count o count (length text) text
 spelled_text o count v = []
 
 -- a word of 4 bytes
@@ -50,7 +50,7 @@ spelled_id o v = []
 
 -- tuples of words, one word after another
 abbrev pub spelled_tuples : Order → Tuple → Count → Value → List ℕ
-spelled_tuples o tuple count (WordsOf w words) = counted o count (length words / tuple_len tuple) (word_text o w words)
+spelled_tuples o tuple count (WordsOf w words) = with_count o count (length words / tuple_len tuple) (spelled_words o w words)
 spelled_tuples o tuple count v = []
 
 -- The canonical spelling of a value in a field of this kind and count; of a value that does not fit there, no matter what.

@@ -20,8 +20,8 @@ abbrev pub words : Coords → List ℕ
 words c = words_in c.order c.width c.bytes.now
 
 -- the width of its words
-abbrev pub width_of : Coords → WordWidth
-width_of c = c.width
+abbrev pub words_width : Coords → WordWidth
+words_width c = c.width
 
 -- the tuples that its words make
 abbrev pub tuple_of : Coords → Tuple

@@ -4,7 +4,7 @@ use Rattle.vpf_triplet.specs.declared.orders.Order.{Order}
 use Rattle.vpf_triplet.specs.declared.kinds.Kind.{Kind}
 use Rattle.vpf_triplet.specs.declared.kinds.Count.{Count}
 use Rattle.vpf_triplet.specs.declared.places.Code.{Code}
-use Rattle.vpf_value.specs.Faults.{FirstFault}
+use Rattle.vpf_value.specs.Faults.{FirstCellFault}
 use Rattle.vpf_value.specs.Values.{Value}
 use Rattle.vpf_value.specs.Spelling.{IsCell}
 
@@ -14,8 +14,8 @@ pub record BeginsCell (o : Order) (kind : Kind) (count : Count) (bytes : List �
   pub spelled : IsCell o kind count v text
 
 -- exactly one of the two, in one way
-pub record Decides (o : Order) (kind : Kind) (count : Count) (bytes : List ℕ) : Type 0 where
-  pub either : ((v : Value) × (text : List ℕ) × (rest : List ℕ) × BeginsCell o kind count bytes v text rest) ⊎ ((code : Code) × FirstFault o kind count bytes code)
-  pub never_both : (v : Value) (text rest : List ℕ) (code : Code) → BeginsCell o kind count bytes v text rest → FirstFault o kind count bytes code → ⊥
-  pub one_code : (c d : Code) → FirstFault o kind count bytes c → FirstFault o kind count bytes d → c ≡ d
+pub record DecidesCell (o : Order) (kind : Kind) (count : Count) (bytes : List ℕ) : Type 0 where
+  pub either : ((v : Value) × (text : List ℕ) × (rest : List ℕ) × BeginsCell o kind count bytes v text rest) ⊎ ((code : Code) × FirstCellFault o kind count bytes code)
+  pub never_both : (v : Value) (text rest : List ℕ) (code : Code) → BeginsCell o kind count bytes v text rest → FirstCellFault o kind count bytes code → ⊥
+  pub one_code : (c d : Code) → FirstCellFault o kind count bytes c → FirstCellFault o kind count bytes d → c ≡ d
   pub one_value : (v u : Value) (text rest text2 rest2 : List ℕ) → BeginsCell o kind count bytes v text rest → BeginsCell o kind count bytes u text2 rest2 → (v ≡ u) × (text ≡ text2) × (rest ≡ rest2)

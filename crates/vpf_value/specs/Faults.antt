@@ -23,19 +23,19 @@ AreCut size o Star bytes code = IsCut 4 bytes code ⊎ IsCut (4 + size * number_
 
 -- The first fault of the bytes where a cell of this kind and count should stand. A cell is cut where the bytes end inside it;
 -- a triplet id may be refused for what it says as well, and nothing refuses a cell of no bytes.
-abbrev pub FirstFault : Order → Kind → Count → List ℕ → Code → Type 0
-FirstFault o kinds.T count bytes code = AreCut 1 o count bytes code
-FirstFault o kinds.L count bytes code = AreCut 1 o count bytes code
-FirstFault o kinds.M count bytes code = AreCut 1 o count bytes code
-FirstFault o kinds.N count bytes code = AreCut 1 o count bytes code
-FirstFault o kinds.F count bytes code = IsCut 4 bytes code
-FirstFault o kinds.R count bytes code = IsCut 8 bytes code
-FirstFault o kinds.S count bytes code = IsCut 2 bytes code
-FirstFault o kinds.I count bytes code = IsCut 4 bytes code
-FirstFault o kinds.D count bytes code = IsCut date_bytes bytes code
-FirstFault o kinds.X count bytes code = ⊥
-FirstFault o kinds.K count bytes code = triplets.FirstFault o bytes code
-FirstFault o kinds.C count bytes code = AreCut 8 o count bytes code
-FirstFault o kinds.B count bytes code = AreCut 16 o count bytes code
-FirstFault o kinds.Z count bytes code = AreCut 12 o count bytes code
-FirstFault o kinds.Y count bytes code = AreCut 24 o count bytes code
+abbrev pub FirstCellFault : Order → Kind → Count → List ℕ → Code → Type 0
+FirstCellFault o kinds.T count bytes code = AreCut 1 o count bytes code
+FirstCellFault o kinds.L count bytes code = AreCut 1 o count bytes code
+FirstCellFault o kinds.M count bytes code = AreCut 1 o count bytes code
+FirstCellFault o kinds.N count bytes code = AreCut 1 o count bytes code
+FirstCellFault o kinds.F count bytes code = IsCut 4 bytes code
+FirstCellFault o kinds.R count bytes code = IsCut 8 bytes code
+FirstCellFault o kinds.S count bytes code = IsCut 2 bytes code
+FirstCellFault o kinds.I count bytes code = IsCut 4 bytes code
+FirstCellFault o kinds.D count bytes code = IsCut date_bytes bytes code
+FirstCellFault o kinds.X count bytes code = ⊥
+FirstCellFault o kinds.K count bytes code = triplets.FirstTripletFault o bytes code
+FirstCellFault o kinds.C count bytes code = AreCut 8 o count bytes code
+FirstCellFault o kinds.B count bytes code = AreCut 16 o count bytes code
+FirstCellFault o kinds.Z count bytes code = AreCut 12 o count bytes code
+FirstCellFault o kinds.Y count bytes code = AreCut 24 o count bytes code

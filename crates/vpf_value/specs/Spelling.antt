@@ -13,12 +13,12 @@ use Rattle.vpf_value.specs.declared.coords.WordWidth.{WordWidth}
 use Rattle.vpf_value.specs.declared.coords.WordWidth.TheVariants.{Four, Eight}
 use Rattle.vpf_value.specs.declared.coords.Tuple.{Tuple}
 use Rattle.vpf_value.specs.declared.coords.Tuple.TheVariants.{Pair, Triple}
-use Rattle.vpf_value.specs.Words.{tuple_len, word_limit, word_text}
+use Rattle.vpf_value.specs.Words.{tuple_len, word_limit, spelled_words}
 use Rattle.vpf_value.specs.Values.{Value, TextOf, Word4Of, Word8Of, NumberOf, DateOf, Nothing, TripletOf, WordsOf, date_bytes}
 
 -- a text of `n` bytes, as they are
-abbrev pub IsText : ℕ → Value → List ℕ → Type 0
-IsText n v bytes = (v ≡ TextOf bytes) × (length bytes ≡ n)
+abbrev pub IsTextOf : ℕ → Value → List ℕ → Type 0
+IsTextOf n v bytes = (v ≡ TextOf bytes) × (length bytes ≡ n)
 
 -- a word of 4 bytes
 pub record IsWord4 (o : Order) (v : Value) (bytes : List ℕ) : Type 0 where
@@ -61,10 +61,10 @@ pub record IsTuples (o : Order) (width : WordWidth) (tuple : Tuple) (n : ℕ) (v
   pub many : length words ≡ tuple_len tuple * n
   pub small : All (λ word. word < word_limit width) words
   pub is : v ≡ WordsOf width words
-  pub spelled : bytes ≡ word_text o width words
+  pub spelled : bytes ≡ spelled_words o width words
 
 -- a count of 4 bytes, and then what is spelled for that count
-pub record IsCounted (o : Order) (IsRest : ℕ → Value → List ℕ → Type 0) (v : Value) (bytes : List ℕ) : Type 0 where
+pub record IsCountedCell (o : Order) (IsRest : ℕ → Value → List ℕ → Type 0) (v : Value) (bytes : List ℕ) : Type 0 where
   pub count : ℕ
   pub rest : List ℕ
   pub small : count < 2 ^ 32
@@ -74,14 +74,14 @@ pub record IsCounted (o : Order) (IsRest : ℕ → Value → List ℕ → Type 0
 -- as many values as a count says, which stands in the header or in the cell before them
 abbrev pub IsMany : Order → (ℕ → Value → List ℕ → Type 0) → Count → Value → List ℕ → Type 0
 IsMany o IsValue (Fixed n) v bytes = IsValue n v bytes
-IsMany o IsValue Star v bytes = IsCounted o IsValue v bytes
+IsMany o IsValue Star v bytes = IsCountedCell o IsValue v bytes
 
 -- The bytes spell the value in a cell of this kind and count.
 abbrev pub IsCell : Order → Kind → Count → Value → List ℕ → Type 0
-IsCell o kinds.T count v bytes = IsMany o IsText count v bytes
-IsCell o kinds.L count v bytes = IsMany o IsText count v bytes
-IsCell o kinds.M count v bytes = IsMany o IsText count v bytes
-IsCell o kinds.N count v bytes = IsMany o IsText count v bytes
+IsCell o kinds.T count v bytes = IsMany o IsTextOf count v bytes
+IsCell o kinds.L count v bytes = IsMany o IsTextOf count v bytes
+IsCell o kinds.M count v bytes = IsMany o IsTextOf count v bytes
+IsCell o kinds.N count v bytes = IsMany o IsTextOf count v bytes
 IsCell o kinds.F count v bytes = IsWord4 o v bytes
 IsCell o kinds.R count v bytes = IsWord8 o v bytes
 IsCell o kinds.S count v bytes = IsSigned o w16 v bytes

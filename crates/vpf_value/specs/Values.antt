@@ -4,7 +4,7 @@ use Rattle.vpf_triplet.specs.declared.triplets.Triplet.{Triplet}
 use Rattle.vpf_value.specs.declared.coords.WordWidth.{WordWidth}
 use Rattle.vpf_value.specs.declared.cells.Cell.{Cell}
 use Rattle.vpf_value.specs.declared.cells.Cell.TheVariants as cells
-use Rattle.vpf_value.specs.Coordinates.{words, width_of}
+use Rattle.vpf_value.specs.Coordinates.{words, words_width}
 
 -- how many bytes a date has
 abbrev pub date_bytes : ℕ
@@ -39,4 +39,4 @@ view (cells.Long n) = NumberOf n
 view (cells.Date text) = DateOf text.now
 view cells.Null = Nothing
 view (cells.Triplet t) = TripletOf t
-view (cells.Coords c) = WordsOf (width_of c) (words c)
+view (cells.Coords c) = WordsOf (words_width c) (words c)

@@ -6,7 +6,7 @@ use Rattle.vpf_triplet.specs.declared.kinds.Count.{Count}
 use Rattle.vpf_triplet.specs.declared.kinds.Count.TheVariants.{Fixed, Star}
 use Rattle.vpf_triplet.specs.declared.places.Code.TheVariants as codes
 use Rattle.vpf_value.specs.Values.{Value, date_bytes}
-use Rattle.vpf_value.specs.Reading.{Answer}
+use Rattle.vpf_value.specs.Reading.{CellAnswer}
 
 -- so many values of this many bytes each; no one width where each cell says how many
 abbrev pub many_width : ℕ → Count → Option ℕ
@@ -32,6 +32,6 @@ cell_width kinds.Z count = many_width 12 count
 cell_width kinds.Y count = many_width 24 count
 
 -- Reading the bytes answers a cell of this width: `cell-cut` exactly where fewer are left.
-pub record TakesWidth (width : ℕ) (bytes : List ℕ) (answer : Answer) : Type 0 where
+pub record TakesWidth (width : ℕ) (bytes : List ℕ) (answer : CellAnswer) : Type 0 where
   pub cut : length bytes < width → answer ≡ Err codes.CellCut
   pub whole : width ≤ length bytes → (v : Value) × (answer ≡ Ok (v, width))

@@ -34,6 +34,6 @@ words_of o w zero bytes = []
 words_of o w (suc n) bytes = number_of o (number_width w) bytes ∷ words_of o w n (drop (word_bytes w) bytes)
 
 -- the spelling of words: their numbers, one after another
-unfoldable pub word_text : Order → WordWidth → List ℕ → List ℕ
-word_text o w [] = []
-word_text o w (n ∷ ns) = number o (number_width w) n ++ word_text o w ns
+unfoldable pub spelled_words : Order → WordWidth → List ℕ → List ℕ
+spelled_words o w [] = []
+spelled_words o w (n ∷ ns) = number o (number_width w) n ++ spelled_words o w ns

@@ -7,7 +7,7 @@ ghost use Rattle.vpf_triplet.specs.Places.{fault};
 ghost use Rattle.vpf_value.specs.Values.{Value, TextOf, Word4Of, Word8Of, NumberOf, DateOf, date_bytes, view};
 ghost use Rattle.vpf_value.specs.Coordinates.{tuple_in, kind_tuple};
 ghost use Rattle.vpf_value.specs.Deciding.{BeginsCell};
-ghost use Rattle.vpf_value.specs.Faults.{FirstFault};
+ghost use Rattle.vpf_value.specs.Faults.{FirstCellFault};
 ghost use Rattle.vpf_value.specs.Spelling.{IsCell};
 ghost use Rattle.vpf_value.specs.Reading.{ReadsCell, sized, text_from, tuples_from, counted_from, many_from, triplet_from, cell_from};
 
@@ -44,7 +44,8 @@ pub(crate) const COUNT_BYTES: usize = 4;
 #[inline]
 fn rest_at(bytes: &[u8], at: usize, len: usize) -> Result<&[u8], Place>
     requires { at ≤ length bytes.now }
-    ensures { MatchResult result (λ rest. (rest.now ≡ drop at bytes.now) × (len ≤ length rest.now)) (λ place. (length (drop at bytes.now) < len) × (place ≡ fault at Code.CellCut)) }
+    ensures { MatchResult result (λ rest. (rest.now ≡ drop at bytes.now) × (len ≤ length rest.now)) (λ place. (length (drop at bytes.now) < len)
+        × (place ≡ fault at Code.CellCut)) }
 {
     let rest = &bytes[at..];
     if rest.len() < len {
@@ -287,11 +288,12 @@ pub fn cell_at(
     // What is read is spelled so, up to the offset.
     ensures found { IfOk result (λ r. (at ≤ r.1) × IsCell order kind count (view r.0) (slice_range bytes.now at r.1)) }
     // What is spelled so is read, whatever follows.
-    ensures only { (v : Value) (text rest : List ℕ) → BeginsCell order kind count (drop at bytes.now) v text rest → IsOkAnd result (λ r. (view r.0 ≡ v) × (r.1 ≡ at + length text)) }
+    ensures only { (v : Value) (text rest : List ℕ) → BeginsCell order kind count (drop at bytes.now) v text rest
+        → IsOkAnd result (λ r. (view r.0 ≡ v) × (r.1 ≡ at + length text)) }
     // The value and its end, or the code of the first fault.
     ensures exact { ReadsCell at result (cell_from order kind count (drop at bytes.now)) }
     // What is refused has this first fault.
-    ensures refused { IfErr result (λ p. FirstFault order kind count (drop at bytes.now) p.code) }
+    ensures refused { IfErr result (λ p. FirstCellFault order kind count (drop at bytes.now) p.code) }
     ensures inside { IfOk result (λ r. r.1 ≤ length bytes.now) }
     // Coordinates keep the tuples of their kind.
     ensures tupled { IfOk result (λ r. tuple_in r.0 ≡ kind_tuple kind) }

@@ -2,7 +2,7 @@
 
 ghost use Rattle.std.specs.Prelude.{◌≡◌, ◌↔◌, IsTrue, length};
 ghost use Rattle.vpf_value.specs.Values.{WordsOf, view};
-ghost use Rattle.vpf_value.specs.Coordinates.{words, width_of};
+ghost use Rattle.vpf_value.specs.Coordinates.{words, words_width};
 
 use crate::cells::Cell;
 use crate::coords::Coords;
@@ -20,7 +20,7 @@ fn same_words(a: &Coords<'_>, b: &Coords<'_>) -> bool
 }
 
 fn same_coords(a: &Coords<'_>, b: &Coords<'_>) -> bool
-    ensures { IsTrue result ↔ (WordsOf (width_of a.now) (words a.now) ≡ WordsOf (width_of b.now) (words b.now)) }
+    ensures { IsTrue result ↔ (WordsOf (words_width a.now) (words a.now) ≡ WordsOf (words_width b.now) (words b.now)) }
 {
     a.word_width() == b.word_width() && a.len() == b.len() && same_words(a, b)
 }

@@ -1,7 +1,8 @@
 //! Lists of coordinates, whose words stay in the file.
 
 ghost use Rattle.std.specs.Prelude.{◌≡◌, ◌+◌, ◌*◌, ◌≤◌, length, drop};
-ghost use Rattle.vpf_triplet.specs.Numbers.{IsBytes, number_of};
+ghost use Rattle.vpf_base.specs.Bytes.{IsBytes};
+ghost use Rattle.vpf_triplet.specs.Numbers.{number_of};
 ghost use Rattle.vpf_value.specs.Words.{word_bytes, tuple_len, number_width};
 
 use vpf_triplet::Order;
@@ -89,13 +90,13 @@ pub struct Coords<'a> {
 impl<'a> Coords<'a> {
     ghost use Rattle.std.specs.Prelude.{◌≡◌, ◌<◌, ◌*◌, ◌↔◌, [], length, slice_index, IsTrue};
     ghost use Rattle.vpf_value.specs.Words.{word_bytes, tuple_len};
-    ghost use Rattle.vpf_value.specs.Coordinates.{words, words_in, width_of, tuple_of};
+    ghost use Rattle.vpf_value.specs.Coordinates.{words, words_in, words_width, tuple_of};
 
     /// The words that the bytes spell.
     #[inline]
     pub(crate) fn new(order: Order, width: WordWidth, tuple: Tuple, bytes: &'a [u8]) -> Coords<'a>
         ensures listed { words result ≡ words_in order width bytes.now }
-        ensures wide { width_of result ≡ width }
+        ensures wide { words_width result ≡ width }
         ensures tupled { tuple_of result ≡ tuple }
     {
         Coords {
@@ -109,7 +110,7 @@ impl<'a> Coords<'a> {
     /// How many bytes each word takes.
     #[inline]
     pub fn word_width(&self) -> WordWidth
-        ensures { result ≡ width_of self.now }
+        ensures { result ≡ words_width self.now }
     {
         self.width
     }
@@ -136,7 +137,7 @@ impl<'a> Coords<'a> {
     /// How many bytes all words take.
     #[inline]
     pub(crate) fn words_bytes(&self) -> usize
-        ensures { result ≡ word_bytes (width_of self.now) * length (words self.now) }
+        ensures { result ≡ word_bytes (words_width self.now) * length (words self.now) }
     {
         match self.width {
             WordWidth::Four => self.bytes.len() / 4 * 4,

@@ -2,7 +2,7 @@
 
 ghost use Rattle.std.specs.Prelude.{◌≡◌, ◌↔◌, IsTrue};
 ghost use Rattle.vpf_value.specs.Values.{WordsOf, view};
-ghost use Rattle.vpf_value.specs.Coordinates.{words, width_of};
+ghost use Rattle.vpf_value.specs.Coordinates.{words, words_width};
 ghost use Rattle.vpf_triplet.specs.Reading.{is_small};
 ghost use Rattle.vpf_value.specs.Fitting.{Holds, HoldsTuples, FitsWord4, FitsWord8, FitsTuples, FitsKind, FitsCell, HasSpelling};
 
@@ -58,7 +58,7 @@ fn has_small_parts(id: &Triplet) -> bool
 }
 
 fn are_tuples(width: WordWidth, tuple: Tuple, count: Count, coords: &Coords<'_>) -> bool
-    ensures { IsTrue result ↔ FitsTuples width tuple count (WordsOf (width_of coords.now) (words coords.now)) }
+    ensures { IsTrue result ↔ FitsTuples width tuple count (WordsOf (words_width coords.now) (words coords.now)) }
 {
     coords.word_width() == width && holds_tuples(tuple, count, coords.len())
 }

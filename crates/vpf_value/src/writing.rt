@@ -3,11 +3,11 @@
 ghost use Rattle.std.specs.Prelude.{◌≡◌, ◌<◌, ◌*◌, ◌/◌, ◌++◌, ℕ, [], OnOk, OnErr, length, take, vec_len};
 ghost use Rattle.vpf_triplet.specs.declared.orders.Order.{Order};
 ghost use Rattle.vpf_triplet.specs.Numbers.{number};
-ghost use Rattle.vpf_value.specs.Words.{word_bytes, word_limit, tuple_len, word_text, number_width};
+ghost use Rattle.vpf_value.specs.Words.{word_bytes, word_limit, tuple_len, spelled_words, number_width};
 ghost use Rattle.vpf_value.specs.Values.{view};
-ghost use Rattle.vpf_value.specs.Coordinates.{words, width_of};
+ghost use Rattle.vpf_value.specs.Coordinates.{words, words_width};
 ghost use Rattle.vpf_value.specs.Fitting.{Holds, HoldsTuples, FitsCell};
-ghost use Rattle.vpf_value.specs.Canonical.{counted, spelled};
+ghost use Rattle.vpf_value.specs.Canonical.{with_count, spelled};
 
 use crate::cells::{COUNT_BYTES, Cell};
 use crate::coords::{Coords, Tuple, WordWidth};
@@ -19,7 +19,7 @@ use vpf_triplet::{Count, Kind, Order};
 #[inline]
 fn put_count(order: Order, count: Count, values: usize, out: &mut Vec<u8>) -> Result<(), AllocError>
     requires { Holds count values }
-    ensures ok { OnOk result (out.new.items ≡ out.old.items ++ counted order count values []) }
+    ensures ok { OnOk result (out.new.items ≡ out.old.items ++ with_count order count values []) }
     ensures err { OnErr result (out.new.items ≡ out.old.items) }
 {
     match count {
@@ -31,7 +31,7 @@ fn put_count(order: Order, count: Count, values: usize, out: &mut Vec<u8>) -> Re
 #[inline]
 fn put_text(order: Order, count: Count, text: &[u8], out: &mut Vec<u8>) -> Result<(), AllocError>
     requires { Holds count (length text.now) }
-    ensures ok { OnOk result (out.new.items ≡ out.old.items ++ counted order count (length text.now) text.now) }
+    ensures ok { OnOk result (out.new.items ≡ out.old.items ++ with_count order count (length text.now) text.now) }
     ensures err { OnErr result (out.new.items ≡ out.old.items) }
 {
     let before = out.len();
@@ -58,7 +58,7 @@ fn put_word(order: Order, width: WordWidth, word: u64, out: &mut Vec<u8>) -> Res
 /// Appends the words one by one, since the file that they lie in may have another order. After an error some of them
 /// may stand behind what stood there.
 fn put_words(order: Order, coords: &Coords<'_>, out: &mut Vec<u8>) -> Result<(), AllocError>
-    ensures ok { OnOk result (out.new.items ≡ out.old.items ++ word_text order (width_of coords.now) (words coords.now)) }
+    ensures ok { OnOk result (out.new.items ≡ out.old.items ++ spelled_words order (words_width coords.now) (words coords.now)) }
     ensures kept { take (vec_len out.old) out.new.items ≡ out.old.items }
 {
     let width = coords.word_width();
@@ -77,7 +77,7 @@ fn put_coords(
 ) -> Result<(), AllocError>
     requires { HoldsTuples tuple count (length (words coords.now)) }
     ensures ok { OnOk result (out.new.items ≡ out.old.items
-        ++ counted order count (length (words coords.now) / tuple_len tuple) (word_text order (width_of coords.now) (words coords.now))) }
+        ++ with_count order count (length (words coords.now) / tuple_len tuple) (spelled_words order (words_width coords.now) (words coords.now))) }
     ensures err { OnErr result (out.new.items ≡ out.old.items) }
 {
     let before = out.len();

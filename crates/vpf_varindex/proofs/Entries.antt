@@ -1,36 +1,23 @@
 -- Entries: where reading them stops, and each of those that are read.
-use Rattle.std.proofs.Common.{◌≡◌, ℕ, zero, suc, ◌+◌, ◌*◌, ◌<◌, ◌≤◌, Bool, true, false, cond, leb, ltb, List, [], ◌∷◌, length, Some, Result, Ok, Err, refl, sym, ap, ◌∙◌, arith}
+use Rattle.std.proofs.Common.{◌≡◌, ℕ, zero, suc, ◌+◌, ◌*◌, ◌<◌, ◌≤◌, leb, ltb, List, [], ◌∷◌, length, Some, Result, Ok, Err, refl, sym, ap, ◌∙◌, arith}
 use Rattle.std.specs.Prelude.{slice_get}
 use Rattle.std.specs.Int.{w32}
 use Rattle.std.proofs.lemmas.Bool.{lt-ltb, le-ltb, ltb-false, lt-leb, le-leb, leb-true}
+use Rattle.vpf_base.specs.Results.{◌>>=◌}
+use Rattle.vpf_base.proofs.Results.{done, ok_is, guarded, passed}
 use Rattle.vpf_triplet.specs.declared.orders.Order.{Order}
 use Rattle.vpf_triplet.specs.declared.places.Place.{Place}
 use Rattle.vpf_triplet.specs.declared.places.Code.TheVariants as codes
 use Rattle.vpf_triplet.specs.Numbers.{number_of}
-use Rattle.vpf_triplet.specs.Places.{◌>>=◌, index_fault}
-use Rattle.vpf_varindex.specs.Reading.{entry_at, entries_at, index_at}
+use Rattle.vpf_triplet.specs.Places.{index_fault}
+use Rattle.vpf_varindex.specs.Reading.{index_entry, entries_at, index_at}
 use Rattle.vpf_varindex.specs.Views.{entries_of}
-
-abbrev pub done : {A : Type 0} → A → Result A Place
-done x = Ok x
-
-pub ok_is : {A : Type 0} (x y : A) → done x ≡ done y → x ≡ y
-ok_is x y e = cc
-
--- a test that let reading go on
-pub passed : {A : Type 0} (b : Bool) (p : Place) (r : Result A Place) (y : A) → cond b (Err p) r ≡ Ok y → (b ≡ false) × (r ≡ Ok y)
-passed true p r y e = absurd cc
-passed false p r y e = (refl, e)
-
-pub kept : {A : Type 0} (b : Bool) (p : Place) (r : Result A Place) (y : A) → cond b r (Err p) ≡ Ok y → (b ≡ true) × (r ≡ Ok y)
-kept true p r y e = (refl, e)
-kept false p r y e = absurd cc
 
 abbrev then_entry : ℕ × ℕ → Result (List (ℕ × ℕ)) Place → Result (List (ℕ × ℕ)) Place
 then_entry x r = r >>= λ others. Ok (x ∷ others)
 
 then_ok : (x : ℕ × ℕ) (r : Result (List (ℕ × ℕ)) Place) (es : List (ℕ × ℕ)) → then_entry x r ≡ Ok es → (others : List (ℕ × ℕ)) × (r ≡ Ok others) × (es ≡ x ∷ others)
-then_ok x (Ok others) es e = (others, refl, sym (ok_is (x ∷ others) es e))
+then_ok x (Ok others) es e = (others, refl, sym (ok_is {x = (x ∷ others)} {y = es} e))
 then_ok x (Err p) es e = absurd cc
 
 -- the first of the entries that are read, and the others
@@ -38,20 +25,20 @@ pub record Opens (n : ℕ) (o : Order) (bytes : List ℕ) (at : ℕ) (es : List 
   pub others : List (ℕ × ℕ)
   pub room : at + 8 ≤ length bytes
   pub rest : entries_at n o bytes (at + 8) ≡ Ok others
-  pub is : es ≡ entry_at o bytes at ∷ others
+  pub is : es ≡ index_entry o bytes at ∷ others
 
 pub opens : (n : ℕ) (o : Order) (bytes : List ℕ) (at : ℕ) (es : List (ℕ × ℕ)) → entries_at (suc n) o bytes at ≡ Ok es → Opens n o bytes at es
 unfolding entries_at
 opens n o bytes at es e =
-    let p = passed (ltb (length bytes) (at + 8)) (index_fault at codes.IndexCut) (then_entry (entry_at o bytes at) (entries_at n o bytes (at + 8))) es e in
-    let t = then_ok (entry_at o bytes at) (entries_at n o bytes (at + 8)) es p.1 in
+    let p = guarded (ltb (length bytes) (at + 8)) (index_fault at codes.IndexCut) (then_entry (index_entry o bytes at) (entries_at n o bytes (at + 8))) es e in
+    let t = then_ok (index_entry o bytes at) (entries_at n o bytes (at + 8)) es p.1 in
     record { others = t.0; room = ltb-false _ _ p.0; rest = t.1; is = t.2 }
 
 pub closes : (o : Order) (bytes : List ℕ) (at : ℕ) (es : List (ℕ × ℕ)) → entries_at zero o bytes at ≡ Ok es → (length bytes ≤ at) × (es ≡ [])
 unfolding entries_at
 closes o bytes at es e =
-    let p = kept (leb (length bytes) at) (index_fault at codes.IndexExtra) (done []) es e in
-    (leb-true _ _ p.0, sym (ok_is [] es p.1))
+    let p = passed (leb (length bytes) at) (index_fault at codes.IndexExtra) (done []) es e in
+    (leb-true _ _ p.0, sym (ok_is {x = []} {y = es} p.1))
 
 pub length-entries : (n : ℕ) (o : Order) (bytes : List ℕ) (at : ℕ) (es : List (ℕ × ℕ)) → entries_at n o bytes at ≡ Ok es → length es ≡ n
 length-entries zero o bytes at es e = ap length (closes o bytes at es e).1
@@ -62,7 +49,7 @@ length-entries (suc n) o bytes at es e =
 -- entry k, counted from 0
 pub record Stands (o : Order) (bytes : List ℕ) (at : ℕ) (es : List (ℕ × ℕ)) (k : ℕ) : Type 0 where
   pub room : at + 8 ≤ length bytes
-  pub item : slice_get es k ≡ Some (entry_at o bytes at)
+  pub item : slice_get es k ≡ Some (index_entry o bytes at)
 
 item_zero : (es others : List (ℕ × ℕ)) (x : ℕ × ℕ) → es ≡ x ∷ others → slice_get es 0 ≡ Some x
 item_zero es others x e = rw e refl
@@ -75,11 +62,11 @@ stands zero o bytes at here es k e h z = absurd (omega (arith, length-entries 0 
 stands (suc n) o bytes at here es zero e h z =
     let s = opens n o bytes at es e in
     let same : here ≡ at = omega arith in
-    rw same (record { room = s.room; item = item_zero es s.others (entry_at o bytes at) s.is })
+    rw same (record { room = s.room; item = item_zero es s.others (index_entry o bytes at) s.is })
 stands (suc n) o bytes at here es (suc k) e h z =
     let s = opens n o bytes at es e in
     let t = stands n o bytes (at + 8) here s.others k s.rest (omega (arith, h, ap length s.is)) (omega arith) in
-    record { room = t.room; item = item_suc es s.others (entry_at o bytes at) (entry_at o bytes here) k s.is t.item }
+    record { room = t.room; item = item_suc es s.others (index_entry o bytes at) (index_entry o bytes here) k s.is t.item }
 
 -- ---- as many bytes as are there
 
@@ -111,7 +98,7 @@ unfolding entries_at
 entries_whole zero o bytes at h = ([], rw (le-leb (length bytes) at (omega arith)) refl)
 entries_whole (suc n) o bytes at h =
     let others = entries_whole n o bytes (at + 8) (omega arith) in
-    (entry_at o bytes at ∷ others.0, rw (le-ltb (length bytes) (at + 8) (omega arith), others.1) refl)
+    (index_entry o bytes at ∷ others.0, rw (le-ltb (length bytes) (at + 8) (omega arith), others.1) refl)
 
 -- ---- whole indexes
 
@@ -147,5 +134,5 @@ index_whole o bytes n long e h =
 pub entry_stands : (o : Order) (bytes : List ℕ) (es : List (ℕ × ℕ)) (k here : ℕ) → index_at o bytes ≡ Ok es → k < length es → here ≡ 8 + k * 8 → Stands o bytes here es k
 unfolding index_at
 entry_stands o bytes es k here e h z =
-    let p = passed (ltb (length bytes) 8) (index_fault 0 codes.IndexCut) (entries_at (number_of o w32 bytes) o bytes 8) es e in
+    let p = guarded (ltb (length bytes) 8) (index_fault 0 codes.IndexCut) (entries_at (number_of o w32 bytes) o bytes 8) es e in
     stands (number_of o w32 bytes) o bytes 8 here es k p.1 h z

@@ -5,18 +5,20 @@ use Rattle.std.specs.Int.{w32}
 use Rattle.std.proofs.lemmas.Bool.{le-ltb, ltb-false, le-leb}
 use Rattle.std.proofs.lemmas.List.{drop_at, drop-drop, take-append-drop, length-append, length-drop, drop_all}
 use Rattle.std.proofs.lemmas.List.Elements.{All-nil, All-cons, All-head, All-tail}
+use Rattle.vpf_base.proofs.Results.{ok_is, guarded}
+use Rattle.vpf_triplet.proofs.NumberLemmas.{length-number, number_again, number_takes, number_below}
+use Rattle.vpf_base.proofs.ByteLists.{IsBytes-drop}
+use Rattle.vpf_base.specs.Bytes.{IsBytes}
 use Rattle.vpf_triplet.specs.declared.orders.Order.{Order}
 use Rattle.vpf_triplet.specs.declared.places.Place.{Place}
 use Rattle.vpf_triplet.specs.declared.places.Code.TheVariants as codes
-use Rattle.vpf_triplet.specs.Numbers.{IsBytes, number, number_of}
+use Rattle.vpf_triplet.specs.Numbers.{number, number_of}
 use Rattle.vpf_triplet.specs.Places.{Gives, index_fault}
-use Rattle.vpf_triplet.proofs.Spelled.{IsBytes-drop}
-use Rattle.vpf_varindex.specs.Deciding.{Decides}
-use Rattle.vpf_varindex.specs.Faults.{FirstFault}
-use Rattle.vpf_varindex.specs.Reading.{entry_at, entries_at, index_at}
+use Rattle.vpf_varindex.specs.Deciding.{DecidesIndex}
+use Rattle.vpf_varindex.specs.Faults.{FirstIndexFault}
+use Rattle.vpf_varindex.specs.Reading.{index_entry, entries_at, index_at}
 use Rattle.vpf_varindex.specs.RowIndex.{entries_text, row_index, HasSpan, IsRowIndex}
-use Rattle.vpf_varindex.proofs.Numbers.{length-number, number_again, number_takes, number_below}
-use Rattle.vpf_varindex.proofs.Entries.{ok_is, passed, opens, closes, length-entries}
+use Rattle.vpf_varindex.proofs.Entries.{opens, closes, length-entries}
 use Rattle.vpf_varindex.proofs.EntryFaults.{index_faults, fault_refuses}
 
 -- what follows a number at the front
@@ -73,14 +75,14 @@ entries_take (suc n) o bytes at es fits e =
     let s = opens n o bytes at es e in
     let others = entries_take n o bytes (at + 8) s.others fits s.rest in
     let k : at + 4 + 4 ≡ at + 8 = omega arith in
-    let here : HasSpan (entry_at o bytes at) = (number_below o (drop at bytes) (IsBytes-drop at bytes fits), number_below o (drop (at + 4) bytes) (IsBytes-drop (at + 4) bytes fits)) in
+    let here : HasSpan (index_entry o bytes at) = (number_below o (drop at bytes) (IsBytes-drop at bytes fits), number_below o (drop (at + 4) bytes) (IsBytes-drop (at + 4) bytes fits)) in
     let later = split_number o bytes (at + 4) fits (omega (arith, s.room)) in
-    rw s.is (All-cons HasSpan (entry_at o bytes at) s.others here others.0, split_number o bytes at fits (omega (arith, s.room)) ∙ ap (λ (x : List ℕ). number o w32 (number_of o w32 (drop at bytes)) ++ x) (later ∙ ap (λ (x : List ℕ). number o w32 (number_of o w32 (drop (at + 4) bytes)) ++ x) (ap (λ (i : ℕ). drop i bytes) k ∙ others.1)))
+    rw s.is (All-cons HasSpan (index_entry o bytes at) s.others here others.0, split_number o bytes at fits (omega (arith, s.room)) ∙ ap (λ (x : List ℕ). number o w32 (number_of o w32 (drop at bytes)) ++ x) (later ∙ ap (λ (x : List ℕ). number o w32 (number_of o w32 (drop (at + 4) bytes)) ++ x) (ap (λ (i : ℕ). drop i bytes) k ∙ others.1)))
 
 pub index_takes : (o : Order) (spans : List (ℕ × ℕ)) (bytes : List ℕ) → IsBytes bytes → index_at o bytes ≡ Ok spans → IsRowIndex o spans bytes
 unfolding index_at
 index_takes o spans bytes fits e =
-    let p = passed (ltb (length bytes) 8) (index_fault 0 codes.IndexCut) (entries_at (number_of o w32 bytes) o bytes 8) spans e in
+    let p = guarded (ltb (length bytes) 8) (index_fault 0 codes.IndexCut) (entries_at (number_of o w32 bytes) o bytes 8) spans e in
     let long : 8 ≤ length bytes = ltb-false _ _ p.0 in
     let count = length-entries (number_of o w32 bytes) o bytes 8 spans p.1 in
     let t = entries_take (number_of o w32 bytes) o bytes 8 spans fits p.1 in
@@ -96,7 +98,7 @@ index_takes o spans bytes fits e =
 
 -- ---- one or the other
 
-either_of : (o : Order) (bytes : List ℕ) (r : Result (List (ℕ × ℕ)) Place) → IsBytes bytes → index_at o bytes ≡ r → ((spans : List (ℕ × ℕ)) × IsRowIndex o spans bytes) ⊎ ((place : Place) × FirstFault o bytes place)
+either_of : (o : Order) (bytes : List ℕ) (r : Result (List (ℕ × ℕ)) Place) → IsBytes bytes → index_at o bytes ≡ r → ((spans : List (ℕ × ℕ)) × IsRowIndex o spans bytes) ⊎ ((place : Place) × FirstIndexFault o bytes place)
 either_of o bytes (Ok spans) fits e = inl (spans, index_takes o spans bytes fits e)
 either_of o bytes (Err p) fits e = inr (p, index_faults o bytes p e)
 
@@ -106,11 +108,11 @@ ok_err r x p e f = cc
 err_err : (r : Result (List (ℕ × ℕ)) Place) (p q : Place) → r ≡ Err p → r ≡ Err q → p ≡ q
 err_err r p q e f = cc
 
-pub index_decided : (o : Order) (bytes : List ℕ) → IsBytes bytes → Decides o bytes
+pub index_decided : (o : Order) (bytes : List ℕ) → IsBytes bytes → DecidesIndex o bytes
 index_decided o bytes fits = record {
   either = either_of o bytes (index_at o bytes) fits refl;
   never_both = λ spans p i f. ok_err _ spans p (index_again o spans bytes i) (fault_refuses o bytes p f);
-  one_list = λ ss ts i j. ok_is ss ts (sym (index_again o ss bytes i) ∙ index_again o ts bytes j);
+  one_list = λ ss ts i j. ok_is {x = ss} {y = ts} (sym (index_again o ss bytes i) ∙ index_again o ts bytes j);
   one_fault = λ p q e f. err_err _ p q (fault_refuses o bytes p e) (fault_refuses o bytes q f);
 }
 
@@ -126,6 +128,6 @@ opened_is_spelled (Err p) o bytes fits e = tt
 pub spelled_is_opened : (r : Result (List (ℕ × ℕ)) Place) (o : Order) (bytes : List ℕ) (spans : List (ℕ × ℕ)) → IsRowIndex o spans bytes → Gives whole r (index_at o bytes) → Gives whole r (Ok spans)
 spelled_is_opened r o bytes spans i e = let P : Result (List (ℕ × ℕ)) Place → Type 0 = λ (x : Result (List (ℕ × ℕ)) Place). Gives whole r x in subst P (index_again o spans bytes i) e
 
-pub refused_is_faulty : (r : Result (List (ℕ × ℕ)) Place) (o : Order) (bytes : List ℕ) → Gives whole r (index_at o bytes) → IfErr r (λ p. FirstFault o bytes p)
+pub refused_is_faulty : (r : Result (List (ℕ × ℕ)) Place) (o : Order) (bytes : List ℕ) → Gives whole r (index_at o bytes) → IfErr r (λ p. FirstIndexFault o bytes p)
 refused_is_faulty (Ok spans) o bytes e = tt
 refused_is_faulty (Err p) o bytes e = index_faults o bytes p e

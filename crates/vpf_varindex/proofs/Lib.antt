@@ -1,4 +1,3 @@
-pub mod Numbers
 pub mod Entries
 pub mod EntryFaults
 pub mod IndexLaws

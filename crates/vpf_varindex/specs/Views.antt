@@ -14,6 +14,6 @@ abbrev pub entries : Inside → List (ℕ × ℕ)
 entries x = entries_of (index_at x.order x.bytes.now)
 
 -- the bytes are an index, with so many entries
-pub record IsRead (x : Inside) : Type 0 where
+pub record IsIndexRead (x : Inside) : Type 0 where
   pub read : index_at x.order x.bytes.now ≡ Ok (entries x)
   pub count : x.count ≡ length (entries x)

@@ -1,7 +1,7 @@
 //! A variable-length index, seen in its file.
 
 ghost use Rattle.std.specs.Prelude.{◌≡◌, ◌≤◌, ◌+◌, length};
-ghost use Rattle.vpf_varindex.specs.Reading.{entry_at};
+ghost use Rattle.vpf_varindex.specs.Reading.{index_entry};
 
 use crate::laws::{read_is_spelled, spelled_is_read};
 use std::marker::Model;
@@ -27,17 +27,17 @@ impl<'a> Model for IndexView<'a> {
 
     ghost Value = { List (ℕ × ℕ) };
 
-    ghost use Rattle.vpf_varindex.specs.Views.{entries, IsRead};
+    ghost use Rattle.vpf_varindex.specs.Views.{entries, IsIndexRead};
 
     ghost view = { entries };
 
-    ghost invariant = { IsRead };
+    ghost invariant = { IsIndexRead };
 }
 
 /// The offset and the length that the entry at `at` has.
 fn entry_in(order: Order, bytes: &[u8], at: usize) -> (u32, u32)
     requires { at + 8 ≤ length bytes.now }
-    ensures { result ≡ entry_at order bytes.now at }
+    ensures { result ≡ index_entry order bytes.now at }
 {
     let _end = bytes.len();
     let offset = order.u32_from(&bytes[at..]);
@@ -48,7 +48,7 @@ fn entry_in(order: Order, bytes: &[u8], at: usize) -> (u32, u32)
 impl<'a> IndexView<'a> {
     ghost use Rattle.std.specs.Prelude.{◌≡◌, ◌≤◌, ◌-◌, ◌==◌, ℕ, List, IfOk, IfErr, Ok, Some, length, slice_get};
     ghost use Rattle.vpf_triplet.specs.Places.{Gives};
-    ghost use Rattle.vpf_varindex.specs.Faults.{FirstFault};
+    ghost use Rattle.vpf_varindex.specs.Faults.{FirstIndexFault};
     ghost use Rattle.vpf_varindex.specs.Reading.{index_at};
     ghost use Rattle.vpf_varindex.specs.RowIndex.{IsRowIndex};
 
@@ -63,7 +63,7 @@ impl<'a> IndexView<'a> {
         // The index, or the first fault.
         ensures exact { Gives (λ view. view) result (index_at order bytes.now) }
         // What is refused has this first fault.
-        ensures refused { IfErr result (λ p. FirstFault order bytes.now p) }
+        ensures refused { IfErr result (λ p. FirstIndexFault order bytes.now p) }
     {
         spelled_is_read();
         read_is_spelled();

@@ -1,5 +1,6 @@
 use Rattle.std.specs.Prelude.{map, string_bytes}
-use Rattle.vpf.proofs.IndexedAnswers.{words_answered}
+use Rattle.vpf.proofs.Answering.{words_answered}
+use Rattle.vpf.proofs.Grammared.{words_said}
 use Rattle.vpf.proofs.ServedAnswers.{index_serves}
 use Rattle.vpf.proofs.running.run.Goals as goal
 
@@ -7,4 +8,12 @@ pub returns-clause-indexed : goal.returns-clause-indexed
 returns-clause-indexed g c files request answer e f agrees plain = c.do_words.ensures.answer answer (words_answered c.plain_answers.ensures _ _ files request answer e f agrees plain)
 
 pub returns-clause-built : goal.returns-clause-built
-returns-clause-built g c files request asked e f asks done = index_serves c.opened_is_read.ensures c.one_answer.ensures.some c.made_indexes_serve.ensures (map string_bytes c.args.words.now) files request asked _ _ _ e f asks done c.do_words.ensures.answer
+returns-clause-built g c files request asked e f asks done = index_serves c.opened_is_read.ensures c.indexes_are_elsewhere.ensures c.made_indexes_serve.ensures (map string_bytes c.args.words.now) files request asked _ _ _ e f asks done c.do_words.ensures.answer
+
+pub returns-clause-spelled : goal.returns-clause-spelled
+returns-clause-spelled g c command files name bytes grid answer e f has t said =
+    c.do_words.ensures.answer answer (words_said _ _ command files answer e f (c.answers_follow_the_grammar.ensures.tables command files name bytes grid answer has t said))
+
+pub returns-clause-faulty : goal.returns-clause-faulty
+returns-clause-faulty g c command files name bytes place e f has fault over =
+    c.do_words.ensures.answer _ (words_said _ _ command files _ e f (c.answers_follow_the_grammar.ensures.faults command files name bytes place has fault over))

@@ -1,7 +1,7 @@
 use Rattle.std.proofs.Common.{◌≡◌, ◌+◌, take}
 use Rattle.std.specs.Prelude.{min}
 use Rattle.std.specs.Str.Parse.{digits_value}
-use Rattle.vpf_head.specs.Fields.{most_values}
+use Rattle.vpf_base.specs.Limits.{most_values}
 use Rattle.vpf_head.proofs.fields.capped_value.Given as goal
 
 abbrev pub invariant-loop-digit : goal.invariant-loop-digit

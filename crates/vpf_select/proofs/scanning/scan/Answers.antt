@@ -14,7 +14,7 @@ loop-row-preserved-in-Continue-1 g c =
     record {
       found = scan_hit (view c.args.test.now.value) c.args.test.now.column c.loop-row.k c.loop-row.found.items c.push.new.self.items _ c.in-Some.row (view c.cell.result) c.loop-row.row-iterator c.next.new.self steps c.cell.ensures same c.in_ok-push.ensures.items i.found;
       count = omega (arith, one, i.count);
-      cost = omega (arith, i.cost, c.tick.ensures);
+      cost = omega (arith, i.cost);
       width = All-rest (λ (row : Row). length row ≡ length c.args.table.now.head.columns) c.in-Some.row c.next.new.self c.loop-row.row-iterator steps i.width;
     }
 
@@ -26,6 +26,6 @@ loop-row-preserved g c =
     record {
       found = scan_miss (view c.args.test.now.value) c.args.test.now.column c.loop-row.k c.loop-row.found.items _ c.in-Some.row (view c.cell.result) c.loop-row.row-iterator c.next.new.self steps c.cell.ensures (λ e. let t = c.same.ensures.1 e in let f = c.if-same.false in cc (sym t ∙ f)) i.found;
       count = omega (arith, one, i.count);
-      cost = omega (arith, i.cost, c.tick.ensures);
+      cost = omega (arith, i.cost);
       width = All-rest (λ (row : Row). length row ≡ length c.args.table.now.head.columns) c.in-Some.row c.next.new.self c.loop-row.row-iterator steps i.width;
     }

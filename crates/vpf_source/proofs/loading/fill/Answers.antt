@@ -15,6 +15,8 @@ loop-done-preserved g c =
     record {
       within = rw same_len (omega (arith, read.within.0, c.read_at.auto.buf, part, length-drop c.loop-done.done buf));
       front = reads_on _ _ _ room _ _ c.read_at.new.buf kept.within read.within.0 kept.front (rw kept.kept at read.bytes);
+      read = reads_on _ _ _ room _ _ c.read_at.new.buf kept.within read.within.0 kept.read (rw kept.reads_kept at read.read);
       kept = read.files ∙ kept.kept;
-      later = omega (arith, kept.later, read.later);
+      reads_kept = read.reads ∙ kept.reads_kept;
+      stood = read.stood ∙ kept.stood;
     }

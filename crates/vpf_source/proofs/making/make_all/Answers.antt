@@ -1,4 +1,4 @@
-use Rattle.std.proofs.Common.{◌≡◌, ◌+◌, ◌++◌, ◌∷◌, [], take, sym, ap, ◌∙◌, arith}
+use Rattle.std.proofs.Common.{◌≡◌, ◌+◌, ◌++◌, ◌∷◌, [], take, sym, ap, ◌∙◌}
 use Rattle.std.proofs.lemmas.List.{take_more}
 use Rattle.vpf_source.specs.declared.file.File.{File}
 use Rattle.vpf_source.proofs.Made.{with_all-push}
@@ -13,5 +13,5 @@ loop-file-preserved g c =
     take_more files c.loop-file.file-index file c.loop-file-test.true ∙ ap (λ (f : File). take c.loop-file.file-index files ++ f ∷ []) (sym c.file-item.is) in
     record {
       made = rw (more, with_all-push (take c.loop-file.file-index files) file (g.T.Tree.files c.args.tree.now), ← kept.made, ← c.as_str.ensures, ← c.as_slice.ensures) c.in_ok-make.ensures.made;
-      later = omega (arith, kept.later, c.in_ok-make.ensures.later);
+      stood = c.in_ok-make.ensures.stood (λ no. cc) ∙ kept.stood;
     }

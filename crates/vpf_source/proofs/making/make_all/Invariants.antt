@@ -1,4 +1,5 @@
-use Rattle.std.proofs.Common.{◌≡◌, ◌≤◌, take}
+use Rattle.std.proofs.Common.{◌≡◌, take}
+use Rattle.vpf_source.specs.Causes.{Stood}
 use Rattle.vpf_source.specs.Making.{with_all}
 use Rattle.vpf_source.proofs.making.make_all.Given as goal
 
@@ -8,5 +9,5 @@ invariant-loop-file g l =
     let faults = g.T.Tree.faults in
     record {
       made : told l.tree ≡ with_all (take l.file-index l.files) (told l.fn.tree);
-      later : faults l.fn.tree ≤ faults l.tree;
+      stood : Stood (faults l.fn.tree) (faults l.tree);
     }

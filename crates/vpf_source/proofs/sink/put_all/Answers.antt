@@ -10,5 +10,5 @@ loop-done-preserved g c =
       within = omega (arith, c.in_ok-done.ensures.within);
       appended = goes_on _ _ _ _ _ _ kept.appended (rw take_rest at c.in_ok-done.ensures.bytes);
       tells = c.in_ok-done.ensures.tells ∙ kept.tells;
-      later = omega (arith, kept.later, c.in_ok-done.ensures.later);
+      stood = c.in_ok-done.ensures.stood (λ no. cc) ∙ kept.stood;
     }

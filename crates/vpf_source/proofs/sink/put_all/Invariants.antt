@@ -1,5 +1,6 @@
 use Rattle.std.proofs.Common.{length, ◌-◌, ◌≤◌, take}
 use Rattle.std.specs.Io.KnownBytes.{Appends}
+use Rattle.vpf_source.specs.Causes.{Stood}
 use Rattle.vpf_source.specs.Writing.{TellsAsBefore}
 use Rattle.vpf_source.proofs.sink.put_all.Given as goal
 
@@ -11,7 +12,7 @@ invariant-loop-done g l =
       within : l.done ≤ length l.bytes;
       appended : Appends (written l.fn.sink) (written l.sink) (take l.done l.bytes);
       tells : TellsAsBefore (written l.fn.sink) (written l.sink);
-      later : faults l.fn.sink ≤ faults l.sink;
+      stood : Stood (faults l.fn.sink) (faults l.sink);
     }
 
 abbrev pub decreases-loop-done : goal.decreases-loop-done

@@ -1,6 +1,6 @@
 use Rattle.std.proofs.Common.{◌≡◌, ◌+◌, ◌-◌, ◌*◌, ◌/◌, ◌≤◌, ℕ, length, sym, ap, ◌∙◌, arith, Ok}
 use Rattle.std.proofs.Math.Nat.{mul-le-mul_left}
-use Rattle.vpf_table.specs.Reading.{most_rows}
+use Rattle.vpf_base.specs.Limits.{most_rows}
 use Rattle.vpf_table.proofs.FixedWidth.{rows_whole, row_ends}
 use Rattle.vpf_table.proofs.WalkLemmas.{rows_done, rows_full, row_refused}
 use Rattle.vpf_table.proofs.counting.fixed_count.Goals as goal

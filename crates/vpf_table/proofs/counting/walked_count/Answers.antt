@@ -1,7 +1,8 @@
 use Rattle.std.proofs.Common.{◌≡◌, ◌+◌, ◌-◌, ℕ, sym, ap, ◌∙◌, arith}
 use Rattle.std.proofs.lemmas.Result.{err_from_is_err_and}
+use Rattle.vpf_base.specs.Limits.{most_rows}
 use Rattle.vpf_table.proofs.WalkLemmas.{row_passed, row_refused, rows_full, rows_done}
-use Rattle.vpf_table.specs.Reading.{rows_at, most_rows}
+use Rattle.vpf_table.specs.Reading.{rows_at}
 use Rattle.vpf_table.specs.Walking.{counted}
 use Rattle.vpf_table.proofs.counting.walked_count.Goals as goal
 

@@ -1,5 +1,6 @@
 use Rattle.std.proofs.Common.{◌≡◌, ◌-◌, ◌≤◌, length}
-use Rattle.vpf_table.specs.Reading.{rows_at, most_rows}
+use Rattle.vpf_base.specs.Limits.{most_rows}
+use Rattle.vpf_table.specs.Reading.{rows_at}
 use Rattle.vpf_table.specs.Walking.{counted}
 use Rattle.vpf_table.proofs.counting.walked_count.Given as goal
 

@@ -1,4 +1,4 @@
-use Rattle.vpf_table.proofs.WritingLaws.{read_writable}
+use Rattle.vpf_table.proofs.CanonicalTables.{read_writable}
 use Rattle.vpf_table.proofs.laws.read_is_writable.Goals as goal
 
 pub returns : goal.returns

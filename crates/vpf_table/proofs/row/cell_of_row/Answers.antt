@@ -3,7 +3,7 @@ use Rattle.vpf_value.specs.Values.{Value, view}
 use Rattle.vpf_head.specs.Views.{col}
 use Rattle.vpf_table.specs.Reading.{cell_in, row_at}
 use Rattle.vpf_table.specs.Walking.{row_of, past_of}
-use Rattle.vpf_table.proofs.CellOf.{read_is, length-row, at_column, is_ok_from, same_found}
+use Rattle.vpf_table.proofs.CellOf.{ends_at, read_is, length-row, at_column, is_ok_from, same_found}
 use Rattle.vpf_table.proofs.row.cell_of_row.Goals as goal
 
 pub at-requires : goal.at-requires
@@ -16,8 +16,8 @@ at-requires-2 c =
     let r = row_at c.args.header.now.order c.args.header.now.columns c.args.bytes.now c.args.at in
     omega (arith, length-row c.args.header.now.order c.args.header.now.columns c.args.bytes.now c.args.at (row_of r) (past_of r) (read_is r c.requires.read), c.requires.column)
 
-pub sure_cell-past-requires-clause-read : goal.sure_cell-past-requires-clause-read
-sure_cell-past-requires-clause-read c =
+pub sure_past-here-requires-clause-read : goal.sure_past-here-requires-clause-read
+sure_past-here-requires-clause-read c =
     let r = row_at c.args.header.now.order c.args.header.now.columns c.args.bytes.now c.args.at in
     let h = at_column c.order-order.result c.args.header.now.columns c.args.bytes.now c.loop-i.here c.loop-i.i (row_of r) (past_of r) (col c.at.result.now) c.at.ensures c.loop-i.invariant.read in
     is_ok_from _ _ h.cell
@@ -29,11 +29,11 @@ loop-i-preserved c =
     let o = c.order-order.result in
     let bytes = c.args.bytes.now in
     let h = at_column o cols bytes c.loop-i.here c.loop-i.i (row_of r) (past_of r) (col c.at.result.now) c.at.ensures c.loop-i.invariant.read in
-    let next : h.next ≡ c.sure_cell-past.result.1 = ap (λ (x : Value × ℕ). x.1) (same_found (cell_in o (col c.at.result.now) bytes c.loop-i.here) (h.value, h.next) (view c.sure_cell-past.result.0, c.sure_cell-past.result.1) h.cell c.sure_cell-past.ensures.exact) in
+    let next = ends_at o (col c.at.result.now) bytes c.loop-i.here h.next c.sure_past-here.result h.value h.cell c.sure_past-here.ensures.exact in
     record {
       read = ap (λ (n : ℕ). row_at o (drop (c.loop-i.i + 1) cols) bytes n) (sym next) ∙ h.rest;
       order = c.loop-i.invariant.order;
-      inside = c.sure_cell-past.ensures.inside;
+      inside = c.sure_past-here.ensures.inside;
     }
 
 pub sure_cell-requires-clause-read : goal.sure_cell-requires-clause-read

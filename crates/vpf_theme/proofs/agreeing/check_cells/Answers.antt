@@ -1,10 +1,11 @@
 use Rattle.std.proofs.Common.{◌≡◌, ◌-◌, ◌<◌, ℕ, not, true, false, Some, length, map, sym, ap, ◌∙◌, arith}
+use Rattle.vpf_base.proofs.Lists.{find_pass, find_stop}
 use Rattle.vpf_value.specs.Values.{view}
-use Rattle.vpf_table.specs.Findings.{Disagreement}
+use Rattle.vpf_findings.specs.Findings.{Disagreement}
 use Rattle.vpf_theme.specs.Ordering.{same_value}
 use Rattle.vpf_theme.specs.Findings.{cell_of}
 use Rattle.vpf_theme.specs.KeyLaws.{same_yes, same_no}
-use Rattle.vpf_theme.proofs.WalkLemmas.{row_first, rows_rest, find_pass, find_stop, cell_there}
+use Rattle.vpf_theme.proofs.WalkLemmas.{row_first, rows_rest, cell_there}
 use Rattle.vpf_theme.proofs.agreeing.check_cells.Goals as goal
 
 pub bounds-cells-row : goal.bounds-cells-row

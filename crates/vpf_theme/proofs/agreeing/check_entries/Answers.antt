@@ -4,7 +4,14 @@ use Rattle.vpf_value.specs.Values.{view}
 use Rattle.vpf_head.specs.Views.{col}
 use Rattle.vpf_theme.specs.Findings.{lines_at}
 use Rattle.vpf_theme.proofs.AgreeLemmas.{tells_stop}
+use Rattle.vpf_theme.proofs.FirstLemmas.{first_pass}
 use Rattle.vpf_theme.proofs.agreeing.check_entries.Goals as goal
+
+pub loop-i-preserved : goal.loop-i-preserved
+loop-i-preserved c = record {
+  left = first_pass (lines_at c.args.theme.now (col c.args.column.now) (map view c.args.cells.now)) c.loop-i.i (length c.args.theme.now.entries) _ (omega arith) c.loop-i.invariant.left c.in_ok-check_entry.ensures.first;
+  firsts = c.in_ok-check_entry.ensures.firsts;
+}
 
 pub returns-in_err-check_entry : goal.returns-in_err-check_entry
 returns-in_err-check_entry c =

@@ -1,5 +1,6 @@
 use Rattle.std.proofs.Common.{◌≤◌, ◌-◌, ◌+◌, ◌*◌, ◌^◌}
 use Rattle.vpf_value.specs.Values.{view}
+use Rattle.vpf_theme.proofs.ComparedLemmas.{Halved}
 use Rattle.vpf_theme.proofs.SearchLemmas.{Below, Above}
 use Rattle.vpf_theme.proofs.searching.find_sorted.Given as goal
 
@@ -12,6 +13,7 @@ invariant-loop-low g l = record {
   more : l.fn.steps ≤ l.steps;
   left : 2 ^ (l.steps - l.fn.steps) * (l.high - l.low) ≤ l.layout.entries;
   cost : 2 ^ (l.steps - l.fn.steps) ≤ 2 * l.layout.entries + 1;
+  halved : Halved l.layout l.bytes (view l.value) (l.steps - l.fn.steps) l.low l.high;
 }
 
 abbrev pub decreases-loop-low : goal.decreases-loop-low

@@ -2,6 +2,7 @@ use Rattle.std.proofs.Common.{◌≡◌, ◌≤◌, true, length, map, Ok, sym, 
 use Rattle.std.specs.Prelude.{slice_index_or}
 use Rattle.std.proofs.lemmas.Grind.{common_steps}
 use Rattle.std.proofs.lemmas.List.{length-map}
+use Rattle.vpf_base.specs.Limits.{most_bytes}
 use Rattle.vpf_triplet.specs.declared.kinds.Count.TheVariants.{Fixed}
 use Rattle.vpf_value.specs.Values.{Nothing}
 use Rattle.vpf_head.specs.Head.{Col}
@@ -12,7 +13,7 @@ use Rattle.vpf_theme.specs.Findings.{cells_of}
 use Rattle.vpf_theme.specs.Reading.{theme_of}
 use Rattle.vpf_theme_build.specs.Grouping.{entries_for, entry_in}
 use Rattle.vpf_theme_build.specs.Text.{index_len, index_text}
-use Rattle.vpf_theme_build.specs.Building.{AgreeAt, AreRead, Builds, built_by, index_for, layout_for, most_bytes}
+use Rattle.vpf_theme_build.specs.Building.{AgreeAt, AreRead, Builds, built_by, index_for, layout_for}
 use Rattle.vpf_theme_build.proofs.FieldLemmas.{are_entries, groups_len}
 use Rattle.vpf_theme_build.proofs.BuildLemmas.{agree_at, are_read, built_is, cells_fit, has_values, if_built, layout_is, one_column}
 use Rattle.vpf_theme_build.proofs.building.build_fixed.Goals as goal

@@ -1,13 +1,13 @@
 use Rattle.std.proofs.Common.{◌≡◌, ◌+◌, map, arith}
 use Rattle.std.proofs.lemmas.Bool.Decides.{when_true, when_false}
-use Rattle.vpf_theme_build.specs.Grouping.{IsNext, row_of}
+use Rattle.vpf_theme_build.specs.Grouping.{IsNext, spot_row}
 use Rattle.vpf_theme_build.proofs.BitLemmas.{byte_set, byte_small, byte_clear, still_small}
 use Rattle.vpf_theme_build.proofs.writing.byte_at.Goals as goal
 use Rattle.vpf_theme_build.proofs.writing.byte_at.Goals.{then-is_next, else-is_next}
 
 pub loop-b-preserved : goal.loop-b-preserved
 loop-b-preserved c =
-    let rows = map row_of c.args.spots.now in
+    let rows = map spot_row c.args.spots.now in
     let first = c.args.first in
     let b = c.loop-b.b in
     let i = c.loop-b.invariant in

@@ -1,6 +1,6 @@
 use Rattle.std.proofs.Common.{◌≡◌, ◌+◌, ◌*◌, ◌++◌, ℕ, List, map, append_assoc, append-nil, sym, ap, ◌∙◌, arith}
 use Rattle.std.proofs.lemmas.List.FromFn.{map-range_with_len_more}
-use Rattle.vpf_theme_build.specs.Grouping.{row_of}
+use Rattle.vpf_theme_build.specs.Grouping.{spot_row}
 use Rattle.vpf_theme_build.specs.Text.{bitmap_byte}
 use Rattle.vpf_theme_build.proofs.BitLemmas.{next_first}
 use Rattle.vpf_theme_build.proofs.writing.put_bitmap.Goals as goal
@@ -10,7 +10,7 @@ loop-j-init c = record { bytes = sym (append-nil c.args.out.now.items); next = n
 
 pub loop-j-preserved : goal.loop-j-preserved
 loop-j-preserved c =
-    let f = bitmap_byte (map row_of c.args.spots.now) in
+    let f = bitmap_byte (map spot_row c.args.spots.now) in
     let i = c.loop-j.invariant in
     let e : 8 * c.loop-j.j + 1 + 8 ≡ 8 * (c.loop-j.j + 1) + 1 = omega arith in
     record {

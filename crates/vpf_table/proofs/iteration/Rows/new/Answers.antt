@@ -1,5 +1,6 @@
 use Rattle.std.proofs.Common.{arith}
-use Rattle.vpf_table.specs.Reading.{most_rows, rows_at}
+use Rattle.vpf_base.specs.Limits.{most_rows}
+use Rattle.vpf_table.specs.Reading.{rows_at}
 use Rattle.vpf_table.specs.Walking.{rows_of}
 use Rattle.vpf_table.proofs.FixedWidth.{rows_read}
 use Rattle.vpf_table.proofs.ReadRows.{read_rows_fit}

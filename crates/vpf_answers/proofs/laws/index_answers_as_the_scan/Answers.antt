@@ -1,5 +1,0 @@
-use Rattle.vpf_answers.proofs.AgreeingAnswers.{answers_as_the_scan}
-use Rattle.vpf_answers.proofs.laws.index_answers_as_the_scan.Goals as goal
-
-pub returns : goal.returns
-returns c = answers_as_the_scan c.agreement_is_no_finding.ensures.none c.indexed_selection_is_the_scan.ensures.table

@@ -1,5 +1,0 @@
-use Rattle.vpf_answers.proofs.MadeIndexes.{made_serve}
-use Rattle.vpf_answers.proofs.laws.made_indexes_serve.Goals as goal
-
-pub returns : goal.returns
-returns c = made_serve c.built_indexes_serve.ensures

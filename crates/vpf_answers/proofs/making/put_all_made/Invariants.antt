@@ -1,7 +1,0 @@
-use Rattle.std.proofs.Common.{◌≡◌, ◌++◌, take, string_bytes}
-use Rattle.std.specs.List.{flat_map}
-use Rattle.vpf_answers.specs.Making.{made_line}
-use Rattle.vpf_answers.proofs.making.put_all_made.Given as goal
-
-abbrev pub invariant-loop-file : goal.invariant-loop-file
-invariant-loop-file l = string_bytes l.text ≡ string_bytes l.initial.text ++ flat_map made_line (take l.file-index l.files)

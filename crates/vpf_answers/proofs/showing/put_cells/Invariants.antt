@@ -1,9 +1,0 @@
-use Rattle.std.proofs.Common.{◌≡◌, ◌++◌, ◌+◌, length, drop, string_bytes}
-use Rattle.vpf_answers.specs.Show.{cells_text}
-use Rattle.vpf_answers.proofs.showing.put_cells.Given as goal
-
-abbrev pub invariant-loop-cell : goal.invariant-loop-cell
-invariant-loop-cell l = record {
-  done : string_bytes l.text ++ cells_text (drop l.c l.header.columns) l.cell-iterator ≡ string_bytes l.fn.text ++ cells_text l.header.columns l.fn.cells;
-  place : l.c + length l.cell-iterator ≡ length l.header.columns;
-}

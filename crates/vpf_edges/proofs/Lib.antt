@@ -1,9 +1,0 @@
-pub mod FirstLemmas
-pub mod ColumnLemmas
-pub mod WingLemmas
-pub mod NextLemmas
-pub mod MapLemmas
-pub mod ListLemmas
-pub mod UniqueLemmas
-pub mod GridLemmas
-pub mod RowLemmas

@@ -1,9 +1,0 @@
-pub mod RoleColumns
-pub mod Roles
-pub mod Rows
-pub mod Firsts
-pub mod Nexts
-pub mod Findings
-pub mod Cycles
-pub mod Laws
-pub mod Errors

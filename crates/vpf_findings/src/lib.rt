@@ -1,0 +1,16 @@
+//! What disagrees in the tables of a library: the first place, what stands there and what ought to, and its printed line.
+#![tactic(auto)]
+
+mod errors;
+mod finding;
+mod own;
+mod places;
+mod printing;
+#[cfg(test)]
+mod tests;
+
+pub use errors::FindError;
+pub use finding::{ColumnAt, Finding, Seen, SeenWord, TableName};
+pub use own::OwnFinding;
+pub use places::FirstPlaces;
+pub use printing::put_line;

@@ -1,0 +1,18 @@
+-- What disagrees in the ids and references of the rows of a table.
+use Rattle.std.specs.Prelude.{ℕ, pos, Option}
+use Rattle.vpf_table.specs.Grid.{Row}
+use Rattle.vpf_findings.specs.Findings.{NumberSeen, CellSeen, RangeSeen, Disagreement}
+use Rattle.vpf_findings.specs.Firsts.{unless}
+use Rattle.vpf_prims.specs.declared.placing.TableAt.{TableAt}
+use Rattle.vpf_prims.specs.Columns.{RoleAt, in_table}
+use Rattle.vpf_prims.specs.References.{reference_in, signed_in, cell_at, is_same, is_from}
+
+-- the id of row k isn't k
+abbrev pub id_line : TableAt → ℕ → RoleAt → Row → Option Disagreement
+id_line at k column row = let id = signed_in (cell_at row column.place) in unless (is_same id k) (in_table at 1 k column.name (NumberSeen id) (NumberSeen (pos k)))
+
+-- the number of a reference in row k is absent, or isn't one of low to last
+abbrev pub range_line : TableAt → (low last k : ℕ) → RoleAt → Row → Option Disagreement
+range_line at low last k column row =
+    let cell = cell_at row column.place in
+    unless (is_from low last (reference_in cell).id) (in_table at 1 k column.name (CellSeen column.kind cell) (RangeSeen low last))

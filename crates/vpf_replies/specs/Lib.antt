@@ -1,0 +1,9 @@
+pub mod Texts
+pub mod Answer
+pub mod Refusals
+pub mod Tables
+pub mod Columns
+pub mod Making
+pub mod Found
+pub mod Halting
+pub mod Loading

@@ -1,0 +1,23 @@
+//! What commands answer with: replies, the lines of what isn't done, the files that are made, and the files of a tree or the replies in
+//! their place.
+#![tactic(auto)]
+
+mod columns;
+mod disagreeing;
+mod halting;
+mod loading;
+mod making;
+mod refusing;
+mod reply;
+mod texts;
+mod verdict;
+
+pub use columns::place_of;
+pub use disagreeing::disagreement;
+pub use halting::{Halt, Stop, settle};
+pub use loading::{optional_file, required_file};
+pub use making::{file_of, makes};
+pub use refusing::{Refusal, refuse};
+pub use reply::Reply;
+pub use texts::{fault, limit, usage};
+pub use verdict::Verdict;

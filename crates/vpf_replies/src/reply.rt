@@ -1,0 +1,72 @@
+//! What is to be made and printed.
+
+ghost use Rattle.std.specs.Prelude.{◌≡◌};
+
+use crate::verdict::Verdict;
+use std::alloc::Global;
+use std::marker::Model;
+use vpf_source::File;
+
+/// How a run ends where nothing stops it, all that it prints, and the files that it makes before that.
+#[derive(Debug, Drop)]
+pub struct Reply {
+    verdict: Verdict,
+    text: String,
+    made: Vec<File>,
+}
+
+impl Model for Reply {
+    ghost use Rattle.std.specs.Prelude.{string_bytes};
+    ghost use Rattle.vpf_replies.specs.Answer.{Answer};
+
+    ghost Value = { Answer };
+
+    ghost view = { λ r. record { verdict = r.verdict; text = string_bytes r.text; made = r.made.items } };
+}
+
+impl Reply {
+    ghost use Rattle.std.specs.Prelude.{◌≡◌, [], string_bytes};
+
+    /// A reply that makes no file.
+    pub fn new(alloc: Global, verdict: Verdict, text: String) -> Self
+        ensures { result ≡ record { verdict = verdict; text = string_bytes text; made = [] } }
+    {
+        Reply {
+            verdict,
+            text,
+            made: Vec::new(alloc),
+        }
+    }
+
+    /// The reply of what is done by making these files.
+    pub fn making(text: String, made: Vec<File>) -> Self
+        ensures { result ≡ record { verdict = Verdict.Done; text = string_bytes text; made = made.items } }
+    {
+        Reply {
+            verdict: Verdict::Done,
+            text,
+            made,
+        }
+    }
+
+    /// How the run ends, where nothing stops it.
+    pub fn verdict(&self) -> Verdict
+        ensures { result ≡ self.now.verdict }
+    {
+        self.verdict
+    }
+
+    /// All that is printed.
+    pub fn text(&self) -> &str
+        ensures { result.now ≡ self.now.text }
+    {
+        self.text.as_str()
+    }
+
+    /// The files to be made, in their order.
+    pub fn made(&self) -> &[File]
+        ensures { result.now ≡ self.now.made }
+    {
+        &self.made
+    }
+}

@@ -1,7 +1,0 @@
-use Rattle.std.proofs.Common.{length, drop}
-use Rattle.vpf_table.specs.Turning.{turned_rows}
-use Rattle.vpf_table.proofs.Pieces.{Left}
-use Rattle.vpf_table.proofs.turning.turn_rows.Given as goal
-
-abbrev pub invariant-loop-field : goal.invariant-loop-field
-invariant-loop-field l = Left l.from l.width (length l.fn.rows) (drop l.field-index l.fields) l.rows (turned_rows l.fields l.width l.fn.rows)

@@ -1,9 +1,0 @@
-use Rattle.std.proofs.Common.{arith, refl}
-use Rattle.vpf_table.specs.Reading.{most_rows}
-use Rattle.vpf_table.proofs.RowsFew.{rows_few}
-use Rattle.vpf_table.proofs.view.TableView.len.Goals as goal
-
-pub returns-clause-most : goal.returns-clause-most
-returns-clause-most c =
-    let t = c.self.inside in
-    omega (arith, c.self.invariant.count, rows_few most_rows t.header.order t.header.columns t.bytes.now t.start (rw c.self.invariant.read refl))

@@ -1,9 +1,0 @@
--- What contracts see of a list of cells.
-use Rattle.std.specs.Prelude.{map}
-use Rattle.vpf_value.specs.Values.{view}
-use Rattle.vpf_table.specs.declared.cell_list.CellList.TheInside.{Inside}
-use Rattle.vpf_table.specs.Grid.{Row}
-
--- the values of its cells
-abbrev pub values_of : Inside → Row
-values_of s = map view s.cells.items

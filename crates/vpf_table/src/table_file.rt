@@ -1,0 +1,155 @@
+//! A table in its file, before it has an index.
+
+use crate::counting::count_rows;
+use crate::fixed_rows::{FixedRows, fixed_rows, most_len};
+use crate::indexing::has_bytes;
+use crate::iteration::Rows;
+use crate::row::RowView;
+use crate::walking::row_width;
+use std::alloc::Global;
+use std::marker::Model;
+use vpf_head::Header;
+use vpf_triplet::{Place, PlaceError};
+use vpf_varindex::IndexView;
+
+/// A table whose header and rows stay in the file (MIL-STD-2407, 5.4, VPF table encoding), to be seen without its
+/// variable-length index or with it. Contracts see it as the bytes of the file and the table that they spell.
+#[derive(Drop)]
+pub struct TableFile<'a> {
+    pub(crate) header: Header<'a>,
+    pub(crate) bytes: &'a [u8],
+    pub(crate) start: usize,
+    rows: u32,
+    pub(crate) width: Option<usize>,
+}
+
+impl<'a> Model for TableFile<'a> {
+    ghost use Rattle.vpf_table.specs.FileTables.{FileTable};
+
+    ghost Value = { FileTable };
+
+    ghost use Rattle.vpf_table.specs.TableFiles.{file_of, IsRead};
+
+    ghost view = { file_of };
+
+    ghost invariant = { IsRead };
+}
+
+impl<'a> TableFile<'a> {
+    ghost use Rattle.std.specs.Prelude.{◌≡◌, ◌≤◌, ◌<◌, ◌^◌, ℕ, All, false, IfOk, IfSome, IsSome, IsTrue, Some, length, slice_get};
+    ghost use Rattle.vpf_base.specs.Bytes.{IsBytes};
+    ghost use Rattle.vpf_triplet.specs.Places.{Answers, Gives};
+    ghost use Rattle.vpf_triplet.specs.declared.orders.Order.{Order};
+    ghost use Rattle.vpf_head.specs.Head.{varies_in};
+    ghost use Rattle.vpf_table.specs.Canonical.{FitsRow, rows_text};
+    ghost use Rattle.vpf_table.specs.Opening.{opened_of, row_spans};
+    ghost use Rattle.vpf_base.specs.Limits.{most_rows};
+    ghost use Rattle.vpf_table.specs.Reading.{table_of};
+    ghost use Rattle.vpf_table.specs.Widths.{width_of};
+
+    /// The table of a file: its header, and one row after another up to the end. Refused exactly where the bytes are no
+    /// table, at the first fault, as `TableView::open` tells. Rows of one width are counted without a look at them. Takes
+    /// memory for the header alone.
+    pub fn read(alloc: Global, bytes: &'a [u8]) -> Result<TableFile<'a>, PlaceError>
+        ensures bytes { IfOk result (λ file. file.bytes ≡ bytes.now) }
+        // The table, or the first fault, unless memory ran out.
+        ensures exact { Answers (λ file. file.grid) result (table_of bytes.now) }
+    {
+        let (header, start) = match Header::read(alloc, bytes) {
+            Ok(found) => found,
+            Err(error) => return Err(error),
+        };
+        let width = row_width(&header);
+        let rows = match count_rows(&header, bytes, start, width) {
+            Ok(rows) => rows,
+            Err(place) => return Err(PlaceError::Place(place)),
+        };
+        Ok(TableFile {
+            header,
+            bytes,
+            start,
+            rows,
+            width,
+        })
+    }
+
+    /// The header.
+    pub fn header(&self) -> &Header<'a>
+        ensures { result.now ≡ self.now.grid.head }
+    {
+        &self.header
+    }
+
+    /// The number of rows.
+    pub(crate) fn len(&self) -> u32
+        ensures value { result ≡ length self.now.grid.rows }
+        ensures most { result ≤ most_rows }
+    {
+        self.rows
+    }
+
+    /// Whether the rows have one width, which fits a number.
+    pub(crate) fn has_width(&self) -> bool
+        ensures found { IsTrue result → IsSome (width_of self.now.grid.head.columns) }
+        ensures known { (w : ℕ) → width_of self.now.grid.head.columns ≡ Some w → w < 2 ^ 64 → IsTrue result }
+    {
+        self.width.is_some()
+    }
+
+    /// What the file holds are bytes.
+    pub(crate) fn has_bytes(&self)
+        ensures { IsBytes self.now.bytes }
+    {
+        has_bytes(self.bytes);
+    }
+
+    /// The entries of an index, which must be these rows' own. Else its first fault.
+    pub(crate) fn own_index(&self, index: &'a [u8]) -> Result<IndexView<'a>, Place>
+        ensures own { IfOk result (λ entries. entries ≡ row_spans self.now.bytes self.now.grid) }
+        ensures exact { Gives (λ _. self.now.grid) result (opened_of self.now.bytes (Some index.now)) }
+    {
+        // What is true of each table in its file.
+        let _start = self.start;
+        self.own_entries(index)
+    }
+
+    /// Row `k`, counted from 0: in constant time where rows have one width or an index, and else by a walk from the first.
+    pub(crate) fn row(&self, index: &Option<IndexView<'_>>, k: u32) -> RowView<'_, 'a>
+        requires own { IfSome index.now (λ entries. entries ≡ row_spans self.now.bytes self.now.grid) }
+        requires within { k < length self.now.grid.rows }
+        ensures row { slice_get self.now.grid.rows k ≡ Some result }
+        ensures width { length result ≡ length self.now.grid.head.columns }
+    {
+        let at = self.place_of_row(index, k);
+        RowView::new(&self.header, self.bytes, at)
+    }
+
+    /// Each row once, in order.
+    pub(crate) fn rows(&self) -> Rows<'_, 'a>
+        ensures rows { result ≡ self.now.grid.rows }
+        ensures width { All (λ row. length row ≡ length self.now.grid.head.columns) result }
+        ensures fits { All (FitsRow self.now.grid.head.columns) result }
+    {
+        Rows::new(&self.header, self.bytes, self.start, self.width)
+    }
+
+    /// No fewer bytes than the rows have in canonical spelling, in either order.
+    pub(crate) fn most_len(&self) -> usize
+        ensures { (order : Order) → length (rows_text order self.now.grid.head.columns self.now.grid.rows) ≤ result }
+    {
+        most_len(&self.header, self.bytes, self.start)
+    }
+
+    /// The rows as they lie in the file, where they have one width, of some bytes: in their canonical spelling.
+    pub(crate) fn fixed_rows(&self) -> Option<FixedRows<'_>>
+        ensures known { (w : ℕ) → width_of self.now.grid.head.columns ≡ Some w → 0 < w → w < 2 ^ 64 → varies_in self.now.grid.head.columns ≡ false
+            → IsSome result }
+        ensures some { IfSome result (λ rows. 0 < rows.width) }
+        ensures width { IfSome result (λ rows. width_of self.now.grid.head.columns ≡ Some rows.width) }
+        ensures alike { IfSome result (λ rows. varies_in self.now.grid.head.columns ≡ false) }
+        ensures bytes { IfSome result (λ rows. rows.bytes.now ≡ rows_text self.now.grid.head.order self.now.grid.head.columns self.now.grid.rows) }
+        ensures fits { IfSome result (λ rows. All (FitsRow self.now.grid.head.columns) self.now.grid.rows) }
+    {
+        fixed_rows(&self.header, self.bytes, self.start, self.width)
+    }
+}

@@ -1,0 +1,10 @@
+pub mod AgreeingAnswers
+pub mod CellOfRow
+pub mod CyclesAnswers
+pub mod Elsewhere
+pub mod Lines
+pub mod MadeIndexes
+pub mod PlainRows
+pub mod RowsFiles
+pub mod Selections
+pub mod SwappedTables

@@ -1,0 +1,5 @@
+pub mod Nexts
+pub mod Wings
+pub mod Boundaries
+pub mod Laws
+pub mod Errors

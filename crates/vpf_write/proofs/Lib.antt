@@ -1,0 +1,10 @@
+pub mod RowTexts
+pub mod WriteLimits
+pub mod Cutting
+pub mod WholeTables
+pub mod WritingLaws
+pub mod Tallied
+pub mod Pieces
+pub mod Blocks
+pub mod FixedRows
+pub mod InPlaceFiles

@@ -1,0 +1,20 @@
+//! Tables of a Vector Product Format library as they are written: from lists of cells, and from their views in either byte
+//! order.
+#![tactic(auto)]
+
+mod cell_list;
+mod draft;
+mod in_place;
+pub mod laws;
+mod rewriting;
+mod table_writer;
+#[cfg(test)]
+mod tests;
+mod turning;
+mod writing;
+
+pub use cell_list::CellList;
+pub use in_place::Turning;
+pub use rewriting::write_in;
+pub use table_writer::TableWriter;
+pub use writing::{WriteError, Written, write};
