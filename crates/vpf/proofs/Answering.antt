@@ -17,8 +17,9 @@ use Rattle.vpf_table_commands.specs.declared.selecting.RowsRequest.{RowsRequest}
 use Rattle.vpf_table_commands.specs.Rows.{IndexAgrees, PlainRows, rows_answer, rows_request}
 use Rattle.vpf_table_commands.specs.Show.{show_answer, show_request}
 use Rattle.vpf_table_commands.specs.Swap.{swap_answer, swap_request}
+use Rattle.vpf_library_commands.specs.Check.{check_answer, check_request}
 use Rattle.vpf.specs.declared.command.Command.{Command}
-use Rattle.vpf.specs.declared.command.Command.TheVariants.{Show, Table, Cycles, Swap, Index, Rows}
+use Rattle.vpf.specs.declared.command.Command.TheVariants.{Show, Table, Cycles, Swap, Index, Rows, Check}
 use Rattle.vpf.specs.Commands.{IsAnswer, IsAnswerTo, command_of}
 use Rattle.vpf.specs.Deciding.{HasAnswer, OneAnswer}
 use Rattle.vpf.specs.Indexed.{IsPlainAnswer, PlainAnswers}
@@ -30,6 +31,7 @@ has_answer cycles (Cycles request) files = cycles files request
 has_answer cycles (Swap request) files = (swap_answer files request, refl)
 has_answer cycles (Index request) files = (index_answer files request, refl)
 has_answer cycles (Rows request) files = (rows_answer files request, refl)
+has_answer cycles (Check request) files = (check_answer files request, refl)
 
 commands_one : OneCyclesAnswer → (command : Command) (files : Files) (a b : Answer) → IsAnswerTo command files a → IsAnswerTo command files b → a ≡ b
 commands_one cycles (Show request) files a b e f = e ∙ sym f
@@ -38,6 +40,7 @@ commands_one cycles (Cycles request) files a b e f = cycles files request a b e 
 commands_one cycles (Swap request) files a b e f = e ∙ sym f
 commands_one cycles (Index request) files a b e f = e ∙ sym f
 commands_one cycles (Rows request) files a b e f = e ∙ sym f
+commands_one cycles (Check request) files a b e f = e ∙ sym f
 
 pub one_answer : OneCyclesAnswer → OneAnswer
 one_answer cycles None told a b e f = e ∙ sym f
@@ -110,7 +113,8 @@ words_apart law (verb ∷ words) =
     (either_apart (bytes_eq verb (codes "cycles")) _ _ (asked_apart Cycles (λ request. tt) (cycles_request words))
     (either_apart (bytes_eq verb (codes "swap")) _ _ (asked_apart Swap (λ request. tt) (swap_request words))
     (either_apart (bytes_eq verb (codes "index")) _ _ (index_apart (index_request words) (law words))
-    (either_apart (bytes_eq verb (codes "rows")) _ None (asked_apart Rows (λ request. tt) (rows_request words)) tt)))))
+    (either_apart (bytes_eq verb (codes "rows")) _ _ (asked_apart Rows (λ request. tt) (rows_request words))
+    (either_apart (bytes_eq verb (codes "check")) _ None (asked_apart Check (λ request. tt) (check_request words)) tt))))))
 
 pub made_elsewhere : IndexesElsewhere → (words : List (List ℕ)) (request : IndexRequest) → command_of words ≡ Some (Index request) → bytes_eq request.file request.out ≡ false
 made_elsewhere law words request e = subst IsApart e (words_apart law words)

@@ -19,7 +19,6 @@ use Rattle.vpf_table_commands.specs.Rows.{column_answer, table_rows_answer}
 use Rattle.vpf_table_commands.specs.Show.{show_text}
 use Rattle.vpf_table_commands.specs.Swap.{turned, written_answer}
 use Rattle.vpf.specs.declared.command.Command.{Command}
-use Rattle.vpf.specs.declared.command.Command.TheVariants.{Show, Table, Cycles, Swap, Index, Rows}
 use Rattle.vpf.specs.Commands.{IsAnswer, IsAnswerTo}
 use Rattle.vpf.specs.Grammar as says
 use Rattle.vpf.specs.Grammar.{FaultsAreSaid, HasFile, TablesAreSaid}

@@ -2,3 +2,4 @@ pub mod Telling
 pub mod Answering
 pub mod ServedAnswers
 pub mod Grammared
+pub mod CheckedAnswers

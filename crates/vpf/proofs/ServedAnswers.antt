@@ -98,7 +98,7 @@ files_agree opens files request asked made a apart serves small bytes index g c 
 
 -- ---- the run
 
-verdict_done : (verdict : Verdict) → statuses.Done ≡ status_of verdict → verdict ≡ verdicts.Done
+pub verdict_done : (verdict : Verdict) → statuses.Done ≡ status_of verdict → verdict ≡ verdicts.Done
 verdict_done verdicts.Done e = refl
 verdict_done verdicts.Refused e = absurd (cc e)
 verdict_done verdicts.Usage e = absurd (cc e)

@@ -10,8 +10,9 @@ use Rattle.vpf_table_commands.specs.Index.{index_answer, index_request}
 use Rattle.vpf_table_commands.specs.Rows.{rows_answer, rows_request}
 use Rattle.vpf_table_commands.specs.Show.{show_answer, show_request}
 use Rattle.vpf_table_commands.specs.Swap.{swap_answer, swap_request}
+use Rattle.vpf_library_commands.specs.Check.{check_answer, check_request}
 use Rattle.vpf.specs.declared.command.Command.{Command}
-use Rattle.vpf.specs.declared.command.Command.TheVariants.{Show, Table, Cycles, Swap, Index, Rows}
+use Rattle.vpf.specs.declared.command.Command.TheVariants.{Show, Table, Cycles, Swap, Index, Rows, Check}
 
 -- the command of a verb and the words after it
 abbrev pub command_by : List ℕ → List (List ℕ) → Option Command
@@ -22,6 +23,7 @@ command_by verb words =
     else if bytes_eq verb (codes "swap") then option_map Swap (swap_request words)
     else if bytes_eq verb (codes "index") then option_map Index (index_request words)
     else if bytes_eq verb (codes "rows") then option_map Rows (rows_request words)
+    else if bytes_eq verb (codes "check") then option_map Check (check_request words)
     else None
 
 -- the command that words spell
@@ -37,6 +39,7 @@ IsAnswerTo (Cycles request) files answer = IsCyclesAnswer files request answer
 IsAnswerTo (Swap request) files answer = answer ≡ swap_answer files request
 IsAnswerTo (Index request) files answer = answer ≡ index_answer files request
 IsAnswerTo (Rows request) files answer = answer ≡ rows_answer files request
+IsAnswerTo (Check request) files answer = answer ≡ check_answer files request
 
 -- The answer to words: usage where they are no command, over every tree, and else what the command answers over the files,
 -- where the tree tells them.

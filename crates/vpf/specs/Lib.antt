@@ -4,3 +4,4 @@ pub mod Indexed
 pub mod Deciding
 pub mod Run
 pub mod Grammar
+pub mod Checked

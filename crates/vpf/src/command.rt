@@ -4,6 +4,7 @@ ghost use Rattle.std.specs.Prelude.{◌≡◌, IfOk, map, string_bytes};
 ghost use Rattle.vpf.specs.Commands.{command_by, command_of};
 
 use std::alloc::{AllocError, Global};
+use vpf_library_commands::CheckRequest;
 use vpf_table_commands::{
     CyclesRequest, IndexRequest, RowsRequest, ShowRequest, SwapRequest, TableRequest,
 };
@@ -23,6 +24,8 @@ pub enum Command {
     Index(IndexRequest),
     /// Lists the rows that have a value.
     Rows(RowsRequest),
+    /// Tells whether a coverage of a library agrees.
+    Check(CheckRequest),
 }
 
 /// The command of a verb and the words after it.
@@ -36,6 +39,7 @@ fn read_verb(alloc: Global, verb: &str, words: &[String]) -> Result<Option<Comma
         "swap" => Ok(SwapRequest::read(alloc, words)?.map(Command::Swap)),
         "index" => Ok(IndexRequest::read(alloc, words)?.map(Command::Index)),
         "rows" => Ok(RowsRequest::read(alloc, words)?.map(Command::Rows)),
+        "check" => Ok(CheckRequest::read(alloc, words)?.map(Command::Check)),
         _ => Ok(None),
     }
 }

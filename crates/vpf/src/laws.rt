@@ -1,9 +1,11 @@
 //! Laws of answers.
 
+ghost use Rattle.vpf.specs.Checked.{AgreementIsSaid, OnlyAgreementIsDone};
 ghost use Rattle.vpf.specs.Deciding.{HasAnswer, OneAnswer};
 ghost use Rattle.vpf.specs.Grammar.{FaultsAreSaid, TablesAreSaid};
 ghost use Rattle.vpf.specs.Indexed.{PlainAnswers};
 
+use vpf_library_commands::laws::check_decides_agreement;
 use vpf_table::laws::{refusals_are_first_faults, spelled_is_opened};
 use vpf_table_commands::laws::{one_cycles_answer, plain_rows};
 
@@ -30,4 +32,12 @@ pub fn answers_follow_the_grammar()
 {
     spelled_is_opened();
     refusals_are_first_faults();
+}
+
+/// `check` is done exactly where the coverage agrees, and then it counts its primitives.
+pub fn checks_decide()
+    ensures said { AgreementIsSaid }
+    ensures only { OnlyAgreementIsDone }
+{
+    check_decides_agreement();
 }

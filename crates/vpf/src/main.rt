@@ -4,6 +4,8 @@
 #[cfg(test)]
 mod changes_of_rows;
 mod command;
+#[cfg(test)]
+mod coverages_of_checks;
 mod laws;
 mod running;
 mod status;
@@ -11,6 +13,8 @@ mod status;
 mod testing;
 #[cfg(test)]
 mod tests;
+#[cfg(test)]
+mod tests_of_checks;
 #[cfg(test)]
 mod tests_of_cycles;
 #[cfg(test)]

@@ -9,23 +9,30 @@ ghost use Rattle.vpf_triplet.specs.declared.places.Place.{Place};
 ghost use Rattle.vpf_table.specs.Faults.{FirstFault};
 ghost use Rattle.vpf_table.specs.Grid.{Grid};
 ghost use Rattle.vpf_table.specs.Spelling.{IsTable};
-ghost use Rattle.vpf_replies.specs.Answer.{Answer};
+ghost use Rattle.vpf_replies.specs.Answer.{Answer, done};
 ghost use Rattle.vpf_replies.specs.Tables.{fault_answer};
 ghost use Rattle.vpf_replies.specs.Halting.{ComesTo, TellsFault};
+ghost use Rattle.vpf_prims.specs.Holding.{HoldsBytes};
+ghost use Rattle.vpf_prims.specs.Loading.{LoadedCoverage};
+ghost use Rattle.vpf_prims.specs.Reading.{primitives_of};
+ghost use Rattle.vpf_library_commands.specs.declared.checking.CheckRequest.{CheckRequest};
+ghost use Rattle.vpf_library_commands.specs.Agreeing.{Agrees, IsAgreeing};
+ghost use Rattle.vpf_library_commands.specs.Check.{agrees_text};
 ghost use Rattle.vpf_table_commands.specs.declared.indexing.IndexRequest.{IndexRequest};
 ghost use Rattle.vpf_table_commands.specs.declared.selecting.RowsRequest.{RowsRequest};
 ghost use Rattle.vpf_table_commands.specs.Rows.{IndexAgrees};
 ghost use Rattle.vpf.specs.declared.command.Command.{Command};
-ghost use Rattle.vpf.specs.declared.command.Command.TheVariants.{Index, Rows};
+ghost use Rattle.vpf.specs.declared.command.Command.TheVariants.{Check, Index, Rows};
 ghost use Rattle.vpf.specs.Commands.{command_of, IsAnswerTo, IsAnswer};
 ghost use Rattle.vpf.specs.Grammar.{HasFile, IsOver, SaysOfTable};
 ghost use Rattle.vpf.specs.Indexed.{AsksForIndexed, IsPlainAnswer};
 ghost use Rattle.vpf.specs.Run.{Carries, IsCompleted, Prints};
 
 use crate::command::{Command, read_command};
-use crate::laws::{answers_follow_the_grammar, one_answer, plain_answers};
+use crate::laws::{answers_follow_the_grammar, checks_decide, one_answer, plain_answers};
 use crate::status::Status;
 use std::alloc::Global;
+use vpf_library_commands::check;
 use vpf_replies::{Halt, Reply, Stop, settle, usage};
 use vpf_source::{DeviceError, Sink, Tree, make_all, put_all};
 use vpf_table::laws::opened_is_read;
@@ -45,6 +52,7 @@ fn obey<T: Tree>(alloc: Global, command: &Command, tree: &mut T) -> Result<Reply
         Command::Swap(request) => swap(alloc, request, tree),
         Command::Index(request) => index(alloc, request, tree),
         Command::Rows(request) => rows(alloc, request, tree),
+        Command::Check(request) => check(alloc, request, tree),
     }
 }
 
@@ -158,6 +166,15 @@ pub fn run<T: Tree, O: Sink>(alloc: Global, words: &[String], tree: &mut T, out:
         → T.files tree.old ≡ Some files → AsksForIndexed files request asked → result ≡ Status.Done
         → IfSome (T.files tree.new) (λ after. IndexAgrees after asked) }
 
+    // `check` is done exactly where the files hold the coverage in the grammar of tables, its columns are right and it is well formed:
+    // then it prints the numbers of its primitives. (The files of a tree that tells them are of bytes.)
+    ensures checked { (files : Files) (request : CheckRequest) (c : LoadedCoverage) → command_of (map string_bytes words.now) ≡ Some (Check request)
+        → T.files tree.old ≡ Some files → IsAgreeing files request c
+        → Carries (done (agrees_text (primitives_of c.tables))) result (record { files = T.files tree.old; written = O.written out.old })
+        (record { files = T.files tree.new; written = O.written out.new }) }
+    ensures agrees { (files : Files) (request : CheckRequest) → HoldsBytes files → command_of (map string_bytes words.now) ≡ Some (Check request)
+        → T.files tree.old ≡ Some files → result ≡ Status.Done → Agrees files request }
+
     // A fault is answered exactly where its count rose in this call; where neither rose, the run is completed.
     ensures tree_fault { result ≡ Status.TreeFault → Rose (T.faults tree.old) (T.faults tree.new) }
     ensures tree_stood { result ≢ Status.TreeFault → Stood (T.faults tree.old) (T.faults tree.new) }
@@ -175,6 +192,7 @@ pub fn run<T: Tree, O: Sink>(alloc: Global, words: &[String], tree: &mut T, out:
     ensures sink_later { O.faults out.old ≤ O.faults out.new }
 {
     answers_follow_the_grammar();
+    checks_decide();
     plain_answers();
     one_answer();
     made_indexes_serve();

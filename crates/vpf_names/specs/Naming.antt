@@ -39,3 +39,7 @@ named (b ∷ bs) = Some (b ∷ bs)
 -- the file that a word names: its parts, with a slash before them where it begins at the root; none where there are no parts
 abbrev pub file_name : List ℕ → Option (List ℕ)
 file_name word = named (root_of word ++ joined_parts (parts_of word))
+
+-- the coverage that a word names: its parts, also where the word begins at the root; none where there are no parts
+abbrev pub coverage_name : List ℕ → Option (List ℕ)
+coverage_name word = named (joined_parts (parts_of word))

@@ -11,4 +11,4 @@ mod tests;
 pub use folders::last_part;
 pub use indexes::{ends_in_x, index_name};
 pub use items::file_beside;
-pub use naming::file_name;
+pub use naming::{coverage_name, file_name};

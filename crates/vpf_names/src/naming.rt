@@ -1,7 +1,7 @@
 //! The files that words name.
 
 ghost use Rattle.std.specs.Prelude.{◌≡◌, ◌++◌, IfOk, OnOk, map, string_bytes};
-ghost use Rattle.vpf_names.specs.Naming.{is_part, joined_parts, pieces_of, parts_of, file_name};
+ghost use Rattle.vpf_names.specs.Naming.{is_part, joined_parts, pieces_of, parts_of, file_name, coverage_name};
 
 use std::alloc::{AllocError, Global};
 use vpf_source::Name;
@@ -59,4 +59,18 @@ pub fn file_name(alloc: Global, word: &str) -> Result<Option<Name>, AllocError>
         return Ok(None);
     }
     Ok(Some(Name::new(text)))
+}
+
+/// The name of the coverage that a word names, in the folder of its library: its parts with a slash between any two. A slash before them is
+/// dropped. Nothing where the word has no parts.
+pub fn coverage_name(alloc: Global, word: &str) -> Result<Option<Name>, AllocError>
+    ensures { IfOk result (λ name. name ≡ coverage_name word.now) }
+{
+    let parts = parts_of(alloc, word)?;
+    let mut name = String::new(alloc);
+    put_joined(&mut name, &parts)?;
+    if name.is_empty() {
+        return Ok(None);
+    }
+    Ok(Some(Name::new(name)))
 }

@@ -1,18 +1,18 @@
 //! Names of words, of headers and of indexes.
 
-use crate::{ends_in_x, file_beside, file_name, index_name, last_part};
+use crate::{coverage_name, ends_in_x, file_beside, file_name, index_name, last_part};
 use std::test::Fail;
 use vpf_source::Name;
 
-/// Words, and the files that they name.
-const WORDS: [(&str, Option<&str>); 7] = [
-    ("t.tab", Some("t.tab")),
-    ("lib//./cov/edg/", Some("lib/cov/edg")),
-    ("//root.tab", Some("/root.tab")),
-    ("/", Some("/")),
-    ("../t", Some("../t")),
-    ("././", None),
-    ("", None),
+/// Words, the files that they name, and the coverages.
+const WORDS: [(&str, Option<&str>, Option<&str>); 7] = [
+    ("t.tab", Some("t.tab"), Some("t.tab")),
+    ("lib//./cov/edg/", Some("lib/cov/edg"), Some("lib/cov/edg")),
+    ("//root.tab", Some("/root.tab"), Some("root.tab")),
+    ("/", Some("/"), None),
+    ("../t", Some("../t"), Some("../t")),
+    ("././", None, None),
+    ("", None, None),
 ];
 
 /// Names, those of their indexes, and those in their folders.
@@ -45,9 +45,11 @@ const ITEMS: [(&str, &[u8], Option<&str>); 14] = [
 #[test]
 fn names_files(rt: HostRuntime) -> Result<(), Fail> {
     let alloc = rt.alloc();
-    for (word, want) in WORDS {
+    for (word, file, coverage) in WORDS {
         let name = file_name(alloc, word)?;
-        assert_eq!(rt; name.as_ref().map(Name::as_str), want, "{word}");
+        assert_eq!(rt; name.as_ref().map(Name::as_str), file, "{word}");
+        let name = coverage_name(alloc, word)?;
+        assert_eq!(rt; name.as_ref().map(Name::as_str), coverage, "{word}");
     }
     for (file, item, want) in ITEMS {
         let name = file_beside(alloc, file, item)?;

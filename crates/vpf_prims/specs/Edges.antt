@@ -40,6 +40,20 @@ edge_columns at columns = record {
   tile_line = role_column columns (mark_role (codes "tile_line"));
 }
 
+-- the same columns, where another table is looked at
+abbrev pub moved_to : TableAt → EdgesAt → EdgesAt
+moved_to at columns = record {
+  at = at;
+  id = columns.id;
+  start_node = columns.start_node;
+  end_node = columns.end_node;
+  right_face = columns.right_face;
+  left_face = columns.left_face;
+  right_edge = columns.right_edge;
+  left_edge = columns.left_edge;
+  tile_line = columns.tile_line;
+}
+
 -- the columns stand among so many
 pub record AreWithin (width : ℕ) (columns : EdgesAt) : Type 0 where
   pub id : IsWithin width columns.id

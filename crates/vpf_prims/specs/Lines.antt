@@ -1,5 +1,6 @@
 -- What disagrees in the ids and references of the rows of a table.
 use Rattle.std.specs.Prelude.{ℕ, pos, Option}
+use Rattle.vpf_value.specs.Values.{Value}
 use Rattle.vpf_table.specs.Grid.{Row}
 use Rattle.vpf_findings.specs.Findings.{NumberSeen, CellSeen, RangeSeen, Disagreement}
 use Rattle.vpf_findings.specs.Firsts.{unless}
@@ -11,8 +12,11 @@ use Rattle.vpf_prims.specs.References.{reference_in, signed_in, cell_at, is_same
 abbrev pub id_line : TableAt → ℕ → RoleAt → Row → Option Disagreement
 id_line at k column row = let id = signed_in (cell_at row column.place) in unless (is_same id k) (in_table at 1 k column.name (NumberSeen id) (NumberSeen (pos k)))
 
--- the number of a reference in row k is absent, or isn't one of low to last
-abbrev pub range_line : TableAt → (low last k : ℕ) → RoleAt → Row → Option Disagreement
-range_line at low last k column row =
-    let cell = cell_at row column.place in
+-- the number of a reference in a cell of row k is absent, or isn't one of low to last
+abbrev pub cell_range_line : TableAt → (low last k : ℕ) → RoleAt → Value → Option Disagreement
+cell_range_line at low last k column cell =
     unless (is_from low last (reference_in cell).id) (in_table at 1 k column.name (CellSeen column.kind cell) (RangeSeen low last))
+
+-- the same in a row
+abbrev pub range_line : TableAt → (low last k : ℕ) → RoleAt → Row → Option Disagreement
+range_line at low last k column row = cell_range_line at low last k column (cell_at row column.place)

@@ -3,9 +3,13 @@
 ghost use Rattle.std.specs.Prelude.{◌≡◌, length};
 ghost use Rattle.vpf_value.specs.Values.{NumberOf, view};
 ghost use Rattle.vpf_prims.specs.Columns.{IsWithin, role_at};
+ghost use Rattle.vpf_prims.specs.Edges.{id_at};
+ghost use Rattle.vpf_prims.specs.Reading.{natural_in};
+ghost use Rattle.vpf_prims.specs.RowLines.{stays};
 ghost use Rattle.vpf_prims.specs.References.{cell_at, is_from, is_line, is_same, reference_in, signed_in};
 
 use crate::placing::RoleColumn;
+use crate::rows::id_of;
 use vpf_table::RowView;
 use vpf_triplet::Triplet;
 use vpf_value::Cell;
@@ -49,6 +53,24 @@ pub fn signed_in(cell: Cell<'_>) -> i32
     }
 }
 
+/// The number of a cell, from 0 up.
+pub fn number_in(cell: Cell<'_>) -> Option<u32>
+    ensures { result ≡ natural_in (view cell.entry) }
+{
+    match cell {
+        Cell::Short(number) => u32::try_from(i32::from(number)).ok(),
+        Cell::Long(number) => u32::try_from(number).ok(),
+        _ => None,
+    }
+}
+
+/// Whether a reference stays within its tile.
+pub fn stays(reference: Triplet) -> bool
+    ensures { result ≡ stays reference }
+{
+    reference.tile.is_none() && reference.ext.is_none()
+}
+
 /// Whether a mark says that an edge is a line between tiles.
 pub fn is_line(cell: Cell<'_>) -> bool
     ensures { result ≡ is_line (view cell.entry) }
@@ -69,6 +91,14 @@ pub fn cell_at<'a>(row: &RowView<'_, 'a>, column: &RoleColumn<'_>) -> Cell<'a>
         Some(place) => row.cell(place),
         None => Cell::Null,
     }
+}
+
+/// The number that a row refers to in its own tile, 0 where it refers to none.
+pub fn number_of(row: &RowView<'_, '_>, column: &RoleColumn<'_>) -> u32
+    requires { IsWithin (length row.now) (role_at column.now) }
+    ensures { result ≡ id_at (role_at column.now) row.now }
+{
+    id_of(reference_in(cell_at(row, column)))
 }
 
 /// Whether a number is that of a row.

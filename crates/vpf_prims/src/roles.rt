@@ -59,13 +59,51 @@ pub struct Role {
     pub optional: bool,
 }
 
+/// The role of ids, in each table of primitives.
+pub(crate) const ID: Role = Role {
+    name: b"id",
+    wants: Wants::Number,
+    optional: false,
+};
+
+/// The role of the first rings of faces.
+pub(crate) const RING_PTR: Role = Role {
+    name: b"ring_ptr",
+    wants: Wants::Reference,
+    optional: false,
+};
+
+/// The role of the faces of rings.
+pub(crate) const FACE_ID: Role = Role {
+    name: b"face_id",
+    wants: Wants::Reference,
+    optional: false,
+};
+
+/// The role of the edges where the walks of rings start.
+pub(crate) const START_EDGE: Role = Role {
+    name: b"start_edge",
+    wants: Wants::Reference,
+    optional: false,
+};
+
+/// The role of edges at nodes.
+pub(crate) const FIRST_EDGE: Role = Role {
+    name: b"first_edge",
+    wants: Wants::Reference,
+    optional: false,
+};
+
+/// The role of the faces that entity nodes lie in.
+pub(crate) const CONTAINING_FACE: Role = Role {
+    name: b"containing_face",
+    wants: Wants::Reference,
+    optional: false,
+};
+
 /// The roles of an edge table, `edg`.
 const EDGE: [Role; 8] = [
-    Role {
-        name: b"id",
-        wants: Wants::Number,
-        optional: false,
-    },
+    ID,
     Role {
         name: b"start_node",
         wants: Wants::Reference,
@@ -104,73 +142,20 @@ const EDGE: [Role; 8] = [
 ];
 
 /// The roles of a face table, `fac`.
-const FACE: [Role; 2] = [
-    Role {
-        name: b"id",
-        wants: Wants::Number,
-        optional: false,
-    },
-    Role {
-        name: b"ring_ptr",
-        wants: Wants::Reference,
-        optional: false,
-    },
-];
+const FACE: [Role; 2] = [ID, RING_PTR];
 
 /// The roles of a ring table, `rng`.
-const RING: [Role; 3] = [
-    Role {
-        name: b"id",
-        wants: Wants::Number,
-        optional: false,
-    },
-    Role {
-        name: b"face_id",
-        wants: Wants::Reference,
-        optional: false,
-    },
-    Role {
-        name: b"start_edge",
-        wants: Wants::Reference,
-        optional: false,
-    },
-];
+const RING: [Role; 3] = [ID, FACE_ID, START_EDGE];
 
 /// The roles of a table of connected nodes, `cnd`.
-const NODE: [Role; 2] = [
-    Role {
-        name: b"id",
-        wants: Wants::Number,
-        optional: false,
-    },
-    Role {
-        name: b"first_edge",
-        wants: Wants::Reference,
-        optional: false,
-    },
-];
+const NODE: [Role; 2] = [ID, FIRST_EDGE];
 
 /// The roles of a table of entity nodes, `end`.
-const ENTITY: [Role; 2] = [
-    Role {
-        name: b"id",
-        wants: Wants::Number,
-        optional: false,
-    },
-    Role {
-        name: b"containing_face",
-        wants: Wants::Reference,
-        optional: false,
-    },
-];
+const ENTITY: [Role; 2] = [ID, CONTAINING_FACE];
 
 /// The roles of the table of tiles, `tileref.aft`.
 const TILEREF: [Role; 2] = [
-    Role {
-        name: b"id",
-        wants: Wants::Number,
-        optional: false,
-    },
+    ID,
     Role {
         name: b"tile_name",
         wants: Wants::Text,
@@ -180,11 +165,7 @@ const TILEREF: [Role; 2] = [
 
 /// The roles of a plan, which names a tile for each face.
 const PLAN: [Role; 2] = [
-    Role {
-        name: b"id",
-        wants: Wants::Number,
-        optional: false,
-    },
+    ID,
     Role {
         name: b"tile_id",
         wants: Wants::Number,
@@ -222,11 +203,7 @@ const CLASS: [Role; 5] = [
 ];
 
 /// The roles of a feature table.
-const FEATURE: [Role; 1] = [Role {
-    name: b"id",
-    wants: Wants::Number,
-    optional: false,
-}];
+const FEATURE: [Role; 1] = [ID];
 
 /// The roles of an edge table, `edg`, in the order in which columns are looked at.
 pub fn edge_roles() -> &'static [Role]

@@ -24,7 +24,7 @@ pub code_is : (d : Dart) → dart_code d ≡ 2 * d.edge + sign_of d.minus
 unfolding code
 code_is d = omega arith
 
-sign_small : (minus : Bool) → sign_of minus ≤ 1
+pub sign_small : (minus : Bool) → sign_of minus ≤ 1
 sign_small true = omega arith
 sign_small false = omega arith
 

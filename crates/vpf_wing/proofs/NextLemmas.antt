@@ -22,7 +22,7 @@ HoldNexts edges nexts = (i : ℕ) → i < length nexts → slice_get nexts i ≡
 abbrev pub HoldOwners : List Edge → List (Option Dart) → ℕ → Type 0
 HoldOwners edges owners n = (i : ℕ) (x : Dart) → i < length owners → i + 2 ≡ dart_code x → get_or owners i None ≡ earlier edges x n
 
-eqb_same : (x y : ℕ) → x ≡ y → eqb x y ≡ true
+pub eqb_same : (x y : ℕ) → x ≡ y → eqb x y ≡ true
 eqb_same x y e = grind (arith, nat_tests)
 
 pub eqb_apart : (x y : ℕ) → (x ≡ y → ⊥) → eqb x y ≡ false

@@ -1,5 +1,5 @@
 -- What is so of the wings of all edges, and of every edge table.
-use Rattle.std.specs.Prelude.{◌≡◌, ◌↔◌, None, List, length}
+use Rattle.std.specs.Prelude.{◌≡◌, ◌↔◌, ℕ, ◌^◌, ◌<◌, ◌≤◌, None, Some, List, length}
 use Rattle.vpf_value.specs.Values.{Value}
 use Rattle.vpf_darts.specs.declared.darts.Dart.{Dart}
 use Rattle.vpf_darts.specs.declared.darts.TileDart.{TileDart}
@@ -7,6 +7,14 @@ use Rattle.vpf_darts.specs.Maps.{IsMap}
 use Rattle.vpf_table.specs.Grid.{Grid}
 use Rattle.vpf_prims.specs.declared.rows.Edge.{Edge}
 use Rattle.vpf_prims.specs.Edges.{EdgesAt, HaveWings}
+use Rattle.vpf_prims.specs.Primitives.{Library, Primitives, edge_count, untiled}
+use Rattle.vpf_prims.specs.Numbering.{IsNumbered}
+use Rattle.vpf_prims.specs.Reading.{primitives_of}
+use Rattle.vpf_prims.specs.Suiting.{HasColumns}
+use Rattle.vpf_prims.specs.Tables.{TileTables}
+use Rattle.vpf_wing.specs.Links.{links_of, local_map}
+use Rattle.vpf_wing.specs.WellFormed.{HasCycles, HasLoops, IsWellFormed}
+use Rattle.vpf_wing.specs.CycleLines.{cycles_finding, loops_finding, untiled_finding}
 use Rattle.vpf_wing.specs.Nexts.{MakeMap}
 use Rattle.vpf_wing.specs.Wings.{wings_finding}
 use Rattle.vpf_wing.specs.Boundaries.{table_edges, table_finding, map_of, IsBoundaryListing}
@@ -30,3 +38,20 @@ HasBoundaryListing = (grid : Grid) → table_finding grid ≡ None → (lists : 
 -- two listings of the boundary cycles of one table are equal
 abbrev pub OneBoundaryListing : Type 0
 OneBoundaryListing = (grid : Grid) (xs ys : List (List TileDart)) → IsBoundaryListing grid xs → IsBoundaryListing grid ys → xs ≡ ys
+
+-- where its numbers are right, there is no finding on the wings, cycles, rings and nodes of a tile exactly where its cycles hold
+abbrev pub CyclesDecide : Type 0
+CyclesDecide = (L : Library) (t : ℕ) (T : TileTables) → L.tile t ≡ Some (primitives_of T.tables) → t ≤ L.last → edge_count L t < 2 ^ 24 → IsNumbered L t
+    → (cycles_finding t T ≡ None) ↔ HasCycles L t
+
+-- there is no finding on the loops of an untiled coverage exactly where they have two faces
+abbrev pub LoopsDecide : Type 0
+LoopsDecide = (T : TileTables) → length T.tables.edg.rows < 2 ^ 24 → (loops_finding 0 T ≡ None) ↔ HasLoops (links_of (untiled (primitives_of T.tables)))
+
+-- there is no finding on an untiled coverage exactly where its columns are right and it is well formed
+abbrev pub UntiledDecides : Type 0
+UntiledDecides = (T : TileTables) → length T.tables.edg.rows < 2 ^ 24 → (untiled_finding T ≡ None) ↔ (HasColumns T.tables × IsWellFormed (primitives_of T.tables))
+
+-- a well-formed coverage is a combinatorial map
+abbrev pub WellFormedHasMap : Type 0
+WellFormedHasMap = (c : Primitives) → length c.edges < 2 ^ 24 → IsWellFormed c → IsMap (local_map (links_of (untiled c)))

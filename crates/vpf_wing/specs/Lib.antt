@@ -1,5 +1,14 @@
 pub mod Nexts
 pub mod Wings
+pub mod Walks
+pub mod Links
+pub mod WellFormed
+pub mod Places
+pub mod CycleLines
+pub mod NextPlaces
+pub mod Leasts
+pub mod FirstNumbers
+pub mod Nodes
 pub mod Boundaries
 pub mod Laws
 pub mod Errors

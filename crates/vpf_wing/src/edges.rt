@@ -22,8 +22,8 @@ pub fn wing_in(edge: Edge, minus: bool) -> u32
     }
 }
 
-/// The edges of a table, or of a tile.
-pub trait WingedEdges {
+/// The edges of a table, or of a tile. Cells are seen in a file that lives for `'a`.
+pub trait WingedEdges<'a> {
     // The edges, by their numbers from 1.
     ghost edges: { Self → List Edge };
 
@@ -41,14 +41,14 @@ pub trait WingedEdges {
         ensures { result ≡ edge_at (edges self.now) e };
 
     /// The cell of a dart's wing, as its row has it.
-    fn wing_cell(&self, dart: Dart) -> Cell<'static>
+    fn wing_cell(&self, dart: Dart) -> Cell<'a>
         requires few { length (edges self.now) < 2 ^ 24 }
         requires wings { HaveWings (length (edges self.now)) (edges self.now) }
         requires edge { IsEdge (length (edges self.now)) dart.edge }
         ensures { view result ≡ wing_value self.now dart };
 }
 
-impl WingedEdges for Vec<Edge> {
+impl<'a> WingedEdges<'a> for Vec<Edge> {
     ghost use Rattle.vpf_wing.specs.Wings.{number_cell};
 
     ghost edges = { λ edges. edges.items };
@@ -64,7 +64,7 @@ impl WingedEdges for Vec<Edge> {
     }
 
     #[tactic(auto, using(crate::proofs::WingLemmas::wing_among), unfolding(crate::specs::Nexts::wing))]
-    fn wing_cell(&self, dart: Dart) -> Cell<'static> {
+    fn wing_cell(&self, dart: Dart) -> Cell<'a> {
         let wing = wing_in(self.edge(dart.edge), dart.minus);
         Cell::Long(wing as i32)
     }

@@ -17,7 +17,7 @@ use vpf_prims::{EdgeColumns, RoleColumn};
 
 /// The node where a dart begins.
 #[tactic(auto, unfolding(crate::specs::Nexts::tail))]
-fn tail<E: WingedEdges>(edges: &E, dart: Dart) -> u32
+fn tail<'a, E: WingedEdges<'a>>(edges: &E, dart: Dart) -> u32
     requires { IsEdge (length (E.edges edges.now)) dart.edge }
     ensures { result ≡ tail (E.edges edges.now) dart }
 {
@@ -31,7 +31,7 @@ fn tail<E: WingedEdges>(edges: &E, dart: Dart) -> u32
 
 /// The face of a dart.
 #[tactic(auto, unfolding(crate::specs::Nexts::face))]
-fn face<E: WingedEdges>(edges: &E, dart: Dart) -> u32
+fn face<'a, E: WingedEdges<'a>>(edges: &E, dart: Dart) -> u32
     requires { IsEdge (length (E.edges edges.now)) dart.edge }
     ensures { result ≡ face (E.edges edges.now) dart }
 {
@@ -45,7 +45,7 @@ fn face<E: WingedEdges>(edges: &E, dart: Dart) -> u32
 
 /// The edge that follows a dart round its face.
 #[tactic(auto, using(crate::proofs::WingLemmas::wing_among), unfolding(crate::specs::Nexts::wing))]
-fn wing<E: WingedEdges>(edges: &E, dart: Dart) -> u32
+fn wing<'a, E: WingedEdges<'a>>(edges: &E, dart: Dart) -> u32
     requires edge { IsEdge (length (E.edges edges.now)) dart.edge }
     requires wings { HaveWings (length (E.edges edges.now)) (E.edges edges.now) }
     ensures value { result ≡ wing (E.edges edges.now) dart }
@@ -55,7 +55,7 @@ fn wing<E: WingedEdges>(edges: &E, dart: Dart) -> u32
 }
 
 /// Whether `other` begins where `dart` ends, and has its face.
-fn follows<E: WingedEdges>(edges: &E, dart: Dart, other: Dart) -> bool
+fn follows<'a, E: WingedEdges<'a>>(edges: &E, dart: Dart, other: Dart) -> bool
     requires dart { IsEdge (length (E.edges edges.now)) dart.edge }
     requires other { IsEdge (length (E.edges edges.now)) other.edge }
     ensures { result ≡ follows (E.edges edges.now) dart other }
@@ -65,7 +65,7 @@ fn follows<E: WingedEdges>(edges: &E, dart: Dart, other: Dart) -> bool
 
 /// The one dart of the wing edge that begins where `dart` ends and has its face.
 #[tactic(auto, using(crate::proofs::WingLemmas::wing_among), unfolding(crate::specs::Nexts::next_dart))]
-pub fn next_dart<E: WingedEdges>(edges: &E, dart: Dart) -> Option<Dart>
+pub fn next_dart<'a, E: WingedEdges<'a>>(edges: &E, dart: Dart) -> Option<Dart>
     requires edge { IsEdge (length (E.edges edges.now)) dart.edge }
     requires wings { HaveWings (length (E.edges edges.now)) (E.edges edges.now) }
     ensures next { result ≡ next_dart (E.edges edges.now) dart }
@@ -97,7 +97,7 @@ fn dart_at(place: usize) -> Dart
 
 /// The place of a dart among `1+`, `1-`, `2+` and so on, counted from 0.
 #[tactic(auto, unfolding(vpf_darts::specs::Darts::code))]
-fn place_of(dart: Dart) -> usize
+pub fn place_of(dart: Dart) -> usize
     requires { 1 ≤ dart.edge }
     ensures { result + 2 ≡ dart_code dart }
 {
@@ -142,7 +142,7 @@ fn seen(columns: &EdgeColumns<'_>, dart: Dart) -> Seen<'static>
 }
 
 /// A dart has no one next dart.
-fn no_next<'a, E: WingedEdges>(columns: &EdgeColumns<'a>, edges: &E, dart: Dart) -> Finding<'a>
+fn no_next<'a, E: WingedEdges<'a>>(columns: &EdgeColumns<'a>, edges: &E, dart: Dart) -> Finding<'a>
     requires few { length (E.edges edges.now) < 2 ^ 24 }
     requires edge { IsEdge (length (E.edges edges.now)) dart.edge }
     requires wings { HaveWings (length (E.edges edges.now)) (E.edges edges.now) }
@@ -162,7 +162,7 @@ fn repeated<'a>(columns: &EdgeColumns<'a>, dart: Dart, next: Dart, owner: Dart) 
 
 /// The next darts of `1+`, `1-`, `2+` and so on, where each dart has one of its own. The first dart that has no one next dart, or
 /// has that of an earlier one, is the finding.
-pub fn nexts<'a, E: WingedEdges>(
+pub fn nexts<'a, E: WingedEdges<'a>>(
     alloc: Global,
     columns: &EdgeColumns<'a>,
     edges: &E,

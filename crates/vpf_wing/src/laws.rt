@@ -1,8 +1,9 @@
-//! What is so of the wings of all edges, and of every edge table.
+//! What is so of the wings of all edges, of every edge table, and of every tile whose cycles are looked at.
 
-ghost use Rattle.vpf_wing.specs.Laws.{EdgesAreMap, HasBoundaryListing, MadeMapIsMap, NoFindingWhereMapIsMade, OneBoundaryListing};
+ghost use Rattle.vpf_wing.specs.Laws.{CyclesDecide, EdgesAreMap, HasBoundaryListing, LoopsDecide, MadeMapIsMap};
+ghost use Rattle.vpf_wing.specs.Laws.{NoFindingWhereMapIsMade, OneBoundaryListing, UntiledDecides, WellFormedHasMap};
 
-use vpf_prims::laws::rows_have_wings;
+use vpf_prims::laws::{numbers_decide, rows_have_wings};
 
 /// There is no finding on wings exactly where each dart has one next dart and no two the same; and then the edges are a map.
 pub fn no_finding_where_a_map_is_made()
@@ -18,4 +19,27 @@ pub fn one_boundary_listing()
 {
     rows_have_wings();
     vpf_darts::laws::one_listing();
+}
+
+/// A well-formed untiled coverage is a combinatorial map.
+pub fn well_formed_has_map()
+    ensures { WellFormedHasMap }
+{}
+
+/// There is no finding on the loops of an untiled coverage exactly where they have two different faces.
+pub fn loops_decide()
+    ensures { LoopsDecide }
+{}
+
+/// There is no finding on the wings, cycles, rings and nodes of a tile, whose numbers are right, exactly where each dart has a next
+/// of its own, each cycle of nexts one ring, and each node one cycle of turn.
+pub fn cycles_decide()
+    ensures { CyclesDecide }
+{}
+
+/// There is no finding on an untiled coverage exactly where its columns are right and it is well formed.
+pub fn untiled_decides()
+    ensures { UntiledDecides }
+{
+    numbers_decide();
 }

@@ -3,14 +3,23 @@
 #![tactic(auto)]
 
 mod boundaries;
+mod checking;
 mod edges;
 mod errors;
+mod firsts;
 mod following;
 pub mod laws;
-#[cfg(test)]
-mod tests;
+mod leasts;
+mod nodes;
+mod places;
+mod rings;
+mod sides;
+mod tile_edges;
 
 pub use boundaries::boundary_cycles;
+pub use checking::check_tile;
 pub use edges::WingedEdges;
 pub use errors::EdgeError;
 pub use following::{next_dart, nexts};
+pub use sides::check_loops;
+pub use tile_edges::next_local;

@@ -1,5 +1,6 @@
 use Rattle.std.specs.Prelude.{map, string_bytes}
 use Rattle.vpf.proofs.Answering.{words_answered}
+use Rattle.vpf.proofs.CheckedAnswers.{run_agrees}
 use Rattle.vpf.proofs.Grammared.{words_said}
 use Rattle.vpf.proofs.ServedAnswers.{index_serves}
 use Rattle.vpf.proofs.running.run.Goals as goal
@@ -17,3 +18,10 @@ returns-clause-spelled g c command files name bytes grid answer e f has t said =
 pub returns-clause-faulty : goal.returns-clause-faulty
 returns-clause-faulty g c command files name bytes place e f has fault over =
     c.do_words.ensures.answer _ (words_said _ _ command files _ e f (c.answers_follow_the_grammar.ensures.faults command files name bytes place has fault over))
+
+pub returns-clause-checked : goal.returns-clause-checked
+returns-clause-checked g c files request loaded e f agrees =
+    c.do_words.ensures.answer _ (words_said _ _ _ files _ e f (c.checks_decide.ensures.said files request loaded agrees))
+
+pub returns-clause-agrees : goal.returns-clause-agrees
+returns-clause-agrees g c files request bytes e f done = run_agrees c.checks_decide.ensures.only (map string_bytes c.args.words.now) files request _ _ _ bytes e f done c.do_words.ensures.answer

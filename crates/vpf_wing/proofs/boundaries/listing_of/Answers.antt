@@ -1,4 +1,4 @@
-use Rattle.std.proofs.Common.{None}
+use Rattle.std.proofs.Common.{None, refl}
 use Rattle.std.proofs.lemmas.Result.{err_from_is_err_and}
 use Rattle.vpf_wing.proofs.ListLemmas.{ranking}
 use Rattle.vpf_wing.proofs.GridLemmas.{HasEdges, is_read, tells_columns, tells_rows, tells_wings, among_them, wings_decide, mapped, boundary}
@@ -15,11 +15,12 @@ returns-in_err-edges-clause-first c =
     let k = is_read c.args.table.now c.header.result.now c.in_ok-columns.columns c.header.ensures c.in_ok-columns.ensures.first c.in_ok-columns.ensures.columns in
     rw (p.1, p.2) (tells_rows c.args.table.now c.in_ok-columns.columns c.len.result c.in_err-edges.field-0.0 k c.len.ensures.value c.in_err-edges.ensures.first)
 
-pub nexts-requires-clause-wings : goal.nexts-requires-clause-wings
-nexts-requires-clause-wings c =
+pub nexts-requires : goal.nexts-requires
+nexts-requires c =
     let k = is_read c.args.table.now c.header.result.now c.in_ok-columns.columns c.header.ensures c.in_ok-columns.ensures.first c.in_ok-columns.ensures.columns in
-    among_them c.args.table.now c.in_ok-columns.columns c.len.result c.in_ok-edges.edges.items
-    (record { read = k; count = c.len.ensures.value; are = c.in_ok-edges.ensures.edges; none = c.in_ok-edges.ensures.first; wings = c.in_ok-edges.ensures.wings })
+    let wings = among_them c.args.table.now c.in_ok-columns.columns c.len.result c.in_ok-edges.edges.items
+    (record { read = k; count = c.len.ensures.value; are = c.in_ok-edges.ensures.edges; none = c.in_ok-edges.ensures.first; wings = c.in_ok-edges.ensures.wings }) in
+    λ _. ((refl, tt), (c.in_ok-edges.ensures.few, wings))
 
 pub returns-in_err-nexts-clause-first : goal.returns-in_err-nexts-clause-first
 returns-in_err-nexts-clause-first c =

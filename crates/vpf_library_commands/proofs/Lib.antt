@@ -1,0 +1,3 @@
+pub mod CheckAnswers
+pub mod Deciding
+pub mod Example

@@ -1,0 +1,4 @@
+pub mod Stopping
+pub mod Check
+pub mod Agreeing
+pub mod Example

@@ -1,0 +1,8 @@
+//! The commands over libraries: the words of each, and its answer over the files of a tree.
+#![tactic(auto)]
+
+mod checking;
+pub mod laws;
+mod stopping;
+
+pub use checking::{CheckRequest, check};

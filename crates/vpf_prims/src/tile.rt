@@ -1,0 +1,321 @@
+//! A tile of a coverage, or an untiled coverage, seen in its files.
+
+ghost use Rattle.std.specs.Prelude.{◌≡◌, ◌≤◌};
+ghost use Rattle.vpf_prims.specs.Tables.{files_of_grid};
+
+use crate::citing::Citation;
+use crate::edges::EdgeColumns;
+use crate::placing::{RoleColumn, TableAt};
+use crate::rows::{Edge, EdgeRow};
+use crate::seeking::{cell_in_row, number_in_row, row_of};
+use crate::tables::{EntityTable, FaceTable, NodeTable, RingTable};
+use std::alloc::{AllocError, Global};
+use std::marker::Model;
+use vpf_findings::{Finding, Seen, TableName};
+use vpf_table::TableView;
+
+/// The primitive tables of a tile, or of an untiled coverage, whose columns, ids and references are right (MIL-STD-2407, 5.2.2,
+/// primitives). Rows stay in their files. Numbers of primitives count from 1. Contracts see it as the tables, and where the first of
+/// their files stands among those that were read.
+#[derive(Drop)]
+pub struct Tile<'a> {
+    pub(crate) first: u32,
+    pub(crate) columns: EdgeColumns<'a>,
+    pub(crate) edg: TableView<'a>,
+    pub(crate) fac: FaceTable<'a>,
+    pub(crate) rng: RingTable<'a>,
+    pub(crate) cnd: NodeTable<'a>,
+    pub(crate) end: Option<EntityTable<'a>>,
+}
+
+impl<'a> Model for Tile<'a> {
+    ghost use Rattle.vpf_prims.specs.Tables.{TileTables};
+
+    ghost Value = { TileTables };
+
+    ghost use Rattle.vpf_prims.specs.Tiles.{tables_of, IsTile};
+
+    ghost view = { tables_of };
+
+    ghost invariant = { IsTile };
+}
+
+/// How many files a table is: its own, and its index where its rows vary.
+pub(crate) fn files_of(table: &TableView<'_>) -> u32
+    ensures value { result ≡ files_of_grid table.now }
+    ensures few { result ≤ 2 }
+{
+    if table.header().varies() { 2 } else { 1 }
+}
+
+impl<'a> Tile<'a> {
+    ghost use Rattle.std.specs.Prelude.{◌≡◌, ◌<◌, ◌≤◌, ◌+◌, ◌^◌, [], IfOk, None, Some, length, option_map};
+    ghost use Rattle.vpf_value.specs.Values.{view};
+    ghost use Rattle.vpf_findings.specs.Findings.{disagreement_of, sight_of};
+    ghost use Rattle.vpf_prims.specs.Columns.{IsWithin, role_at};
+    ghost use Rattle.vpf_prims.specs.Lists.{kth};
+    ghost use Rattle.vpf_prims.specs.Numbering.{IsRowOf};
+    ghost use Rattle.vpf_prims.specs.Primitives.{absent_edge, absent_entity, absent_face, absent_node, absent_ring, edge_row_of, entities_in, own_edges};
+    ghost use Rattle.vpf_prims.specs.References.{cell_at, id_of};
+    ghost use Rattle.vpf_prims.specs.Edges.{edge_columns};
+    ghost use Rattle.vpf_prims.specs.Reading.{primitives_of};
+    ghost use Rattle.vpf_prims.specs.Tables.{at_citation, cited_cell, cited_column, cited_grid, edg_at, fac_file, rng_file};
+    ghost use Rattle.vpf_prims.specs.Tables.{cnd_file, end_file, file_named, file_where, table_at, table_named};
+    ghost use Rattle.vpf_prims.specs.TableLines.{numbers_finding};
+
+    /// The number of edges.
+    pub fn edges(&self) -> u32
+        ensures value { result ≡ length (primitives_of self.now.tables).edges }
+        ensures few { result < 2 ^ 24 }
+    {
+        self.edg.len()
+    }
+
+    /// The number of faces, face 1, the universe, included.
+    pub fn faces(&self) -> u32
+        ensures value { result ≡ length (primitives_of self.now.tables).faces }
+        ensures few { result < 2 ^ 24 }
+    {
+        self.fac.table.len()
+    }
+
+    /// The number of rings.
+    pub fn rings(&self) -> u32
+        ensures value { result ≡ length (primitives_of self.now.tables).rings }
+        ensures few { result < 2 ^ 24 }
+    {
+        self.rng.table.len()
+    }
+
+    /// The number of connected nodes.
+    pub fn nodes(&self) -> u32
+        ensures value { result ≡ length (primitives_of self.now.tables).nodes }
+        ensures few { result < 2 ^ 24 }
+    {
+        self.cnd.table.len()
+    }
+
+    /// The number of entity nodes: 0 where they have no table.
+    pub fn entities(&self) -> u32
+        ensures value { result ≡ length (entities_in (Some (primitives_of self.now.tables))) }
+        ensures few { result < 2 ^ 24 }
+    {
+        match &self.end {
+            Some(end) => end.table.len(),
+            None => 0,
+        }
+    }
+
+    /// What is so of the columns, ids and references of each tile: nothing disagrees in them.
+    pub fn has_numbers(&self)
+        ensures { numbers_finding 0 self.now ≡ None }
+    {
+        let _first = self.first;
+    }
+
+    /// The row of an edge.
+    pub fn edge(&self, e: u32) -> EdgeRow
+        requires { IsRowOf (length (primitives_of self.now.tables).edges) e }
+        ensures { result ≡ edge_row_of (kth (primitives_of self.now.tables).edges e absent_edge) }
+    {
+        self.columns.row(&row_of(&self.edg, e))
+    }
+
+    /// The first ring of a face, 0 where face 1 has none.
+    pub fn ring_ptr(&self, f: u32) -> u32
+        requires { IsRowOf (length (primitives_of self.now.tables).faces) f }
+        ensures { result ≡ id_of (kth (primitives_of self.now.tables).faces f absent_face).ring_ptr }
+    {
+        number_in_row(&self.fac.table, &self.fac.ring_ptr, f)
+    }
+
+    /// The face of a ring, and the edge where its walk starts.
+    pub fn ring(&self, r: u32) -> (u32, u32)
+        requires { IsRowOf (length (primitives_of self.now.tables).rings) r }
+        ensures face { result.0 ≡ id_of (kth (primitives_of self.now.tables).rings r absent_ring).face }
+        ensures edge { result.1 ≡ id_of (kth (primitives_of self.now.tables).rings r absent_ring).start_edge }
+    {
+        let rings = &self.rng;
+        let face = number_in_row(&rings.table, &rings.face_id, r);
+        let edge = number_in_row(&rings.table, &rings.start_edge, r);
+        (face, edge)
+    }
+
+    /// An edge at a node.
+    pub fn first_edge(&self, n: u32) -> u32
+        requires { IsRowOf (length (primitives_of self.now.tables).nodes) n }
+        ensures { result ≡ id_of (kth (primitives_of self.now.tables).nodes n absent_node).first_edge }
+    {
+        number_in_row(&self.cnd.table, &self.cnd.first_edge, n)
+    }
+
+    /// The face that an entity node lies in.
+    pub fn containing_face(&self, n: u32) -> u32
+        requires { IsRowOf (length (entities_in (Some (primitives_of self.now.tables)))) n }
+        ensures { result ≡ id_of (kth (entities_in (Some (primitives_of self.now.tables))) n absent_entity).containing_face }
+    {
+        match &self.end {
+            Some(end) => number_in_row(&end.table, &end.containing_face, n),
+            None => 0,
+        }
+    }
+
+    /// The edges by the numbers of their nodes, faces and wings in the tile. The rows are passed once.
+    pub fn own_edges(&self, alloc: Global) -> Result<Vec<Edge>, AllocError>
+        ensures { IfOk result (λ edges. edges.items ≡ own_edges (primitives_of self.now.tables)) }
+    {
+        let mut edges = Vec::with_capacity(alloc, self.edg.len() as usize)?;
+        for row in self.edg.rows() {
+            edges.push(self.columns.numbers(&row))?;
+        }
+        Ok(edges)
+    }
+
+    /// The columns of edges, whose findings are in the tile of this number.
+    pub fn edge_columns(&self, number: u32) -> EdgeColumns<'a>
+        ensures { result ≡ edge_columns (edg_at number self.now) self.now.tables.edg.head.columns }
+    {
+        self.columns.in_table(self.table_at(number, TableName::Edg))
+    }
+
+    /// The table of this name, or nothing where the tile has no such table.
+    pub fn table(&self, name: TableName) -> Option<&TableView<'a>>
+        ensures { option_map (λ t. t.now) result ≡ table_named self.now name }
+    {
+        match name {
+            TableName::Edg => Some(&self.edg),
+            TableName::Fac => Some(&self.fac.table),
+            TableName::Rng => Some(&self.rng.table),
+            TableName::Cnd => Some(&self.cnd.table),
+            TableName::End => match &self.end {
+                Some(end) => Some(&end.table),
+                None => None,
+            },
+            _ => None,
+        }
+    }
+
+    /// Where the file of faces stands.
+    fn fac_file(&self) -> u32
+        ensures value { result ≡ fac_file self.now }
+        ensures few { result < 2 ^ 31 + 2 }
+    {
+        self.first + files_of(&self.edg)
+    }
+
+    /// Where the file of rings stands.
+    fn rng_file(&self) -> u32
+        ensures value { result ≡ rng_file self.now }
+        ensures few { result < 2 ^ 31 + 4 }
+    {
+        self.fac_file() + files_of(&self.fac.table)
+    }
+
+    /// Where the file of connected nodes stands.
+    fn cnd_file(&self) -> u32
+        ensures value { result ≡ cnd_file self.now }
+        ensures few { result < 2 ^ 31 + 6 }
+    {
+        self.rng_file() + files_of(&self.rng.table)
+    }
+
+    /// Where the file of entity nodes stands, or would.
+    fn end_file(&self) -> u32
+        ensures { result ≡ end_file self.now }
+    {
+        self.cnd_file() + files_of(&self.cnd.table)
+    }
+
+    /// Where the file of the table of this name stands, whether the tile has it or not: 0 for a name that no tile has.
+    fn file_named(&self, name: TableName) -> u32
+        ensures { result ≡ file_named self.now name }
+    {
+        match name {
+            TableName::Edg => self.first,
+            TableName::Fac => self.fac_file(),
+            TableName::Rng => self.rng_file(),
+            TableName::Cnd => self.cnd_file(),
+            TableName::End => self.end_file(),
+            _ => 0,
+        }
+    }
+
+    /// Where the file of the table of this name stands among those that were read, from 0. Nothing where the tile has no such table.
+    pub fn file(&self, name: TableName) -> Option<u32>
+        ensures { result ≡ file_where (table_named self.now name) (file_named self.now name) }
+    {
+        match self.table(name) {
+            Some(_) => Some(self.file_named(name)),
+            None => None,
+        }
+    }
+
+    /// The table of this name, where its findings are in the tile of this number.
+    fn table_at(&self, number: u32, name: TableName) -> TableAt
+        ensures { result ≡ table_at number self.now name }
+    {
+        TableAt {
+            tile: number,
+            table: name,
+            file: self.file_named(name),
+        }
+    }
+
+    /// The table that has a column of references.
+    fn cited_table(&self, citation: Citation) -> &TableView<'a>
+        ensures { result.now ≡ cited_grid self.now.tables citation }
+    {
+        match citation {
+            Citation::RingPtr => &self.fac.table,
+            Citation::FaceId | Citation::StartEdge => &self.rng.table,
+            Citation::FirstEdge => &self.cnd.table,
+            _ => &self.edg,
+        }
+    }
+
+    /// A column of references.
+    fn cited_column(&self, citation: Citation) -> RoleColumn<'a>
+        ensures column { role_at result ≡ cited_column self.now.tables citation }
+        ensures within { IsWithin (length (cited_grid self.now.tables citation).head.columns) (role_at result) }
+    {
+        match citation {
+            Citation::StartNode => self.columns.start_node(),
+            Citation::EndNode => self.columns.end_node(),
+            Citation::RightFace => self.columns.right_face(),
+            Citation::LeftFace => self.columns.left_face(),
+            Citation::RightEdge => self.columns.right_edge(),
+            Citation::LeftEdge => self.columns.left_edge(),
+            Citation::TileLine => self.columns.tile_line(),
+            Citation::RingPtr => self.fac.ring_ptr,
+            Citation::FaceId => self.rng.face_id,
+            Citation::StartEdge => self.rng.start_edge,
+            Citation::FirstEdge => self.cnd.first_edge,
+        }
+    }
+
+    /// The cell of row `k` in a column, as it is shown.
+    pub fn seen(&self, citation: Citation, k: u32) -> Seen<'a>
+        requires { IsRowOf (length (cited_grid self.now.tables citation).rows) k }
+        ensures { sight_of result ≡ cited_cell self.now.tables citation k }
+    {
+        let column = self.cited_column(citation);
+        let cell = cell_in_row(self.cited_table(citation), &column, k);
+        Seen::Cell(column.kind, cell)
+    }
+
+    /// A finding in a column, in a row or, at row 0, in the table as a whole, for the tile of this number.
+    pub fn finding(
+        &self,
+        number: u32,
+        citation: Citation,
+        rule: u8,
+        row: u32,
+        found: Seen<'a>,
+        wanted: Seen<'a>,
+    ) -> Finding<'a>
+        ensures { disagreement_of result ≡ at_citation number self.now citation rule row (sight_of found.entry) (sight_of wanted.entry) }
+    {
+        let at = self.table_at(number, citation.table());
+        at.finding(rule, row, self.cited_column(citation).name, found, wanted)
+    }
+}
