@@ -1,1 +1,4 @@
 pub mod NameLemmas
+pub mod PathLemmas
+pub mod PathDecides
+pub mod TextLemmas

@@ -7,9 +7,9 @@ use Rattle.vpf_base.specs.Bytes.{backslash}
 use Rattle.vpf_names.specs.Naming.{slash, joined_parts}
 use Rattle.vpf_names.specs.Items.{is_plain_name, small, trimmed}
 
--- a path: the names of its folders, from the outermost on
-abbrev pub Path : Type 0
-Path = List (List ℕ)
+-- the path of a tile: the names of its folders, from the outermost on
+abbrev pub TilePath : Type 0
+TilePath = List (List ℕ)
 
 -- a slash of either sort
 abbrev pub is_slash : ℕ → Bool
@@ -20,27 +20,27 @@ abbrev pub is_named : List ℕ → Bool
 is_named name = not (length name == 0)
 
 -- the names between the slashes of a text, without those that are empty
-abbrev pub folders_in : List ℕ → Path
+abbrev pub folders_in : List ℕ → TilePath
 folders_in text = filter is_named (slice_split is_slash text)
 
 -- the path that a text names: the padding around it is dropped, and its letters are made small
-abbrev pub path_of : List ℕ → Path
+abbrev pub path_of : List ℕ → TilePath
 path_of text = folders_in (small (trimmed text))
 
 -- there is a folder, and each has a name that a folder can have
-abbrev pub is_path : Path → Bool
+abbrev pub is_path : TilePath → Bool
 is_path path = not (length path == 0) && list_all is_plain_name path
 
 -- two paths are the same, folder by folder
-abbrev pub same_path : Path → Path → Bool
+abbrev pub same_path : TilePath → TilePath → Bool
 same_path = pointwise bytes_eq
 
 -- a path in one text, with a slash between any two folders
-abbrev pub path_text : Path → List ℕ
+abbrev pub path_text : TilePath → List ℕ
 path_text = joined_parts
 
 -- that text of the path that a text names; none where that is no path
-abbrev pub text_of_path : Path → Option (List ℕ)
+abbrev pub text_of_path : TilePath → Option (List ℕ)
 text_of_path path = if is_path path then Some (path_text path) else None
 
 -- a byte of a folder's name
@@ -58,6 +58,6 @@ pub record IsFolder (name : List ℕ) : Type 0 where
   pub letters : All IsLetter name
 
 -- a path of some folders
-pub record IsPath (path : Path) : Type 0 where
+pub record IsPath (path : TilePath) : Type 0 where
   pub some : path ≢ []
   pub folders : All IsFolder path

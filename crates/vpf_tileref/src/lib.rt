@@ -3,3 +3,6 @@
 #![tactic(auto)]
 
 mod naming;
+mod paths;
+
+pub use paths::TilePaths;

@@ -1,5 +1,4 @@
-use Rattle.std.proofs.Common.{ℕ, List, Bor, map, rules, arith}
-use Rattle.std.proofs.lemmas.List.Folds.{list_all-map}
+use Rattle.std.proofs.Common.{ℕ, List, Bor, rules}
 use Rattle.vpf_names.specs.Items.{is_plain_name}
 use Rattle.vpf_tileref.proofs.NameLemmas.{every_other, passes_at}
 use Rattle.vpf_tileref.proofs.naming.put_path.Goals as goal
