@@ -1,3 +1,4 @@
+pub mod BoundLemmas
 pub mod NameLemmas
 pub mod PathLemmas
 pub mod PathDecides

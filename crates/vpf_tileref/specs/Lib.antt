@@ -1,2 +1,4 @@
 pub mod Paths
 pub mod Numbered
+pub mod Bounds
+pub mod Errors

@@ -2,7 +2,10 @@
 //! reference coverage).
 #![tactic(auto)]
 
+mod bounds;
+mod errors;
 mod naming;
 mod paths;
 
+pub use errors::TilerefError;
 pub use paths::TilePaths;

@@ -23,9 +23,17 @@ impl Model for TilePaths {
 }
 
 impl TilePaths {
-    ghost use Rattle.std.specs.Prelude.{◌≡◌, ◌≤◌, ◌==◌, length};
+    ghost use Rattle.std.specs.Prelude.{◌≡◌, ◌≤◌, ◌==◌, length, map, string_bytes};
     ghost use Rattle.std.specs.Option.{option_map};
     ghost use Rattle.vpf_tileref.specs.Numbered.{most_tiles, numbered_path};
+
+    /// These paths, of at most 65,535 tiles.
+    pub(crate) fn new(paths: IndexSet<String>) -> TilePaths
+        requires { length paths.keys ≤ most_tiles }
+        ensures { result ≡ map (λ path. string_bytes path) paths.keys }
+    {
+        TilePaths { paths }
+    }
 
     /// How many tiles there are: at most 65,535.
     pub fn len(&self) -> u32
