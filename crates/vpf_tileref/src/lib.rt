@@ -3,9 +3,14 @@
 #![tactic(auto)]
 
 mod bounds;
+mod columns;
 mod errors;
+pub mod laws;
 mod naming;
 mod paths;
+mod reading;
+mod rows;
 
 pub use errors::TilerefError;
 pub use paths::TilePaths;
+pub use reading::read_tileref;
