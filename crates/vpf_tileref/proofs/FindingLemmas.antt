@@ -21,6 +21,7 @@ pub stops_later : (e : FindError) (a b : Option Disagreement) → a ≡ None →
 stops_later e a b none h = rw none h
 
 -- the only role is looked at
-pub stops_alone : (e : FindError) (columns : List Col) (role : LentRole) (roles : List LentRole) → roles ≡ role ∷ [] → Tells {V = Unit {0}} (Err e) (columns_finding tileref_at columns (map role_of roles))
+pub stops_alone : (e : FindError) (columns : List Col) (role : LentRole) (roles : List LentRole)
+    → roles ≡ role ∷ [] → Tells {V = Unit {0}} (Err e) (columns_finding tileref_at columns (map role_of roles))
     → Tells {V = Unit {0}} (Err e) (role_line tileref_at columns (role_of role))
 stops_alone e columns role roles are h = rw (are, or-none) at h

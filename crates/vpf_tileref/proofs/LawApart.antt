@@ -13,7 +13,8 @@ use Rattle.vpf_tileref.specs.Tileref.{is_taken}
 use Rattle.vpf_tileref.proofs.PathDecides.{same_decides}
 
 -- the place of an element that passes
-place_behind : {X : Type 0} (p : X → Bool) (x : X) (xs : List X) (d : X) → list_any p (x ∷ xs) ≡ true → (list_any p xs ≡ true → (i : ℕ) × (i < length xs) × (p (get_or xs i d) ≡ true))
+place_behind : {X : Type 0} (p : X → Bool) (x : X) (xs : List X) (d : X)
+    → list_any p (x ∷ xs) ≡ true → (list_any p xs ≡ true → (i : ℕ) × (i < length xs) × (p (get_or xs i d) ≡ true))
     → (i : ℕ) × (i < length (x ∷ xs)) × (p (get_or (x ∷ xs) i d) ≡ true)
 place_behind {X} p x xs d h others = by (p x) refl
   where
@@ -36,7 +37,8 @@ earlier_takes paths path (suc i) k low less most is =
     list_any_at (same_path path) (take n paths) i [] inside ((same_decides path (get_or (take n paths) i [])).1 (sym (get_or-take n paths i [] here ∙ is)))
 
 -- a path that is taken is that of an earlier tile
-taker : (paths : List TilePath) (path : TilePath) (k : ℕ) → k ≤ length paths → is_taken paths k path ≡ true → (j : ℕ) × (1 ≤ j) × (j < k) × (kth paths j [] ≡ path)
+taker : (paths : List TilePath) (path : TilePath) (k : ℕ) → k ≤ length paths → is_taken paths k path ≡ true
+    → (j : ℕ) × (1 ≤ j) × (j < k) × (kth paths j [] ≡ path)
 taker paths path k most taken =
     let n = k - 1 in
     let few : n ≤ length paths = omega arith in
@@ -57,9 +59,9 @@ free_apart paths free j k a b e =
     elim (cases_lt j k) [
       | inl less ↦ absurd (clash _ (earlier_takes paths (kth paths k []) j k a.0 less b.1 e) (free k b))
       | inr ge ↦ elim (cases_lt k j) [
-          | inl more ↦ absurd (clash _ (earlier_takes paths (kth paths j []) k j b.0 more a.1 (sym e)) (free j a))
-          | inr le ↦ omega arith
-        ]
+        | inl more ↦ absurd (clash _ (earlier_takes paths (kth paths j []) k j b.0 more a.1 (sym e)) (free j a))
+        | inr le ↦ omega arith
+      ]
     ]
 
 apart_free : (paths : List TilePath) → AreApart paths → AreFree paths

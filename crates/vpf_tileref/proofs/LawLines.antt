@@ -58,7 +58,8 @@ columns_suit columns rows =
     let name = text_role (codes "tile_name") in
     through (neither_line (role_line tileref_at columns id) _)
     (through (paired (suiting id (column_of columns id.name)) (through (neither_line (no_rows_line tileref_at columns rows most_tiles) _)
-    (paired (through (unless_passes (not (length rows == 0)) _) (some_rows rows)) (through (neither_line (role_line tileref_at columns name) None) (paired (suiting name (column_of columns name.name)) (λ h. h, λ h. h))))))
+    (paired (through (unless_passes (not (length rows == 0)) _) (some_rows rows))
+    (through (neither_line (role_line tileref_at columns name) None) (paired (suiting name (column_of columns name.name)) (λ h. h, λ h. h))))))
     (λ h. ((h.0, (h.1.1.0, tt)), h.1.0), λ h. (h.0.0, (h.1, (h.0.1.0, refl)))))
 
 -- a cell that is no number isn't k, unless k is 0
@@ -83,7 +84,8 @@ number_is (WordsOf w s) k low = no_number k low
 pub id_is : (k : ℕ) (column : RoleAt) (row : Row) → 1 ≤ k → (id_line tileref_at k column row ≡ None) ↔ (natural_in (cell_at row column.place) ≡ Some k)
 id_is k column row low = through (unless_passes (is_same (signed_in (cell_at row column.place)) k) _) (number_is (cell_at row column.place) k low)
 
-rows_silent : {F R : Type 0} (lines : ℕ → R → Option F) (k : ℕ) (rows : List R) (d : R) → ((i : ℕ) → i < length rows → lines (k + i) (get_or rows i d) ≡ None) → first_of_rows lines k rows ≡ None
+rows_silent : {F R : Type 0} (lines : ℕ → R → Option F) (k : ℕ) (rows : List R) (d : R)
+    → ((i : ℕ) → i < length rows → lines (k + i) (get_or rows i d) ≡ None) → first_of_rows lines k rows ≡ None
 rows_silent lines k [] d each = refl
 rows_silent lines k (row ∷ rows) d each =
     let e : k + zero ≡ k = omega arith in
@@ -91,7 +93,8 @@ rows_silent lines k (row ∷ rows) d each =
     rw first (rows_silent lines (suc k) rows d (λ i h. let f : suc k + i ≡ k + suc i = omega arith in rw f (each (suc i) (omega arith))))
 
 -- the lines on rows, by the numbers of these
-pub rows_by_number : {F R : Type 0} (lines : ℕ → R → Option F) (rows : List R) (d : R) → (first_of_rows lines 1 rows ≡ None) ↔ ((k : ℕ) → IsRowOf (length rows) k → lines k (kth rows k d) ≡ None)
+pub rows_by_number : {F R : Type 0} (lines : ℕ → R → Option F) (rows : List R) (d : R)
+    → (first_of_rows lines 1 rows ≡ None) ↔ ((k : ℕ) → IsRowOf (length rows) k → lines k (kth rows k d) ≡ None)
 rows_by_number {F} {R} lines rows d = (by_number, by_place)
   where
     by_number : first_of_rows lines 1 rows ≡ None → (k : ℕ) → IsRowOf (length rows) k → lines k (kth rows k d) ≡ None

@@ -16,7 +16,8 @@ use Rattle.vpf_prims.specs.References.{cell_at}
 use Rattle.vpf_prims.specs.RowLines.{id_column}
 use Rattle.vpf_tileref.specs.Paths.{TilePath, is_path, IsPath}
 use Rattle.vpf_tileref.specs.Numbered.{most_tiles}
-use Rattle.vpf_tileref.specs.Tileref.{is_taken, name_column, path_line, paths_of, row_path, tile_columns_finding, tile_row_lines, tile_rows_finding, tileref_finding}
+use Rattle.vpf_tileref.specs.Tileref.{is_taken, name_column, paths_of, row_path}
+use Rattle.vpf_tileref.specs.Tileref.{path_line, tile_columns_finding, tile_row_lines, tile_rows_finding, tileref_finding}
 use Rattle.vpf_tileref.specs.Bounds.{length_bound, lengths_bound, rows_bound}
 use Rattle.vpf_tileref.specs.Stops.{path_texts, tileref_stop, LimitStop, FindingStop}
 use Rattle.vpf_tileref.specs.Laws.{TilerefDecides, StopsDecide}
@@ -45,7 +46,8 @@ path_is column paths k row =
 row_is : (id name : RoleAt) (paths : List TilePath) (k : ℕ) (row : Row) → 1 ≤ k
     → (tile_row_lines id name paths k row ≡ None)
     ↔ ((natural_in (cell_at row id.place) ≡ Some k) × (IsPath (row_path name row) × (is_taken paths k (row_path name row) ≡ false)))
-row_is id name paths k row low = through (neither_line (id_line _ k id row) (path_line name paths k row)) (paired (id_is k id row low) (path_is name paths k row))
+row_is id name paths k row low =
+    through (neither_line (id_line _ k id row) (path_line name paths k row)) (paired (id_is k id row low) (path_is name paths k row))
 
 -- what is so of row k
 abbrev IsTileRow : Grid → ℕ → Type 0
@@ -61,7 +63,8 @@ rows_are grid =
     let id = id_column grid.head.columns in
     let name = name_column grid.head.columns in
     let paths = paths_of grid in
-    let P : ℕ → TilePath → Type 0 = λ (k : ℕ) (path : TilePath). (natural_in (cell_at (kth grid.rows k []) id.place) ≡ Some k) × (IsPath path × (is_taken paths k path ≡ false)) in
+    let is_id : ℕ → Type 0 = λ (k : ℕ). natural_in (cell_at (kth grid.rows k []) id.place) ≡ Some k in
+    let P : ℕ → TilePath → Type 0 = λ (k : ℕ) (path : TilePath). is_id k × (IsPath path × (is_taken paths k path ≡ false)) in
     through (rows_by_number (tile_row_lines id name paths) grid.rows []) (
       λ h k l. subst (P k) (sym (kth-map (row_path name) grid.rows k [] [] l)) ((row_is id name paths k (kth grid.rows k []) l.0).0 (h k l)),
       λ h k l. (row_is id name paths k (kth grid.rows k []) l.0).1 (subst (P k) (kth-map (row_path name) grid.rows k [] [] l) (h k l)),
@@ -75,8 +78,8 @@ pub tileref_decides : TilerefDecides
 unfolding tileref_finding
 tileref_decides grid =
     let n = counted grid in
-    let row : (k : ℕ) → IsRowOf (length (paths_of grid)) k → IsRowOf (length grid.rows) k = λ (k : ℕ) (l : IsRowOf (length (paths_of grid)) k). (l.0, subst (λ (m : ℕ). k ≤ m) n l.1) in
-    let of_row : (k : ℕ) → IsRowOf (length grid.rows) k → IsRowOf (length (paths_of grid)) k = λ (k : ℕ) (l : IsRowOf (length grid.rows) k). (l.0, subst (λ (m : ℕ). k ≤ m) (sym n) l.1) in
+    let row : (k : ℕ) → IsRowOf (length (paths_of grid)) k → IsRowOf (length grid.rows) k = λ k l. (l.0, subst (λ (m : ℕ). k ≤ m) n l.1) in
+    let of_row : (k : ℕ) → IsRowOf (length grid.rows) k → IsRowOf (length (paths_of grid)) k = λ k l. (l.0, subst (λ (m : ℕ). k ≤ m) (sym n) l.1) in
     let free = free_decides (paths_of grid) in
     through (neither_line (tile_columns_finding grid.head.columns grid.rows) _)
     (through (paired (columns_suit grid.head.columns grid.rows) (rows_are grid)) (

@@ -1,5 +1,6 @@
 -- Names in cells: without their padding, and cut at slashes.
-use Rattle.std.proofs.Common.{◌≡◌, ℕ, zero, suc, ◌+◌, ◌-◌, ◌<◌, Bool, true, false, cond, List, [], ◌∷◌, ◌++◌, length, take, get_or, map, refl, ap, sym, subst, ◌∙◌, arith}
+use Rattle.std.proofs.Common.{◌≡◌, ℕ, zero, suc, ◌+◌, ◌-◌, ◌<◌, Bool, true, false, cond, arith}
+use Rattle.std.proofs.Common.{List, [], ◌∷◌, ◌++◌, length, take, get_or, map, refl, ap, sym, subst, ◌∙◌}
 use Rattle.std.specs.List.{list_all}
 use Rattle.std.proofs.lemmas.List.{take_more, take_all, length-map}
 use Rattle.std.proofs.lemmas.List.Folds.{list_all-map}
@@ -42,15 +43,19 @@ parted : (text : List ℕ) → 0 < length text → text ≡ take (length text - 
 parted text some =
     let e : length text - 1 + 1 ≡ length text = omega arith in
     let l : length text - 1 < length text = omega arith in
-    sym (take_all (length text) text (omega arith)) ∙ subst (λ (n : ℕ). take n text ≡ take (length text - 1) text ++ get_or text (length text - 1) 0 ∷ []) e (take_more text (length text - 1) 0 l)
+    let IsFront : ℕ → Type 0 = λ (n : ℕ). take n text ≡ take (length text - 1) text ++ get_or text (length text - 1) 0 ∷ [] in
+    sym (take_all (length text) text (omega arith)) ∙ subst IsFront e (take_more text (length text - 1) 0 l)
 
 -- padding at the end may be cut off
-pub shortened : (text : List ℕ) → 0 < length text → is_padding (get_or text (length text - 1) 0) ≡ true → before_padding (take (length text - 1) text) ≡ before_padding text
-shortened text some p = sym (ap before_padding (parted text some) ∙ last_dropped (take (length text - 1) text) (get_or text (length text - 1) 0) p)
+pub shortened : (text : List ℕ) → 0 < length text → is_padding (get_or text (length text - 1) 0) ≡ true
+    → before_padding (take (length text - 1) text) ≡ before_padding text
+shortened text some p =
+    sym (ap before_padding (parted text some) ∙ last_dropped (take (length text - 1) text) (get_or text (length text - 1) 0) p)
 
 -- a text that doesn't end in padding has none behind it
 pub stands : (text : List ℕ) → 0 < length text → is_padding (get_or text (length text - 1) 0) ≡ false → text ≡ before_padding text
-stands text some p = parted text some ∙ sym (last_kept (take (length text - 1) text) (get_or text (length text - 1) 0) p) ∙ sym (ap before_padding (parted text some))
+stands text some p =
+    parted text some ∙ sym (last_kept (take (length text - 1) text) (get_or text (length text - 1) 0) p) ∙ sym (ap before_padding (parted text some))
 
 -- each element of a list passes where all do
 pub passes_at : {X : Type 0} (p : X → Bool) (xs : List X) (i : ℕ) (d : X) → i < length xs → list_all p xs ≡ true → p (get_or xs i d) ≡ true
@@ -59,7 +64,8 @@ passes_at p (x ∷ xs) zero d h all = (both (p x) (list_all p xs) all).0
 passes_at p (x ∷ xs) (suc i) d h all = passes_at p xs i d (omega arith) ((both (p x) (list_all p xs) all).1)
 
 -- where all pass, all behind the first do
-pub every_other : {X Y : Type 0} (p : Y → Bool) (f : X → Y) (xs : List X) (x : X) (others : List X) → xs ≡ x ∷ others → list_all p (map f xs) ≡ true → list_all (λ (other : X). p (f other)) others ≡ true
+pub every_other : {X Y : Type 0} (p : Y → Bool) (f : X → Y) (xs : List X) (x : X) (others : List X) → xs ≡ x ∷ others
+    → list_all p (map f xs) ≡ true → list_all (λ (other : X). p (f other)) others ≡ true
 every_other p f xs x others e all = sym (list_all-map p f others) ∙ (both (p (f x)) (list_all p (map f others)) (rw e at all)).1
 
 -- a path is tested folder by folder

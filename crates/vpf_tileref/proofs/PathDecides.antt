@@ -18,7 +18,8 @@ letter b =
     Decides-like (is_letter b)
     (λ h. record { from_first = h.0.0.0; to_last = h.0.0.1; straight = h.0.1; other = h.1 })
     (λ l. (((l.from_first, l.to_last), l.straight), l.other))
-    (Decides-and _ _ (Decides-and _ _ (Decides-and _ _ (at_most 33 b) (at_most b 126)) (Decides-not _ (Decides-eqb b slash))) (Decides-not _ (Decides-eqb b backslash)))
+    (Decides-and _ _ (Decides-and _ _ (Decides-and _ _ (at_most 33 b) (at_most b 126)) (Decides-not _ (Decides-eqb b slash)))
+    (Decides-not _ (Decides-eqb b backslash)))
 
 -- a list has no elements
 none : {X : Type 0} (xs : List X) → Decides (length xs == 0) (xs ≡ [])

@@ -5,8 +5,8 @@ use Rattle.std.proofs.lemmas.Option.{slice_get-map}
 use Rattle.vpf_tileref.specs.Numbered.{numbered_path}
 
 -- what stands at a place is the path of the tile of the next number
-pub numbered_found : {S : Type 0} (text : S → List ℕ) (keys : List S) (paths : List (List ℕ)) (t place : ℕ) (key : S) → map text keys ≡ paths → 1 ≤ t → place ≡ t - 1 → Some key ≡ slice_get keys place
-    → Some (text key) ≡ numbered_path paths t
+pub numbered_found : {S : Type 0} (text : S → List ℕ) (keys : List S) (paths : List (List ℕ)) (t place : ℕ) (key : S)
+    → map text keys ≡ paths → 1 ≤ t → place ≡ t - 1 → Some key ≡ slice_get keys place → Some (text key) ≡ numbered_path paths t
 numbered_found text keys paths zero place key e low at is = absurd (omega arith)
 numbered_found {S} text keys paths (suc i) place key e low at is =
     let p : place ≡ i = omega arith in

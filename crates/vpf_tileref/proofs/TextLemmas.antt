@@ -30,7 +30,8 @@ cut_back first (other ∷ others) plain all =
 cut_path : (path : TilePath) → is_path path ≡ true → slice_split (λ b. b == slash) (path_text path) ≡ path
 cut_path [] h = absurd cc
 cut_path (first ∷ others) h =
-    let all = both (is_plain_name first) (list_all is_plain_name others) ((both (not (length (first ∷ others) == 0)) (list_all is_plain_name (first ∷ others)) h).1) in
+    let each = (both (not (length (first ∷ others) == 0)) (list_all is_plain_name (first ∷ others)) h).1 in
+    let all = both (is_plain_name first) (list_all is_plain_name others) each in
     cut_back first others all.0 all.1
 
 -- paths of one text are the same

@@ -1,4 +1,5 @@
 pub mod Paths
+pub mod Texts
 pub mod Numbered
 pub mod Bounds
 pub mod Errors

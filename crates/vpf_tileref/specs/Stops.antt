@@ -35,8 +35,8 @@ pub record IsBounded (grid : Grid) : Type 0 where
   pub short : All (λ text. length text ≤ longest_name) (path_texts grid)
 
 -- a call answered Ok where nothing ends it, and else what does first; of want of memory nothing is said
-abbrev pub Stops : {V : Type 0} → Result V TilerefError → Option TilerefStop → Type 0
-Stops (Ok v) first = first ≡ None
-Stops (Err (errors.Limit limit)) first = first ≡ Some (LimitStop limit)
-Stops (Err (errors.Finding f)) first = first ≡ Some (FindingStop (disagreement_of f))
-Stops (Err errors.NoMemory) first = Unit {0}
+abbrev pub StopsAt : {V : Type 0} → Result V TilerefError → Option TilerefStop → Type 0
+StopsAt (Ok v) first = first ≡ None
+StopsAt (Err (errors.Limit limit)) first = first ≡ Some (LimitStop limit)
+StopsAt (Err (errors.Finding f)) first = first ≡ Some (FindingStop (disagreement_of f))
+StopsAt (Err errors.NoMemory) first = Unit {0}

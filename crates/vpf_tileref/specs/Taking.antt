@@ -19,7 +19,8 @@ is_new texts path = is_path path && not (list_any (bytes_eq (path_text path)) te
 -- the line on the name in row k
 abbrev pub name_line : RoleAt → List (List ℕ) → ℕ → Row → Option Disagreement
 name_line column texts k row =
-    unless (is_new texts (row_path column row)) (in_table tileref_at 1 k column.name (CellSeen column.kind (cell_at row column.place)) (WordSeen words.Path))
+    unless (is_new texts (row_path column row))
+    (in_table tileref_at 1 k column.name (CellSeen column.kind (cell_at row column.place)) (WordSeen words.Path))
 
 -- the lines on row k, by the columns of ids and names
 abbrev pub next_tile_lines : (id name : RoleAt) → List (List ℕ) → ℕ → Row → Option Disagreement

@@ -51,7 +51,8 @@ is_taken paths k path = list_any (same_path path) (take (k - 1) paths)
 abbrev pub path_line : RoleAt → List TilePath → ℕ → Row → Option Disagreement
 path_line column paths k row =
     let path = row_path column row in
-    unless (is_path path && not (is_taken paths k path)) (in_table tileref_at 1 k column.name (CellSeen column.kind (cell_at row column.place)) (WordSeen words.Path))
+    unless (is_path path && not (is_taken paths k path))
+    (in_table tileref_at 1 k column.name (CellSeen column.kind (cell_at row column.place)) (WordSeen words.Path))
 
 -- the lines on row k, by the columns of ids and names and the paths of all rows
 abbrev pub tile_row_lines : (id name : RoleAt) → List TilePath → ℕ → Row → Option Disagreement

@@ -12,25 +12,27 @@ pub struct TilePaths {
 }
 
 impl Model for TilePaths {
-    ghost use Rattle.std.specs.Prelude.{◌≤◌, ℕ, List, map, length, string_bytes};
+    ghost use Rattle.std.specs.Prelude.{◌≤◌, ℕ, List, length};
     ghost use Rattle.vpf_tileref.specs.Numbered.{most_tiles};
+    ghost use Rattle.vpf_tileref.specs.Texts.{texts_in};
 
     ghost Value = { List (List ℕ) };
 
-    ghost view = { λ p. map (λ path. string_bytes path) p.paths.keys };
+    ghost view = { λ p. texts_in p.paths };
 
     ghost invariant = { λ p. length p.paths.keys ≤ most_tiles };
 }
 
 impl TilePaths {
-    ghost use Rattle.std.specs.Prelude.{◌≡◌, ◌≤◌, ◌==◌, length, map, string_bytes};
+    ghost use Rattle.std.specs.Prelude.{◌≡◌, ◌≤◌, ◌==◌, length};
     ghost use Rattle.std.specs.Option.{option_map};
     ghost use Rattle.vpf_tileref.specs.Numbered.{most_tiles, numbered_path};
+    ghost use Rattle.vpf_tileref.specs.Texts.{texts_in};
 
     /// These paths, of at most 65,535 tiles.
     pub(crate) fn new(paths: IndexSet<String>) -> TilePaths
         requires { length paths.keys ≤ most_tiles }
-        ensures { result ≡ map (λ path. string_bytes path) paths.keys }
+        ensures { result ≡ texts_in paths }
     {
         TilePaths { paths }
     }

@@ -1,7 +1,7 @@
 //! The table of tiles, read in the order in which it is looked at.
 
 ghost use Rattle.std.specs.Prelude.{◌≡◌, IfOk};
-ghost use Rattle.vpf_tileref.specs.Stops.{Stops, path_texts, tileref_stop};
+ghost use Rattle.vpf_tileref.specs.Stops.{StopsAt, path_texts, tileref_stop};
 
 use crate::bounds::{check_count, check_lengths};
 use crate::columns::TileColumns;
@@ -21,14 +21,11 @@ use vpf_table::TableView;
 /// on the column of names, and row by row on the id and the name. Last, the first path of more than 255 bytes, with a slash
 /// between any two folders, passes the bound of names. `NoMemory` comes for want of memory alone.
 #[tactic(auto, unfolding(crate::specs::Tileref::tileref_finding, crate::specs::Stops::tileref_stop))]
-pub fn read_tileref<'a>(
-    alloc: Global,
-    table: &TableView<'a>,
-) -> Result<TilePaths, TilerefError<'a>>
+pub fn read_tileref<'a>(alloc: Global, table: &TableView<'a>) -> Result<TilePaths, TilerefError<'a>>
     // The paths, in the order of the tiles.
     ensures paths { IfOk result (λ paths. paths ≡ path_texts table.now) }
     // What ends the reading is what does first.
-    ensures first { Stops result (tileref_stop table.now) }
+    ensures first { StopsAt result (tileref_stop table.now) }
 {
     check_count(table.len())?;
     let columns = TileColumns::place(alloc, table)?;

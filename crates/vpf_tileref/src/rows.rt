@@ -1,6 +1,6 @@
 //! The rows of the table of tiles, and the paths that they name.
 
-ghost use Rattle.std.specs.Prelude.{◌≡◌, ◌++◌, ◌∷◌, [], IfOk, OnOk, length, map, string_bytes};
+ghost use Rattle.std.specs.Prelude.{◌≡◌, ◌++◌, ◌∷◌, [], IfOk, OnOk, length, map};
 ghost use Rattle.std.specs.Bool.{OnTrue};
 ghost use Rattle.vpf_value.specs.Values.{view};
 ghost use Rattle.vpf_findings.specs.Findings.{CellSeen, WordSeen, disagreement_of};
@@ -9,6 +9,7 @@ ghost use Rattle.vpf_prims.specs.Columns.{IsWithin, in_table, role_at};
 ghost use Rattle.vpf_prims.specs.References.{cell_at};
 ghost use Rattle.vpf_tileref.specs.Paths.{path_of, path_text};
 ghost use Rattle.vpf_tileref.specs.Tileref.{row_path, text_bytes, tile_rows_finding, tileref_at};
+ghost use Rattle.vpf_tileref.specs.Texts.{texts_in};
 ghost use Rattle.vpf_tileref.specs.Taking.{is_new, next_tile_lines};
 
 use crate::columns::{TILEREF, TileColumns};
@@ -32,7 +33,7 @@ fn cell_of<'a>(row: &RowView<'_, 'a>, column: &RoleColumn<'_>) -> Cell<'a>
 }
 
 /// The bytes of a text; a cell of another kind has none.
-fn text_of<'a>(cell: Cell<'a>) -> &'a [u8]
+fn text_of(cell: Cell<'_>) -> &[u8]
     ensures { result.now ≡ text_bytes (view cell.entry) }
 {
     match cell {
@@ -42,14 +43,13 @@ fn text_of<'a>(cell: Cell<'a>) -> &'a [u8]
 }
 
 /// Puts the path that a cell names behind the others, unless one of them is the same. Tells whether it is a path that is put.
-fn put_path(
+fn insert_path(
     alloc: Global,
     paths: &mut IndexSet<String>,
     cell: Cell<'_>,
 ) -> Result<bool, AllocError>
-    ensures new { IfOk result (λ put. put ≡ is_new (map (λ path. string_bytes path) paths.old.keys) (path_of (text_bytes (view cell.entry)))) }
-    ensures put { IfOk result (λ put. OnTrue put (map (λ path. string_bytes path) paths.new.keys
-        ≡ map (λ path. string_bytes path) paths.old.keys ++ path_text (path_of (text_bytes (view cell.entry))) ∷ [])) }
+    ensures new { IfOk result (λ put. put ≡ is_new (texts_in paths.old) (path_of (text_bytes (view cell.entry)))) }
+    ensures put { IfOk result (λ put. OnTrue put (texts_in paths.new ≡ texts_in paths.old ++ path_text (path_of (text_bytes (view cell.entry))) ∷ [])) }
 {
     match path_in(alloc, text_of(cell))? {
         Some(path) => Ok(paths.insert(path)?),
@@ -75,13 +75,12 @@ fn take_row<'a>(
 ) -> Result<(), FindError<'a>>
     requires id { IsWithin (length row.now) (role_at columns.now.id) }
     requires name { IsWithin (length row.now) (role_at columns.now.name) }
-    ensures first { Tells result (next_tile_lines (role_at columns.now.id) (role_at columns.now.name) (map (λ path. string_bytes path) paths.old.keys) k row.now) }
-    ensures put { OnOk result (map (λ path. string_bytes path) paths.new.keys
-        ≡ map (λ path. string_bytes path) paths.old.keys ++ path_text (row_path (role_at columns.now.name) row.now) ∷ []) }
+    ensures first { Tells result (next_tile_lines (role_at columns.now.id) (role_at columns.now.name) (texts_in paths.old) k row.now) }
+    ensures put { OnOk result (texts_in paths.new ≡ texts_in paths.old ++ path_text (row_path (role_at columns.now.name) row.now) ∷ []) }
 {
     check_id(TILEREF, k, &columns.id, row)?;
     let cell = cell_of(row, &columns.name);
-    if put_path(alloc, paths, cell)? {
+    if insert_path(alloc, paths, cell)? {
         return Ok(());
     }
     Err(FindError::Finding(name_finding(k, &columns.name, cell)))
@@ -96,8 +95,7 @@ pub(crate) fn paths_of<'a>(
     requires id { IsWithin (length table.now.head.columns) (role_at columns.now.id) }
     requires name { IsWithin (length table.now.head.columns) (role_at columns.now.name) }
     ensures first { Tells result (tile_rows_finding (role_at columns.now.id) (role_at columns.now.name) table.now.rows) }
-    ensures paths { IfOk result (λ paths. map (λ path. string_bytes path) paths.keys
-        ≡ map path_text (map (row_path (role_at columns.now.name)) table.now.rows)) }
+    ensures paths { IfOk result (λ paths. texts_in paths ≡ map path_text (map (row_path (role_at columns.now.name)) table.now.rows)) }
 {
     // There are few enough rows to count them.
     let _rows = table.len();
