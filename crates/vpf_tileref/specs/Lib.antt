@@ -1,0 +1,9 @@
+pub mod Paths
+pub mod Texts
+pub mod Numbered
+pub mod Bounds
+pub mod Errors
+pub mod Tileref
+pub mod Taking
+pub mod Stops
+pub mod Laws
