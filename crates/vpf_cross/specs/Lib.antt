@@ -1,0 +1,7 @@
+pub mod Carrying
+pub mod HomeLines
+pub mod RoundLines
+pub mod CarriedLines
+pub mod Agreeing
+pub mod CrossFinding
+pub mod Example

@@ -1,0 +1,5 @@
+pub mod Libraries
+pub mod Following
+pub mod Sided
+pub mod SideLines
+pub mod FollowLines

@@ -1,0 +1,2 @@
+//! What follows a dart across the tiles of a coverage.
+#![tactic(auto)]
