@@ -3,3 +3,6 @@ pub mod Following
 pub mod Sided
 pub mod SideLines
 pub mod FollowLines
+pub mod DartLaws
+pub mod TileLaws
+pub mod Laws

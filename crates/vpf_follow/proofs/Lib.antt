@@ -1,0 +1,2 @@
+mod LawFacts
+mod LawSides
