@@ -1,0 +1,190 @@
+-- Where each dart is followed, and no two home darts by the same, each dart has a home copy.
+use Rattle.std.proofs.Common.{◌≡◌, ℕ, ◌+◌, ◌*◌, ◌^◌, ◌<◌, ◌≤◌, Bool, true, false, cond, eqb, ltb, ◌&&◌, nat_eq, refl, sym, ap, ◌∙◌, subst, inl, inr, arith, Option, Some, None, List, [], ◌∷◌, ◌++◌, length, map}
+use Rattle.std.specs.Option.{unwrap_or, option_eq}
+use Rattle.std.proofs.lemmas.Bool.{cases_Bool, and_parts, and_from, ltb-true, lt-ltb}
+use Rattle.vpf_darts.specs.Cycles.{IsCycle, first_of}
+use Rattle.vpf_darts.specs.Darts.{code, tile_in, flip}
+use Rattle.vpf_darts.specs.Laws.{DartLiesOnCycle}
+use Rattle.vpf_darts.specs.Maps.{DartMap, IsMap}
+use Rattle.vpf_prims.specs.Primitives.{Library}
+use Rattle.vpf_wing.specs.Links.{Beyond, DartLinks, links_of}
+use Rattle.vpf_follow.specs.Following.{is_home, is_named, face_name, follow_to, follow, follows_to, first_home, home_copy, library_map}
+use Rattle.vpf_follow.specs.Sided.{HasFollowers}
+use Rattle.vpf_follow.specs.Laws.{FollowersAreHome, IsHomeCopy, HomesExist}
+use Rattle.vpf_follow.specs.DartLaws.{both_ways, none_is_some, flip-flip, flip-apart, there, darts-stand, found-passes, found-some, only-passes}
+use Rattle.vpf_follow.specs.TileLaws.{options-same, same-options}
+use Rattle.vpf_follow.proofs.LawFollows.{home_has}
+
+named_home : (C : DartLinks) (node : ℕ) (face : Option Beyond) (z y : ℕ) → is_named C node face y ≡ true → is_home C y ≡ true
+named_home C node face z y h = (and_parts (is_home C y) _ h).0
+
+follow_to_home : (C : DartLinks) (tile edge node : ℕ) (face w v : Option Beyond) (y : ℕ) → follow_to C tile edge node face w v ≡ Some y → is_home C y ≡ true
+follow_to_home C tile edge node face None v y h = named_home C node face (code tile edge 0) y (only-passes (is_named C node face) (code tile edge 0) y h).0
+follow_to_home C tile edge node face (Some w) None y h = absurd (none_is_some y h)
+follow_to_home C tile edge node face (Some w) (Some v) y h = elim (cases_Bool (eqb w.tile v.tile)) [
+  | inl t ↦ (let h' = rw t at h in named_home C v.id face (code w.tile w.id 0) y (only-passes (is_named C v.id face) (code w.tile w.id 0) y h').0)
+  | inr f ↦ (let h' = rw f at h in absurd (none_is_some y h'))
+]
+
+-- what follows a dart is a home dart
+pub follow_home : FollowersAreHome
+unfolding follow
+follow_home C x y h = follow_to_home C (tile_in x) (C.wing x).id (C.node x).id (face_name C x) (C.wing x).out (C.node x).out y h
+
+pub home_self : (C : DartLinks) (x : ℕ) → is_home C x ≡ true → home_copy C x ≡ x
+unfolding home_copy
+home_self C x h = rw h refl
+
+-- a home dart goes on to the home dart that follows it
+record Moves (C : DartLinks) (x : ℕ) : Type 0 where
+  follows : follow C x ≡ Some ((library_map C).next x)
+  home : is_home C ((library_map C).next x) ≡ true
+
+moves : (C : DartLinks) → HasFollowers C → (x : ℕ) → is_home C x ≡ true → Moves C x
+moves C a x h =
+    let f : (e : ℕ) × (follow C x ≡ Some e) = a.follows x (home_has C x h) in
+    let e : (library_map C).next x ≡ f.0 = ap (λ b. cond b (unwrap_or (follow C x) x) x) h ∙ ap (λ o. unwrap_or o x) f.1 in
+    record { follows = f.1 ∙ ap (λ z. Some z) (sym e); home = ap (is_home C) e ∙ follow_home C x f.0 f.1 }
+
+stays : (C : DartLinks) (x : ℕ) → is_home C x ≡ false → (library_map C).next x ≡ x
+stays C x h = ap (λ b. cond b (unwrap_or (follow C x) x) x) h
+
+next_apart : (C : DartLinks) → HasFollowers C → (d e : ℕ) → (library_map C).next d ≡ (library_map C).next e → d ≡ e
+next_apart C a d e q = elim (cases_Bool (is_home C d)) [
+  | inl hd ↦ (elim (cases_Bool (is_home C e)) [
+    | inl he ↦ a.follow_apart d e hd he ((moves C a d hd).follows ∙ ap (λ z. Some z) q ∙ sym (moves C a e he).follows)
+    | inr ne ↦ absurd (both_ways (is_home C e) (ap (is_home C) (sym (stays C e ne)) ∙ ap (is_home C) (sym q) ∙ (moves C a d hd).home) ne)
+  ])
+  | inr nd ↦ (elim (cases_Bool (is_home C e)) [
+    | inl he ↦ absurd (both_ways (is_home C d) (ap (is_home C) (sym (stays C d nd)) ∙ ap (is_home C) q ∙ (moves C a e he).home) nd)
+    | inr ne ↦ sym (stays C d nd) ∙ q ∙ stays C e ne
+  ])
+]
+
+-- the numbers of darts are below this one
+abbrev bound : Library → ℕ
+bound L = 2 * (2 ^ 32 * (L.last + 1))
+
+number_below : (x last : ℕ) → tile_in x ≤ last → x < 2 * (2 ^ 32 * (last + 1))
+unfolding tile_in
+number_below x last h = omega arith
+
+dart_below : (L : Library) (x : ℕ) → (links_of L).has x ≡ true → x < bound L
+dart_below L x h = number_below x L.last (there L x h).to_last
+
+flip_below : (n x : ℕ) → x < 2 * n → flip x < 2 * n
+unfolding flip
+flip_below n x h = omega arith
+
+same_side : (a b n : ℕ) → (a < n → b < n) → (b < n → a < n) → ltb a n ≡ ltb b n
+same_side a b n f g = elim (cases_Bool (ltb a n)) [
+  | inl t ↦ t ∙ sym (lt-ltb b n (f (ltb-true a n t)))
+  | inr u ↦ (elim (cases_Bool (ltb b n)) [
+    | inl v ↦ absurd (both_ways (ltb a n) (lt-ltb a n (g (ltb-true b n v))) u)
+    | inr w ↦ u ∙ sym w
+  ])
+]
+
+-- the map of a library with the flips of its tiles: its next is a permutation of all numbers below the bound
+abbrev plain_map : Library → DartMap
+plain_map L = record { has = λ d. true; next = (library_map (links_of L)).next; flip = flip; live = λ d. ltb d (bound L) }
+
+next_below : (L : Library) → HasFollowers (links_of L) → (d : ℕ) → d < bound L → (library_map (links_of L)).next d < bound L
+next_below L a d lt = elim (cases_Bool (is_home (links_of L) d)) [
+  | inl h ↦ dart_below L ((library_map (links_of L)).next d) (home_has (links_of L) ((library_map (links_of L)).next d) (moves (links_of L) a d h).home)
+  | inr g ↦ subst (λ z. z < bound L) (sym (stays (links_of L) d g)) lt
+]
+
+next_from : (L : Library) (d : ℕ) → (library_map (links_of L)).next d < bound L → d < bound L
+next_from L d lt = elim (cases_Bool (is_home (links_of L) d)) [
+  | inl h ↦ dart_below L d (home_has (links_of L) d h)
+  | inr g ↦ subst (λ z. z < bound L) (stays (links_of L) d g) lt
+]
+
+is_plain_map : (L : Library) → HasFollowers (links_of L) → IsMap (plain_map L)
+is_plain_map L a =
+    let C : DartLinks = links_of L in
+    record {
+      next_apart = next_apart C a;
+      next_live = λ d. same_side ((library_map C).next d) d (bound L) (next_from L d) (next_below L a d);
+      next_dead = λ d h. elim (cases_Bool (is_home C d)) [
+        | inl t ↦ absurd (both_ways (ltb d (bound L)) (lt-ltb d (bound L) (dart_below L d (home_has C d t))) h)
+        | inr g ↦ stays C d g
+      ];
+      live_has = λ d h. refl;
+      flip_has = λ d h. refl;
+      flip_live = λ d h. same_side (flip d) d (bound L)
+          (λ lt. subst (λ z. z < bound L) (flip-flip d) (flip_below (2 ^ 32 * (L.last + 1)) (flip d) lt))
+          (flip_below (2 ^ 32 * (L.last + 1)) d);
+      flip_flip = λ d h. flip-flip d;
+      flip_apart = λ d h. flip-apart d;
+    }
+
+-- what comes before the first dart of a cycle
+rest_of : List ℕ → List ℕ
+rest_of [] = []
+rest_of (x ∷ xs) = xs
+
+before_last : (f : ℕ → ℕ) (y : ℕ) (xs zs : List ℕ) → map f xs ≡ zs ++ y ∷ [] → (z : ℕ) × (f z ≡ y)
+unfolding rest_of
+before_last f y [] [] h = let e : 0 ≡ length (y ∷ []) = ap length h in absurd (omega arith)
+before_last f y [] (z ∷ zs) h = let e : 0 ≡ length (z ∷ (zs ++ y ∷ [])) = ap length h in absurd (omega arith)
+before_last f y (x ∷ xs) [] h = (x, ap first_of h)
+before_last f y (x ∷ xs) (z ∷ zs) h = before_last f y xs zs (ap rest_of h)
+
+before_first : (f : ℕ → ℕ) (y : ℕ) (cycle : List ℕ) → IsCycle f cycle → first_of cycle ≡ y → (z : ℕ) × (f z ≡ y)
+before_first f y [] h e = absurd h
+before_first f y (x ∷ xs) h e = let r : (z : ℕ) × (f z ≡ x) = before_last f x (x ∷ xs) xs h in (r.0, r.1 ∙ e)
+
+-- each home dart follows one
+comes_after : DartLiesOnCycle → (L : Library) → HasFollowers (links_of L) → (y : ℕ) → is_home (links_of L) y ≡ true
+    → (z : ℕ) × (is_home (links_of L) z ≡ true) × (follow (links_of L) z ≡ Some y)
+comes_after law L a y hy =
+    let C : DartLinks = links_of L in
+    let lt : y < bound L = dart_below L y (home_has C y hy) in
+    let cycle : (cycle : List ℕ) × IsCycle (library_map (links_of L)).next cycle × (first_of cycle ≡ y) =
+    law (plain_map L) (bound L) y (is_plain_map L a) (λ d h. ltb-true d (bound L) h) (lt-ltb y (bound L) lt) in
+    let z : (z : ℕ) × ((library_map (links_of L)).next z ≡ y) = before_first (library_map C).next y cycle.0 cycle.1 cycle.2 in
+    let hz : is_home (links_of L) z.0 ≡ true = elim (cases_Bool (is_home (links_of L) z.0)) [
+      | inl h ↦ h
+      | inr g ↦ absurd (both_ways (is_home C z.0) (ap (is_home C) (sym (stays C z.0 g) ∙ z.1) ∙ hy) g)
+    ] in
+    (z.0, hz, (moves C a z.0 hz).follows ∙ ap (λ o. Some o) z.1)
+
+-- the first home dart that is followed by y
+record IsFirst (C : DartLinks) (y : ℕ) : Type 0 where
+  one : ℕ
+  found : first_home C (Some y) ≡ Some one
+  home : is_home C one ≡ true
+  follows : follow C one ≡ Some y
+
+first_there : (L : Library) (z y : ℕ) → is_home (links_of L) z ≡ true → follow (links_of L) z ≡ Some y → IsFirst (links_of L) y
+unfolding first_home
+first_there L z y hz f =
+    let C : DartLinks = links_of L in
+    let test : ℕ → Bool = follows_to (links_of L) (Some y) in
+    let w : (w : ℕ) × _ =
+    found-some test z (and_from (is_home C z) (option_eq nat_eq (follow C z) (Some y)) hz (same-options _ _ f)) C.darts (darts-stand L z (home_has C z hz)) in
+    let p = found-passes test C.darts w.0 w.1 in
+    let q = and_parts (is_home C w.0) (option_eq nat_eq (follow C w.0) (Some y)) p.0 in
+    record { one = w.0; found = w.1; home = q.0; follows = options-same _ _ q.1 }
+
+home_first : (C : DartLinks) (x y : ℕ) → is_home C x ≡ false → follow C x ≡ Some y → (f : IsFirst C y) → home_copy C x ≡ f.one
+unfolding home_copy
+home_first C x y away e f =
+    ap (λ b. cond b x (unwrap_or (first_home C (follow C x)) x)) away
+    ∙ ap (λ o. unwrap_or (first_home C o) x) e
+    ∙ ap (λ o. unwrap_or o x) f.found
+
+pub homes_exist : DartLiesOnCycle → HomesExist
+homes_exist law L a x hx =
+    let C : DartLinks = links_of L in
+    elim (cases_Bool (is_home C x)) [
+      | inl h ↦ (let e : home_copy C x ≡ x = home_self C x h in record { home = ap (is_home C) e ∙ h; follows = ap (follow C) e })
+      | inr away ↦ (
+          let y : (y : ℕ) × (follow (links_of L) x ≡ Some y) = a.follows x hx in
+          let z = comes_after law L a y.0 (follow_home C x y.0 y.1) in
+          let f : IsFirst (links_of L) y.0 = first_there L z.0 y.0 z.1 z.2 in
+          let e : home_copy (links_of L) x ≡ f.one = home_first C x y.0 away y.1 f in
+          record { home = ap (is_home C) e ∙ f.home; follows = ap (follow C) e ∙ f.follows ∙ sym y.1 })
+    ]
