@@ -1,1 +1,4 @@
 mod Example
+mod LawMap
+mod LawCells
+mod LawHomes

@@ -5,3 +5,4 @@ pub mod CarriedLines
 pub mod Agreeing
 pub mod CrossFinding
 pub mod Example
+pub mod Laws

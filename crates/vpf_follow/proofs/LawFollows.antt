@@ -17,10 +17,8 @@ use Rattle.vpf_follow.specs.FollowLines.{at_wing_of, earlier_home, follow_line, 
 use Rattle.vpf_follow.specs.Sided.{HasFollowers}
 use Rattle.vpf_follow.specs.Laws.{FollowersDecide}
 use Rattle.vpf_follow.specs.DartLaws.{none_is_some, same_some, code-minus, darts-stand, found-passes, found-some}
+use Rattle.vpf_follow.specs.FollowLaws.{home_has}
 use Rattle.vpf_follow.specs.TileLaws.{TileOfDart, dart-tile, DartOfEdge, edge-dart, unless-none, unless-true, darts-none, darts-silent, options-same, same-options}
-
-pub home_has : (C : DartLinks) (d : ℕ) → is_home C d ≡ true → C.has d ≡ true
-home_has C d h = (and_parts (C.has d) (not (is_far_face (C.face d))) h).0
 
 some_or_none : (o : Option ℕ) → ((x : ℕ) × (o ≡ Some x)) ⊎ (o ≡ None)
 some_or_none None = inr refl

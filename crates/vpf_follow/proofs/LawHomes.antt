@@ -12,54 +12,8 @@ use Rattle.vpf_follow.specs.Following.{is_home, is_named, face_name, follow_to, 
 use Rattle.vpf_follow.specs.Sided.{HasFollowers}
 use Rattle.vpf_follow.specs.Laws.{FollowersAreHome, IsHomeCopy, HomesExist}
 use Rattle.vpf_follow.specs.DartLaws.{both_ways, none_is_some, flip-flip, flip-apart, there, darts-stand, found-passes, found-some, only-passes}
+use Rattle.vpf_follow.specs.FollowLaws.{home_has, follow_home, home_self, moves, stays, next_apart}
 use Rattle.vpf_follow.specs.TileLaws.{options-same, same-options}
-use Rattle.vpf_follow.proofs.LawFollows.{home_has}
-
-named_home : (C : DartLinks) (node : ℕ) (face : Option Beyond) (z y : ℕ) → is_named C node face y ≡ true → is_home C y ≡ true
-named_home C node face z y h = (and_parts (is_home C y) _ h).0
-
-follow_to_home : (C : DartLinks) (tile edge node : ℕ) (face w v : Option Beyond) (y : ℕ) → follow_to C tile edge node face w v ≡ Some y → is_home C y ≡ true
-follow_to_home C tile edge node face None v y h = named_home C node face (code tile edge 0) y (only-passes (is_named C node face) (code tile edge 0) y h).0
-follow_to_home C tile edge node face (Some w) None y h = absurd (none_is_some y h)
-follow_to_home C tile edge node face (Some w) (Some v) y h = elim (cases_Bool (eqb w.tile v.tile)) [
-  | inl t ↦ (let h' = rw t at h in named_home C v.id face (code w.tile w.id 0) y (only-passes (is_named C v.id face) (code w.tile w.id 0) y h').0)
-  | inr f ↦ (let h' = rw f at h in absurd (none_is_some y h'))
-]
-
--- what follows a dart is a home dart
-pub follow_home : FollowersAreHome
-unfolding follow
-follow_home C x y h = follow_to_home C (tile_in x) (C.wing x).id (C.node x).id (face_name C x) (C.wing x).out (C.node x).out y h
-
-pub home_self : (C : DartLinks) (x : ℕ) → is_home C x ≡ true → home_copy C x ≡ x
-unfolding home_copy
-home_self C x h = rw h refl
-
--- a home dart goes on to the home dart that follows it
-record Moves (C : DartLinks) (x : ℕ) : Type 0 where
-  follows : follow C x ≡ Some ((library_map C).next x)
-  home : is_home C ((library_map C).next x) ≡ true
-
-moves : (C : DartLinks) → HasFollowers C → (x : ℕ) → is_home C x ≡ true → Moves C x
-moves C a x h =
-    let f : (e : ℕ) × (follow C x ≡ Some e) = a.follows x (home_has C x h) in
-    let e : (library_map C).next x ≡ f.0 = ap (λ b. cond b (unwrap_or (follow C x) x) x) h ∙ ap (λ o. unwrap_or o x) f.1 in
-    record { follows = f.1 ∙ ap (λ z. Some z) (sym e); home = ap (is_home C) e ∙ follow_home C x f.0 f.1 }
-
-stays : (C : DartLinks) (x : ℕ) → is_home C x ≡ false → (library_map C).next x ≡ x
-stays C x h = ap (λ b. cond b (unwrap_or (follow C x) x) x) h
-
-next_apart : (C : DartLinks) → HasFollowers C → (d e : ℕ) → (library_map C).next d ≡ (library_map C).next e → d ≡ e
-next_apart C a d e q = elim (cases_Bool (is_home C d)) [
-  | inl hd ↦ (elim (cases_Bool (is_home C e)) [
-    | inl he ↦ a.follow_apart d e hd he ((moves C a d hd).follows ∙ ap (λ z. Some z) q ∙ sym (moves C a e he).follows)
-    | inr ne ↦ absurd (both_ways (is_home C e) (ap (is_home C) (sym (stays C e ne)) ∙ ap (is_home C) (sym q) ∙ (moves C a d hd).home) ne)
-  ])
-  | inr nd ↦ (elim (cases_Bool (is_home C e)) [
-    | inl he ↦ absurd (both_ways (is_home C d) (ap (is_home C) (sym (stays C d nd)) ∙ ap (is_home C) q ∙ (moves C a e he).home) nd)
-    | inr ne ↦ sym (stays C d nd) ∙ q ∙ stays C e ne
-  ])
-]
 
 -- the numbers of darts are below this one
 abbrev bound : Library → ℕ

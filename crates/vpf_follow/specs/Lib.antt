@@ -5,4 +5,5 @@ pub mod SideLines
 pub mod FollowLines
 pub mod DartLaws
 pub mod TileLaws
+pub mod FollowLaws
 pub mod Laws
