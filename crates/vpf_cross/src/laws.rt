@@ -1,7 +1,7 @@
 //! What is so of every tiled library.
 
 ghost use Rattle.vpf_cross.specs.Example.{TilesAreFound};
-ghost use Rattle.vpf_cross.specs.Laws.{AgreeingHasMap};
+ghost use Rattle.vpf_cross.specs.Laws.{AgreeingHasMap, CarriedDecides, HomesDecide, InhabitedDecides};
 
 use vpf_follow::laws::homes_exist;
 
@@ -17,3 +17,20 @@ pub fn agreeing_has_map()
 {
     homes_exist();
 }
+
+/// Where each dart has a home copy, there is no finding on home copies exactly where each outside dart is of one edge with its own.
+pub fn homes_decide()
+    ensures { HomesDecide }
+{
+    homes_exist();
+}
+
+/// There is no finding on carried cells exactly where a node carries the same wherever it is named, and so does the universe.
+pub fn carried_decides()
+    ensures { CarriedDecides }
+{}
+
+/// There is no finding on entity nodes exactly where each lies in a face of its tile.
+pub fn inhabited_decides()
+    ensures { InhabitedDecides }
+{}

@@ -11,20 +11,9 @@ use Rattle.vpf_wing.specs.Links.{Beyond, DartLinks, links_of}
 use Rattle.vpf_follow.specs.Following.{is_home, is_named, face_name, follow_to, follow, follows_to, first_home, home_copy, library_map}
 use Rattle.vpf_follow.specs.Sided.{HasFollowers}
 use Rattle.vpf_follow.specs.Laws.{FollowersAreHome, IsHomeCopy, HomesExist}
-use Rattle.vpf_follow.specs.DartLaws.{both_ways, none_is_some, flip-flip, flip-apart, there, darts-stand, found-passes, found-some, only-passes}
+use Rattle.vpf_follow.specs.DartLaws.{both_ways, none_is_some, flip-flip, flip-apart, dart_bound, darts-below, darts-stand, found-passes, found-some, only-passes}
 use Rattle.vpf_follow.specs.FollowLaws.{home_has, follow_home, home_self, moves, stays, next_apart}
 use Rattle.vpf_follow.specs.TileLaws.{options-same, same-options}
-
--- the numbers of darts are below this one
-abbrev bound : Library → ℕ
-bound L = 2 * (2 ^ 32 * (L.last + 1))
-
-number_below : (x last : ℕ) → tile_in x ≤ last → x < 2 * (2 ^ 32 * (last + 1))
-unfolding tile_in
-number_below x last h = omega arith
-
-dart_below : (L : Library) (x : ℕ) → (links_of L).has x ≡ true → x < bound L
-dart_below L x h = number_below x L.last (there L x h).to_last
 
 flip_below : (n x : ℕ) → x < 2 * n → flip x < 2 * n
 unfolding flip
@@ -41,18 +30,18 @@ same_side a b n f g = elim (cases_Bool (ltb a n)) [
 
 -- the map of a library with the flips of its tiles: its next is a permutation of all numbers below the bound
 abbrev plain_map : Library → DartMap
-plain_map L = record { has = λ d. true; next = (library_map (links_of L)).next; flip = flip; live = λ d. ltb d (bound L) }
+plain_map L = record { has = λ d. true; next = (library_map (links_of L)).next; flip = flip; live = λ d. ltb d (dart_bound L) }
 
-next_below : (L : Library) → HasFollowers (links_of L) → (d : ℕ) → d < bound L → (library_map (links_of L)).next d < bound L
+next_below : (L : Library) → HasFollowers (links_of L) → (d : ℕ) → d < dart_bound L → (library_map (links_of L)).next d < dart_bound L
 next_below L a d lt = elim (cases_Bool (is_home (links_of L) d)) [
-  | inl h ↦ dart_below L ((library_map (links_of L)).next d) (home_has (links_of L) ((library_map (links_of L)).next d) (moves (links_of L) a d h).home)
-  | inr g ↦ subst (λ z. z < bound L) (sym (stays (links_of L) d g)) lt
+  | inl h ↦ darts-below L ((library_map (links_of L)).next d) (home_has (links_of L) ((library_map (links_of L)).next d) (moves (links_of L) a d h).home)
+  | inr g ↦ subst (λ z. z < dart_bound L) (sym (stays (links_of L) d g)) lt
 ]
 
-next_from : (L : Library) (d : ℕ) → (library_map (links_of L)).next d < bound L → d < bound L
+next_from : (L : Library) (d : ℕ) → (library_map (links_of L)).next d < dart_bound L → d < dart_bound L
 next_from L d lt = elim (cases_Bool (is_home (links_of L) d)) [
-  | inl h ↦ dart_below L d (home_has (links_of L) d h)
-  | inr g ↦ subst (λ z. z < bound L) (stays (links_of L) d g) lt
+  | inl h ↦ darts-below L d (home_has (links_of L) d h)
+  | inr g ↦ subst (λ z. z < dart_bound L) (stays (links_of L) d g) lt
 ]
 
 is_plain_map : (L : Library) → HasFollowers (links_of L) → IsMap (plain_map L)
@@ -60,15 +49,15 @@ is_plain_map L a =
     let C : DartLinks = links_of L in
     record {
       next_apart = next_apart C a;
-      next_live = λ d. same_side ((library_map C).next d) d (bound L) (next_from L d) (next_below L a d);
+      next_live = λ d. same_side ((library_map C).next d) d (dart_bound L) (next_from L d) (next_below L a d);
       next_dead = λ d h. elim (cases_Bool (is_home C d)) [
-        | inl t ↦ absurd (both_ways (ltb d (bound L)) (lt-ltb d (bound L) (dart_below L d (home_has C d t))) h)
+        | inl t ↦ absurd (both_ways (ltb d (dart_bound L)) (lt-ltb d (dart_bound L) (darts-below L d (home_has C d t))) h)
         | inr g ↦ stays C d g
       ];
       live_has = λ d h. refl;
       flip_has = λ d h. refl;
-      flip_live = λ d h. same_side (flip d) d (bound L)
-          (λ lt. subst (λ z. z < bound L) (flip-flip d) (flip_below (2 ^ 32 * (L.last + 1)) (flip d) lt))
+      flip_live = λ d h. same_side (flip d) d (dart_bound L)
+          (λ lt. subst (λ z. z < dart_bound L) (flip-flip d) (flip_below (2 ^ 32 * (L.last + 1)) (flip d) lt))
           (flip_below (2 ^ 32 * (L.last + 1)) d);
       flip_flip = λ d h. flip-flip d;
       flip_apart = λ d h. flip-apart d;
@@ -95,9 +84,9 @@ comes_after : DartLiesOnCycle → (L : Library) → HasFollowers (links_of L) �
     → (z : ℕ) × (is_home (links_of L) z ≡ true) × (follow (links_of L) z ≡ Some y)
 comes_after law L a y hy =
     let C : DartLinks = links_of L in
-    let lt : y < bound L = dart_below L y (home_has C y hy) in
+    let lt : y < dart_bound L = darts-below L y (home_has C y hy) in
     let cycle : (cycle : List ℕ) × IsCycle (library_map (links_of L)).next cycle × (first_of cycle ≡ y) =
-    law (plain_map L) (bound L) y (is_plain_map L a) (λ d h. ltb-true d (bound L) h) (lt-ltb y (bound L) lt) in
+    law (plain_map L) (dart_bound L) y (is_plain_map L a) (λ d h. ltb-true d (dart_bound L) h) (lt-ltb y (dart_bound L) lt) in
     let z : (z : ℕ) × ((library_map (links_of L)).next z ≡ y) = before_first (library_map C).next y cycle.0 cycle.1 cycle.2 in
     let hz : is_home (links_of L) z.0 ≡ true = elim (cases_Bool (is_home (links_of L) z.0)) [
       | inl h ↦ h

@@ -113,6 +113,17 @@ flip-has L x h =
       to_last = subst (λ t. t ≤ L.last) (sym (flip-tile x)) i.to_last;
     })
 
+-- the numbers of darts are below this one
+abbrev pub dart_bound : Library → ℕ
+dart_bound L = 2 * (2 ^ 32 * (L.last + 1))
+
+number_below : (x last : ℕ) → tile_in x ≤ last → x < 2 * (2 ^ 32 * (last + 1))
+unfolding tile_in
+number_below x last h = omega arith
+
+pub darts-below : (L : Library) (x : ℕ) → (links_of L).has x ≡ true → x < dart_bound L
+darts-below L x h = number_below x L.last (there L x h).to_last
+
 -- x stands in the list
 abbrev pub stands : ℕ → List ℕ → Bool
 stands x [] = false
