@@ -1,13 +1,12 @@
 -- There is no finding on carried cells exactly where shared nodes and the universe carry the same everywhere.
-use Rattle.std.proofs.Common.{◌≡◌, ℕ, zero, suc, ◌+◌, ◌≤◌, ◌<◌, Bool, true, false, not, refl, sym, ap, ◌∙◌, subst, inl, inr, ◌⊎◌, arith, Option, Some, None, List, [], length}
+use Rattle.std.proofs.Common.{◌≡◌, ℕ, zero, suc, ◌+◌, ◌≤◌, Bool, true, not, refl, sym, ap, ◌∙◌, subst, inl, inr, ◌⊎◌, arith, Option, Some, None, List, [], length}
 use Rattle.std.specs.Option.{option_map, unwrap_or}
 use Rattle.std.proofs.lemmas.Bool.{cases_Bool}
 use Rattle.std.proofs.lemmas.List.{length-map}
 use Rattle.vpf_head.specs.Head.{Col}
-use Rattle.vpf_value.specs.Values.{Value}
 use Rattle.vpf_darts.specs.Darts.{code, tile_in, edge_in, sign_of}
 use Rattle.vpf_findings.specs.Findings.{Disagreement}
-use Rattle.vpf_findings.specs.Firsts.{◌or◌, unless, first_over}
+use Rattle.vpf_findings.specs.Firsts.{unless}
 use Rattle.vpf_findings.specs.FirstLaws.{or-none_both, option_map-none, over_none}
 use Rattle.vpf_prims.specs.Columns.{in_table}
 use Rattle.vpf_prims.specs.Lists.{kth}
@@ -16,15 +15,15 @@ use Rattle.vpf_prims.specs.Reading.{primitives_of, node_in_row, face_in_row}
 use Rattle.vpf_prims.specs.Roles.{face_roles, node_roles}
 use Rattle.vpf_prims.specs.Suiting.{carried_columns}
 use Rattle.vpf_prims.specs.Tables.{TileTables, fac_at, at_citation}
-use Rattle.vpf_prims.specs.Coverages.{CoverageTables, tile_at, last_tile}
-use Rattle.vpf_wing.specs.Links.{Beyond, Link, links_of, edge_of_dart, is_minus, node_by}
+use Rattle.vpf_prims.specs.Coverages.{CoverageTables, tile_at}
+use Rattle.vpf_wing.specs.Links.{Beyond, links_of, edge_of_dart, is_minus, node_by}
 use Rattle.vpf_follow.specs.Libraries.{primitives_in, library_of, in_tiles, over_edges}
 use Rattle.vpf_follow.specs.SideLines.{node_citation}
 use Rattle.vpf_follow.specs.Laws.{HasFewEdges}
-use Rattle.vpf_follow.specs.DartLaws.{none_is_some, same_some, code-minus, both_ways}
-use Rattle.vpf_follow.specs.TileLaws.{TileOfDart, dart-tile, DartOfEdge, edge-dart, tile-below, both_lines, or-silent, tiles-none, tiles-silent, edges-none, edges-silent, darts-none, darts-silent}
+use Rattle.vpf_follow.specs.DartLaws.{none_is_some, same_some, code-minus}
+use Rattle.vpf_follow.specs.TileLaws.{TileOfDart, dart-tile, DartOfEdge, edge-dart, tile-below, both_lines, or-silent, tiles-none, tiles-silent, darts-none, darts-silent}
 use Rattle.vpf_cross.specs.Carrying.{Difference, first_difference}
-use Rattle.vpf_cross.specs.CarriedLines.{node_carried, universe_carried, first_passing, first_tile, shared_node_line, head_node_line, nodes_lines, universe_line, carried_finding}
+use Rattle.vpf_cross.specs.CarriedLines.{node_carried, universe_carried, first_passing, first_tile, shared_node_line, head_node_line, universe_line, carried_finding}
 use Rattle.vpf_cross.specs.Agreeing.{AreCarried}
 use Rattle.vpf_cross.specs.Laws.{AreWhole, AreNumbered, CarriedDecides}
 use Rattle.vpf_cross.proofs.LawCells.{none_differ, none_for_same, carries, row_filled, row_said}

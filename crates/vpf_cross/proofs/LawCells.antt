@@ -1,6 +1,5 @@
 -- Two rows of cells, one for each column, differ in a column exactly where they aren't the same; and what rows carry has so many cells.
-use Rattle.std.proofs.Common.{◌≡◌, ℕ, zero, suc, ◌≤◌, Bool, true, false, not, cond, refl, sym, ap, ◌∙◌, subst, inl, inr, arith, Option, Some, None, List, [], ◌∷◌, length, map, get_or}
-use Rattle.std.specs.Prelude.{filter}
+use Rattle.std.proofs.Common.{◌≡◌, ℕ, zero, suc, ◌≤◌, refl, ap, ◌∙◌, subst, inl, inr, arith, None, List, [], ◌∷◌, length, map}
 use Rattle.std.specs.List.{AllByRecursion}
 use Rattle.std.proofs.Math.ListN.{get_or-map}
 use Rattle.std.proofs.lemmas.Bool.{cases_Bool}
@@ -15,7 +14,6 @@ use Rattle.vpf_prims.specs.Lists.{kth}
 use Rattle.vpf_prims.specs.Roles.{Role}
 use Rattle.vpf_prims.specs.Reading.{carried_in, has_role, rows_said}
 use Rattle.vpf_prims.specs.Suiting.{carried_columns}
-use Rattle.vpf_prims.specs.Laws.{IsFilled}
 use Rattle.vpf_theme.specs.Ordering.{same_value}
 use Rattle.vpf_theme.specs.KeyLaws.{Decides-same_value, same_yes}
 use Rattle.vpf_follow.specs.TileLaws.{unless-none, unless-true, or-silent}

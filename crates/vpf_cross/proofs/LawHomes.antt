@@ -1,5 +1,5 @@
 -- There is no finding on home copies exactly where each outside dart is of one edge with its own.
-use Rattle.std.proofs.Common.{◌≡◌, ℕ, ◌≤◌, Bool, true, false, cond, eqb, nat_eq, refl, sym, ap, ◌∙◌, subst, inl, inr, Option, Some, None, List, [], length}
+use Rattle.std.proofs.Common.{◌≡◌, ℕ, ◌≤◌, Bool, true, false, cond, eqb, nat_eq, sym, ap, ◌∙◌, subst, inl, inr, Some, None, List, [], length}
 use Rattle.std.specs.Option.{option_eq, option_map}
 use Rattle.std.proofs.lemmas.Bool.{cases_Bool, eqb-true, eq-eqb}
 use Rattle.std.proofs.lemmas.List.{length-map}
@@ -11,7 +11,7 @@ use Rattle.vpf_findings.specs.FirstLaws.{or-none_both, option_map-none}
 use Rattle.vpf_prims.specs.Columns.{in_table}
 use Rattle.vpf_prims.specs.Lists.{kth}
 use Rattle.vpf_prims.specs.Primitives.{EdgePrimitive, absent_edge}
-use Rattle.vpf_prims.specs.Reading.{primitives_of, edge_in_row, carried_in}
+use Rattle.vpf_prims.specs.Reading.{primitives_of, edge_in_row}
 use Rattle.vpf_prims.specs.Roles.{edge_roles}
 use Rattle.vpf_prims.specs.Suiting.{carried_columns}
 use Rattle.vpf_prims.specs.Tables.{TileTables, edg_at}
@@ -21,7 +21,7 @@ use Rattle.vpf_follow.specs.Libraries.{library_of}
 use Rattle.vpf_follow.specs.Following.{is_outside, home_copy}
 use Rattle.vpf_follow.specs.Sided.{HasFollowers}
 use Rattle.vpf_follow.specs.Laws.{HomesExist}
-use Rattle.vpf_follow.specs.DartLaws.{code-minus, code-sign, sign-small, both_ways}
+use Rattle.vpf_follow.specs.DartLaws.{code-minus, code-sign, sign-small}
 use Rattle.vpf_follow.specs.TileLaws.{TileOfDart, dart-tile, DartOfEdge, edge-dart, unless-none, unless-true, or-silent, darts-none, darts-silent, options-same, same-options}
 use Rattle.vpf_follow.specs.FollowLaws.{home_has, outside_has}
 use Rattle.vpf_cross.specs.Carrying.{Difference, first_difference}

@@ -1,5 +1,5 @@
 -- There is no finding on entity nodes exactly where each lies in a face of its tile.
-use Rattle.std.proofs.Common.{◌≡◌, ◌≢◌, ℕ, zero, suc, ◌+◌, ◌≤◌, ◌<◌, Bool, true, not, eqb, refl, sym, ap, ◌∙◌, subst, arith, Option, Some, None, List, [], length}
+use Rattle.std.proofs.Common.{◌≡◌, ◌≢◌, ℕ, zero, suc, ◌+◌, not, eqb, refl, sym, ap, ◌∙◌, subst, arith, Option, Some, None, List, [], length}
 use Rattle.std.specs.Option.{option_map, unwrap_or}
 use Rattle.std.proofs.lemmas.Bool.{eqb-false, ne_eqb, not-true, not_from_false}
 use Rattle.std.proofs.lemmas.List.{length-map}
@@ -11,7 +11,7 @@ use Rattle.vpf_prims.specs.Primitives.{EntityPrimitive, absent_entity, entities_
 use Rattle.vpf_prims.specs.Reading.{primitives_of, rows_said, entity_in_row}
 use Rattle.vpf_prims.specs.References.{id_of}
 use Rattle.vpf_prims.specs.Tables.{TileTables}
-use Rattle.vpf_prims.specs.Coverages.{CoverageTables, tile_at}
+use Rattle.vpf_prims.specs.Coverages.{tile_at}
 use Rattle.vpf_follow.specs.Libraries.{primitives_in, library_of}
 use Rattle.vpf_follow.specs.TileLaws.{unless-none, unless-true, tiles-none, tiles-silent}
 use Rattle.vpf_cross.specs.CarriedLines.{universe_entity_line, inhabited_finding_in, inhabited_finding}

@@ -1,5 +1,5 @@
 -- A tiled library that agrees is a combinatorial map.
-use Rattle.std.proofs.Common.{◌≡◌, ℕ, true, cond, refl, sym, ap, ◌∙◌, inl, inr}
+use Rattle.std.proofs.Common.{◌≡◌, ℕ, true, cond, sym, ap, ◌∙◌, inl, inr}
 use Rattle.std.proofs.lemmas.Bool.{cases_Bool}
 use Rattle.vpf_darts.specs.Darts.{sign_in, flip}
 use Rattle.vpf_darts.specs.Maps.{IsMap}

@@ -1,7 +1,6 @@
 -- The darts that follow a dart round its node across the tiles: they come to a copy of the dart's own edge in its tile.
-use Rattle.std.proofs.Common.{◌≡◌, ℕ, zero, suc, ◌+◌, ◌<◌, ◌≤◌, Bool, true, false, cond, refl, sym, ap, ◌∙◌, subst, inl, inr, arith, Option, Some, None, length}
+use Rattle.std.proofs.Common.{◌≡◌, ℕ, zero, suc, ◌<◌, ◌≤◌, true, false, cond, sym, ap, ◌∙◌, inl, inr, Some, length}
 use Rattle.std.proofs.lemmas.Bool.{cases_Bool}
-use Rattle.vpf_darts.specs.Cycles.{IsCycle, first_of}
 use Rattle.vpf_darts.specs.Darts.{tile_in, flip}
 use Rattle.vpf_darts.specs.Laws.{DartLiesOnCycle}
 use Rattle.vpf_darts.specs.Maps.{DartMap, IsMap, turn}
@@ -14,7 +13,7 @@ use Rattle.vpf_follow.specs.DartLaws.{same_some, both_ways, dart_bound, darts-be
 use Rattle.vpf_follow.specs.FollowLaws.{home_has, home_self, away_outside, moves, stays}
 use Rattle.vpf_cross.specs.Agreeing.{HasHomes, IsCopy}
 use Rattle.vpf_cross.proofs.LawMap.{flip_is, is_map}
-use Rattle.vpf_cross.proofs.LawWalks.{after, after_add, FirstStep, first_step, steps_below, StepBefore, round}
+use Rattle.vpf_cross.proofs.LawWalks.{after, FirstStep, first_step, steps_below, StepBefore, round}
 
 -- the next round the node, in the map of the library
 abbrev pub turning : Library → ℕ → ℕ

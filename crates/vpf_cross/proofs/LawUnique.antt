@@ -1,13 +1,12 @@
 -- A dart has no two copies in one tile.
-use Rattle.std.proofs.Common.{◌≡◌, ℕ, ◌<◌, ◌≤◌, ◌^◌, Bool, true, false, not, cond, eqb, ◌&&◌, refl, sym, ap, ◌∙◌, subst, inl, inr, ◌⊎◌, arith, Option, Some, None}
+use Rattle.std.proofs.Common.{◌≡◌, ℕ, ◌<◌, ◌^◌, Bool, true, false, not, eqb, refl, sym, ap, ◌∙◌, subst, inl, inr, ◌⊎◌, arith, Option, Some, None}
 use Rattle.std.specs.Prelude.{is_some}
-use Rattle.std.proofs.lemmas.Bool.{cases_Bool, and_parts, and_from}
+use Rattle.std.proofs.lemmas.Bool.{cases_Bool, and_parts}
 use Rattle.vpf_darts.specs.Darts.{code, tile_in, edge_in, flip}
-use Rattle.vpf_prims.specs.References.{id_of}
 use Rattle.vpf_prims.specs.Primitives.{Library, edge_count, face_count}
 use Rattle.vpf_prims.specs.Numbering.{IsRowOf}
 use Rattle.vpf_prims.specs.Coverages.{CoverageTables}
-use Rattle.vpf_wing.specs.Links.{Beyond, Link, DartLinks, links_of, edge_of_dart, is_minus, wing_by, face_by}
+use Rattle.vpf_wing.specs.Links.{Beyond, Link, DartLinks, edge_of_dart, is_minus, wing_by, face_by}
 use Rattle.vpf_follow.specs.Libraries.{library_of}
 use Rattle.vpf_follow.specs.Following.{beyond_tile, is_own_face, is_far_face, is_inside, is_outside, is_home, is_named, face_name, follow_to, follow, home_copy}
 use Rattle.vpf_follow.specs.Sided.{HasSides}

@@ -9,3 +9,4 @@ mod LawWalks
 mod LawTurns
 mod LawUnique
 mod LawRounds
+mod LawAgreement

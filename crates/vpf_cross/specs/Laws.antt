@@ -1,5 +1,5 @@
 -- What is so of the tiles of every coverage: nothing is found exactly where they agree with each other.
-use Rattle.std.specs.Prelude.{◌≡◌, ◌↔◌, ℕ, true, Option, Some, None, length}
+use Rattle.std.specs.Prelude.{◌≡◌, ◌↔◌, ℕ, true, Some, None, length}
 use Rattle.vpf_darts.specs.Maps.{IsMap}
 use Rattle.vpf_prims.specs.Primitives.{Library, has_tables}
 use Rattle.vpf_prims.specs.Numbering.{IsNumbered}

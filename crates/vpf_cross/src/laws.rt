@@ -1,9 +1,11 @@
 //! What is so of every tiled library.
 
 ghost use Rattle.vpf_cross.specs.Example.{TilesAreFound};
-ghost use Rattle.vpf_cross.specs.Laws.{AgreeingHasMap, CarriedDecides, HomesDecide, InhabitedDecides};
+ghost use Rattle.vpf_cross.specs.Laws.{AgreeingHasMap, AgreementDecides, CarriedDecides, HomesDecide, InhabitedDecides, RoundsDecide};
 
-use vpf_follow::laws::homes_exist;
+use vpf_darts::laws::darts_lie_on_cycles;
+use vpf_follow::laws::{followers_decide, homes_exist, sides_decide, tile_loops_decide};
+use vpf_wing::laws::cycles_decide;
 
 /// In an example of two tiles nothing disagrees, and a line between them that isn't marked in one of them is found.
 pub fn example_of_tiles()
@@ -34,3 +36,25 @@ pub fn carried_decides()
 pub fn inhabited_decides()
     ensures { InhabitedDecides }
 {}
+
+/// Where the numbers, the cycles, the sides and the home copies are right, there is no finding on turning exactly where the next of each
+/// dart in its tile is the copy there of the first that has one among the darts that follow it round the node.
+pub fn rounds_decide()
+    ensures { RoundsDecide }
+{
+    darts_lie_on_cycles();
+    homes_exist();
+}
+
+/// Where the numbers of a coverage are right, there is no finding on its topology exactly where it agrees: its loops and the cycles of its
+/// tiles, and where it is tiled the tiles with each other.
+pub fn agreement_decides()
+    ensures { AgreementDecides }
+{
+    cycles_decide();
+    tile_loops_decide();
+    sides_decide();
+    followers_decide();
+    homes_exist();
+    darts_lie_on_cycles();
+}

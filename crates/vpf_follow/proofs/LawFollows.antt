@@ -1,22 +1,20 @@
 -- There is no finding on what follows darts exactly where each is followed, and no two home darts by the same.
-use Rattle.std.proofs.Common.{◌≡◌, ℕ, Bool, true, false, cond, eqb, ◌&&◌, not, nat_eq, refl, sym, ap, ◌∙◌, subst, inl, inr, ◌⊎◌, Option, Some, None}
+use Rattle.std.proofs.Common.{◌≡◌, ℕ, Bool, true, false, cond, eqb, nat_eq, refl, sym, ap, ◌∙◌, subst, inl, inr, ◌⊎◌, Option, Some, None}
 use Rattle.std.specs.Prelude.{find}
 use Rattle.std.specs.Option.{option_eq, option_map}
 use Rattle.std.proofs.lemmas.Bool.{cases_Bool, and_parts, and_from, eqb-true, eq-eqb}
 use Rattle.vpf_darts.specs.Darts.{code, tile_in, edge_in, sign_of}
-use Rattle.vpf_findings.specs.declared.finding.SeenWord.TheVariants as words
-use Rattle.vpf_findings.specs.Findings.{WordSeen, Disagreement}
+use Rattle.vpf_findings.specs.Findings.{Disagreement}
 use Rattle.vpf_findings.specs.FirstLaws.{option_map-none}
 use Rattle.vpf_prims.specs.Primitives.{Library}
 use Rattle.vpf_prims.specs.Tables.{TileTables}
-use Rattle.vpf_prims.specs.Coverages.{CoverageTables, tile_at}
 use Rattle.vpf_wing.specs.Links.{DartLinks, links_of, is_minus}
 use Rattle.vpf_follow.specs.Libraries.{library_of}
-use Rattle.vpf_follow.specs.Following.{is_home, is_far_face, follow, follows_to, first_home, number_seen}
+use Rattle.vpf_follow.specs.Following.{is_home, follow, follows_to, first_home, number_seen}
 use Rattle.vpf_follow.specs.FollowLines.{at_wing_of, earlier_home, follow_line, follow_line_at}
 use Rattle.vpf_follow.specs.Sided.{HasFollowers}
 use Rattle.vpf_follow.specs.Laws.{FollowersDecide}
-use Rattle.vpf_follow.specs.DartLaws.{none_is_some, same_some, code-minus, darts-stand, found-passes, found-some}
+use Rattle.vpf_follow.specs.DartLaws.{same_some, code-minus, darts-stand, found-passes, found-some}
 use Rattle.vpf_follow.specs.FollowLaws.{home_has}
 use Rattle.vpf_follow.specs.TileLaws.{TileOfDart, dart-tile, DartOfEdge, edge-dart, unless-none, unless-true, darts-none, darts-silent, options-same, same-options}
 

@@ -1,17 +1,17 @@
 -- Where each dart is followed, and no two home darts by the same, each dart has a home copy.
-use Rattle.std.proofs.Common.{◌≡◌, ℕ, ◌+◌, ◌*◌, ◌^◌, ◌<◌, ◌≤◌, Bool, true, false, cond, eqb, ltb, ◌&&◌, nat_eq, refl, sym, ap, ◌∙◌, subst, inl, inr, arith, Option, Some, None, List, [], ◌∷◌, ◌++◌, length, map}
+use Rattle.std.proofs.Common.{◌≡◌, ℕ, ◌+◌, ◌*◌, ◌^◌, ◌<◌, Bool, true, false, cond, ltb, nat_eq, refl, sym, ap, ◌∙◌, subst, inl, inr, arith, Some, List, [], ◌∷◌, ◌++◌, length, map}
 use Rattle.std.specs.Option.{unwrap_or, option_eq}
 use Rattle.std.proofs.lemmas.Bool.{cases_Bool, and_parts, and_from, ltb-true, lt-ltb}
 use Rattle.vpf_darts.specs.Cycles.{IsCycle, first_of}
-use Rattle.vpf_darts.specs.Darts.{code, tile_in, flip}
+use Rattle.vpf_darts.specs.Darts.{flip}
 use Rattle.vpf_darts.specs.Laws.{DartLiesOnCycle}
 use Rattle.vpf_darts.specs.Maps.{DartMap, IsMap}
 use Rattle.vpf_prims.specs.Primitives.{Library}
-use Rattle.vpf_wing.specs.Links.{Beyond, DartLinks, links_of}
-use Rattle.vpf_follow.specs.Following.{is_home, is_named, face_name, follow_to, follow, follows_to, first_home, home_copy, library_map}
+use Rattle.vpf_wing.specs.Links.{DartLinks, links_of}
+use Rattle.vpf_follow.specs.Following.{is_home, follow, follows_to, first_home, home_copy, library_map}
 use Rattle.vpf_follow.specs.Sided.{HasFollowers}
-use Rattle.vpf_follow.specs.Laws.{FollowersAreHome, IsHomeCopy, HomesExist}
-use Rattle.vpf_follow.specs.DartLaws.{both_ways, none_is_some, flip-flip, flip-apart, dart_bound, darts-below, darts-stand, found-passes, found-some, only-passes}
+use Rattle.vpf_follow.specs.Laws.{HomesExist}
+use Rattle.vpf_follow.specs.DartLaws.{both_ways, flip-flip, flip-apart, dart_bound, darts-below, darts-stand, found-passes, found-some}
 use Rattle.vpf_follow.specs.FollowLaws.{home_has, follow_home, home_self, moves, stays, next_apart}
 use Rattle.vpf_follow.specs.TileLaws.{options-same, same-options}
 

@@ -1,9 +1,9 @@
 -- There is no finding on the loops of the tiles of a coverage exactly where they have two faces.
-use Rattle.std.proofs.Common.{◌≡◌, ℕ, zero, suc, ◌+◌, ◌<◌, ◌≤◌, Bool, false, Option, None, List, [], ◌∷◌, length, map, get_or, refl, sym, subst, arith}
+use Rattle.std.proofs.Common.{◌≡◌, ℕ, zero, suc, ◌+◌, ◌<◌, ◌≤◌, false, None, List, [], ◌∷◌, length, map, get_or, refl, sym, subst, arith}
 use Rattle.std.proofs.Math.ListN.{get_or-map}
 use Rattle.std.proofs.lemmas.List.{length-map}
 use Rattle.vpf_darts.specs.Darts.{tile_in, edge_in}
-use Rattle.vpf_findings.specs.Firsts.{◌or◌, first_of_rows}
+use Rattle.vpf_findings.specs.Firsts.{first_of_rows}
 use Rattle.vpf_findings.specs.FirstLaws.{rows_none}
 use Rattle.vpf_prims.specs.Lists.{kth}
 use Rattle.vpf_prims.specs.Primitives.{EdgePrimitive, absent_edge, own_edge}

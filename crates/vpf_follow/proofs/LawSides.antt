@@ -1,7 +1,5 @@
 -- There is no finding on the sides of edges exactly where they name tiles as they should.
-use Rattle.std.proofs.Common.{◌≡◌, ◌≢◌, ℕ, ◌<◌, ◌≤◌, Bool, true, false, not, ◌||◌, nat_eq, refl, sym, ap, ◌∙◌, subst, Option, Some, None}
-use Rattle.std.specs.Prelude.{is_some}
-use Rattle.std.specs.Option.{option_eq}
+use Rattle.std.proofs.Common.{◌≡◌, ◌≢◌, ℕ, Bool, true, false, not, sym, ap, ◌∙◌, subst, Option, None}
 use Rattle.std.proofs.lemmas.Bool.{and_parts, and_from}
 use Rattle.vpf_darts.specs.Darts.{code, tile_in, edge_in, sign_of, flip}
 use Rattle.vpf_findings.specs.Findings.{Disagreement}
@@ -13,10 +11,10 @@ use Rattle.vpf_prims.specs.Primitives.{EdgePrimitive, Library, absent_edge, tile
 use Rattle.vpf_prims.specs.Reading.{primitives_of}
 use Rattle.vpf_prims.specs.Tables.{TileTables}
 use Rattle.vpf_prims.specs.Coverages.{CoverageTables}
-use Rattle.vpf_wing.specs.Links.{DartLinks, Link, link_of, links_of, edge_of_dart, is_minus, wing_by, node_by, face_by}
+use Rattle.vpf_wing.specs.Links.{Link, link_of, links_of, edge_of_dart, is_minus, wing_by, node_by, face_by}
 use Rattle.vpf_wing.specs.CycleLines.{loop_line}
 use Rattle.vpf_wing.specs.WellFormed.{HasLoops}
-use Rattle.vpf_follow.specs.Libraries.{library_of, in_tiles}
+use Rattle.vpf_follow.specs.Libraries.{library_of}
 use Rattle.vpf_follow.specs.Following.{beyond_tile, is_own_face, is_far_face}
 use Rattle.vpf_follow.specs.Sided.{HasSides}
 use Rattle.vpf_follow.specs.SideLines.{part_line, inside_line, inside_wing_line, outside_wing_line, side_wing_lines, side_lines, sides_finding}

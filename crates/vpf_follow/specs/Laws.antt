@@ -1,5 +1,5 @@
 -- What is so of the tiles of every coverage: nothing is found exactly where they agree.
-use Rattle.std.specs.Prelude.{◌≡◌, ◌↔◌, ℕ, ◌<◌, ◌^◌, true, Option, Some, None}
+use Rattle.std.specs.Prelude.{◌≡◌, ◌↔◌, ℕ, ◌<◌, ◌^◌, true, Some, None}
 use Rattle.vpf_prims.specs.Primitives.{Library, edge_count}
 use Rattle.vpf_prims.specs.Coverages.{CoverageTables}
 use Rattle.vpf_wing.specs.Links.{DartLinks, links_of}

@@ -1,5 +1,5 @@
 -- Laws of what a rule finds in the tiles of a coverage, edge by edge, and of the darts in them.
-use Rattle.std.proofs.Common.{◌≡◌, ℕ, zero, suc, ◌+◌, ◌-◌, ◌^◌, ◌<◌, ◌≤◌, Bool, true, false, not, nat_eq, Option, Some, None, List, [], ◌∷◌, length, get_or, refl, sym, ap, ◌∙◌, subst, inl, inr, arith}
+use Rattle.std.proofs.Common.{◌≡◌, ℕ, zero, suc, ◌+◌, ◌^◌, ◌<◌, ◌≤◌, Bool, true, false, not, nat_eq, Option, Some, None, length, refl, sym, ap, ◌∙◌, subst, inl, inr, arith}
 use Rattle.std.specs.Option.{option_eq}
 use Rattle.std.proofs.lemmas.Bool.{cases_lt, eqb-true, eq-eqb}
 use Rattle.std.proofs.lemmas.List.{get_or_past}
@@ -8,11 +8,11 @@ use Rattle.vpf_findings.specs.Findings.{Disagreement}
 use Rattle.vpf_findings.specs.Firsts.{◌or◌, unless}
 use Rattle.vpf_findings.specs.FirstLaws.{or-none_both, over_none, over_silent}
 use Rattle.vpf_prims.specs.Lists.{kth}
-use Rattle.vpf_prims.specs.Primitives.{EdgePrimitive, absent_edge, edges_in, edge_count}
+use Rattle.vpf_prims.specs.Primitives.{absent_edge, edges_in, edge_count}
 use Rattle.vpf_prims.specs.Reading.{primitives_of}
 use Rattle.vpf_prims.specs.Tables.{TileTables}
 use Rattle.vpf_prims.specs.Coverages.{CoverageTables, tile_at, last_tile}
-use Rattle.vpf_wing.specs.Links.{links_of, edge_of_dart, is_minus}
+use Rattle.vpf_wing.specs.Links.{links_of, edge_of_dart}
 use Rattle.vpf_follow.specs.Libraries.{primitives_in, library_of, in_tile, in_tiles, over_edges}
 use Rattle.vpf_follow.specs.DartLaws.{IsThere, there, there-has, none_is_some, both_ways, code-tile, code-edge, sign-small}
 
