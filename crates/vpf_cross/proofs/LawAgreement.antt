@@ -16,7 +16,7 @@ use Rattle.vpf_follow.specs.SideLines.{sides_finding}
 use Rattle.vpf_follow.specs.FollowLines.{follows_finding}
 use Rattle.vpf_follow.specs.Sided.{HasSides, HasFollowers}
 use Rattle.vpf_follow.specs.Laws.{SidesDecide, FollowersDecide, TileLoopsDecide, HomesExist}
-use Rattle.vpf_follow.specs.DartLaws.{both_ways}
+use Rattle.vpf_follow.specs.DartLaws.{never_both}
 use Rattle.vpf_follow.specs.TileLaws.{or-silent, tile-below, tiles-none, tiles-silent}
 use Rattle.vpf_cross.specs.HomeLines.{coverage_links, homes_finding}
 use Rattle.vpf_cross.specs.RoundLines.{rounds_finding}
@@ -103,7 +103,7 @@ module _ (laws : LawsBelow) (c : CoverageTables) (lib : IsLibrary (library_of c)
         numbered = numbered;
         loops = (laws.loops c lib.few).0 p.0;
         cycles = (cycles_decide laws.cycles c lib numbered).0 p.1;
-        across = λ tiled. absurd (both_ways c.is_tiled tiled untiled);
+        across = λ tiled. absurd (never_both c.is_tiled tiled untiled);
       }
 
   untiled_silent : LibraryAgrees (library_of c) → topology_finding_of false c ≡ None

@@ -136,7 +136,7 @@ universe_none c whole numbered t T e none =
 abbrev nodes_found : Library → ℕ → TileTables → Option Disagreement
 nodes_found L t T = over_edges (both_lines (head_node_line L) true t T) T
 
-are_carried : (c : CoverageTables) → HasFewEdges c → AreWhole c → AreNumbered (library_of c)
+are_carried : (c : CoverageTables) → HasFewEdges (library_of c) → AreWhole c → AreNumbered (library_of c)
     → in_tiles (nodes_found (library_of c)) c ≡ None → ((t : ℕ) (T : TileTables) → tile_at c t ≡ Some T → universe_line (library_of c) t T ≡ None) → AreCarried (library_of c)
 are_carried c few whole numbered none universe = record {
   nodes = λ d p has out. (
@@ -147,7 +147,7 @@ are_carried c few whole numbered none universe = record {
   universe = λ t has. (let T = tables_of_tile c t has in universe_none c whole numbered t T.0 T.1 (universe t T.0 T.1));
 }
 
-nodes_silent : (c : CoverageTables) → HasFewEdges c → AreCarried (library_of c) → in_tiles (nodes_found (library_of c)) c ≡ None
+nodes_silent : (c : CoverageTables) → HasFewEdges (library_of c) → AreCarried (library_of c) → in_tiles (nodes_found (library_of c)) c ≡ None
 nodes_silent c few h = darts-silent (head_node_line (library_of c)) true c (λ t T k m e low high. (
     let L : Library = library_of c in
     let d : ℕ = code t k (sign_of m) in

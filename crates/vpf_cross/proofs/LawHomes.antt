@@ -127,5 +127,5 @@ homes_decide law c few whole f = (
       subst (IsOfEdge (coverage_links c)) (code-minus d)
       (lines_none law c whole f (tile_in d) i.tables (edge_in d) (is_minus d) i.at r.has (outside_none c (tile_in d) i.tables (edge_in d) (is_minus d) line out')))),
   λ h. darts-silent (outside_lines c) false c (λ t T k m e low high.
-  outside_silent c t T k m (λ out. lines_silent c t T k m (homes_have (coverage_links c) h (code t k (sign_of m)) out))),
+      outside_silent c t T k m (λ out. lines_silent c t T k m (homes_have (coverage_links c) h (code t k (sign_of m)) out))),
 )

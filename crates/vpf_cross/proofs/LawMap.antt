@@ -9,7 +9,7 @@ use Rattle.vpf_follow.specs.Following.{is_home, home_copy, library_map}
 use Rattle.vpf_follow.specs.Sided.{HasFollowers}
 use Rattle.vpf_follow.specs.Laws.{HomesExist}
 use Rattle.vpf_follow.specs.DartLaws.{flip-flip, flip-sign, flip-has}
-use Rattle.vpf_follow.specs.FollowLaws.{home_has, home_self, away_outside, moves, stays, next_apart}
+use Rattle.vpf_follow.specs.FollowLaws.{home_has, home_self, away_outside, home_moves, away_stays, next_apart}
 use Rattle.vpf_cross.specs.Agreeing.{HasHomes}
 use Rattle.vpf_cross.specs.Laws.{AgreeingHasMap}
 
@@ -32,8 +32,8 @@ is_map law L a h =
     ap (is_home C) (flip_is C x home) ∙ (law L a (flip x) (has x home)).home in
     record {
       next_apart = next_apart C a;
-      next_live = λ d. elim (cases_Bool (is_home C d)) [ inl home ↦ (moves C a d home).home ∙ sym home | inr g ↦ ap (is_home C) (stays C d g) ];
-      next_dead = stays C;
+      next_live = λ d. elim (cases_Bool (is_home C d)) [ inl home ↦ (home_moves C a d home).home ∙ sym home | inr g ↦ ap (is_home C) (away_stays C d g) ];
+      next_dead = away_stays C;
       live_has = λ d home. home;
       flip_has = turned;
       flip_live = λ d home. turned d home ∙ sym home;

@@ -9,12 +9,12 @@ use Rattle.vpf_prims.specs.Tables.{TileTables}
 use Rattle.vpf_prims.specs.Coverages.{CoverageTables, tile_at}
 use Rattle.vpf_wing.specs.Links.{Beyond, link_of, links_of, edge_of_dart, wing_by, node_by, face_by}
 use Rattle.vpf_follow.specs.Libraries.{primitives_in, library_of}
-use Rattle.vpf_follow.specs.DartLaws.{IsThere, there, none_is_some, same_some, both_ways}
+use Rattle.vpf_follow.specs.DartLaws.{IsThere, has-there, none_is_some, same_some, never_both}
 use Rattle.vpf_cross.specs.Laws.{AreNumbered}
 
 -- a tile that has tables, by its tables
 tables_there : (o : Option TileTables) → is_there (primitives_in o) ≡ true → (T : TileTables) × (o ≡ Some T)
-tables_there None h = absurd (both_ways false h refl)
+tables_there None h = absurd (never_both false h refl)
 tables_there (Some T) h = (T, refl)
 
 pub tables_of_tile : (c : CoverageTables) (t : ℕ) → has_tables (library_of c) t ≡ true → (T : TileTables) × (tile_at c t ≡ Some T)
@@ -27,7 +27,7 @@ tile_has_tables c t T e = ap (λ o. is_there (primitives_in o)) e
 pub dart_row : (c : CoverageTables) → AreNumbered (library_of c) → (d : ℕ) → (links_of (library_of c)).has d ≡ true → (T : TileTables) → tile_at c (tile_in d) ≡ Some T
     → IsEdgeOf (library_of c) (tile_in d) (edge_in d) (edge_of_dart (library_of c) d)
 dart_row c numbered d has T e =
-    let i : IsThere (library_of c) d = there (library_of c) d has in
+    let i : IsThere (library_of c) d = has-there (library_of c) d has in
     (numbered (tile_in d) (tile_has_tables c (tile_in d) T e)).edges (edge_in d) (i.from_one, i.to_count)
 
 -- a reference that goes on in another tile

@@ -39,7 +39,7 @@ copy_found : (L : Library) (t y e : ℕ) → IsCopy (links_of L) t y e → (w : 
 unfolding copy_in_tile
 copy_found L t y e c = found-some (tests_copy (links_of L) t y) e (copy_tested (links_of L) t y e c) (links_of L).darts (darts-stand L e c.has)
 
-found_copy : (c : CoverageTables) → HasFewEdges c → (t y e : ℕ) → copy_in_tile (coverage_links c) t y ≡ Some e → IsCopy (coverage_links c) t y e
+found_copy : (c : CoverageTables) → HasFewEdges (library_of c) → (t y e : ℕ) → copy_in_tile (coverage_links c) t y ≡ Some e → IsCopy (coverage_links c) t y e
 unfolding copy_in_tile
 found_copy c few t y e h =
     let C : DartLinks = coverage_links c in
@@ -48,7 +48,7 @@ found_copy c few t y e h =
     record { has = stands-has (library_of c) few e p.1; tile = eqb-true _ _ q.0; home = eqb-true _ _ q.1 }
 
 -- the first copy that is found is the first there is
-first_is : (c : CoverageTables) → HasFewEdges c → (t n x e : ℕ) → first_copy (coverage_links c) t n (Some x) ≡ Some e → (k : ℕ) × IsFirstCopy (coverage_links c) t k x e
+first_is : (c : CoverageTables) → HasFewEdges (library_of c) → (t n x e : ℕ) → first_copy (coverage_links c) t n (Some x) ≡ Some e → (k : ℕ) × IsFirstCopy (coverage_links c) t k x e
 first_is c few t zero x e h = absurd (none_is_some e h)
 first_is c few t (suc n) x e h =
     let C : DartLinks = coverage_links c in
@@ -127,7 +127,7 @@ abbrev line_of : CoverageTables → (t : ℕ) → TileTables → (k : ℕ) → B
 line_of c t T k m d =
     first_copy_line t T k m (local_next (coverage_links c) d) (first_copy (coverage_links c) t (length (coverage_links c).darts + 1) (follow (coverage_links c) d)) ≡ None
 
-goes_on_here : DartLiesOnCycle → (c : CoverageTables) → HasFewEdges c → Agreed (library_of c) → (t : ℕ) (T : TileTables) (k : ℕ) (m : Bool) (d e : ℕ)
+goes_on_here : DartLiesOnCycle → (c : CoverageTables) → HasFewEdges (library_of c) → Agreed (library_of c) → (t : ℕ) (T : TileTables) (k : ℕ) (m : Bool) (d e : ℕ)
     → tile_in d ≡ t → (coverage_links c).has d ≡ true → local_next (coverage_links c) d ≡ Some e → line_of c t T k m d → GoesOnHere (coverage_links c) d
 goes_on_here law c few a t T k m d e tile has next none =
     let C : DartLinks = coverage_links c in
@@ -139,7 +139,7 @@ goes_on_here law c few a t T k m d e tile has next none =
     let first : (j : ℕ) × IsFirstCopy (coverage_links c) (tile_in d) j y.0 w.0 = first_is c few (tile_in d) (length C.darts + 1) y.0 w.0 w.1 in
     record { followed = y.0; next = w.0; steps = first.0; follows = y.1; goes = next ∙ ap Some same; first = first.1 }
 
-here_silent : (c : CoverageTables) → HasFewEdges c → (t : ℕ) (T : TileTables) (k : ℕ) (m : Bool) (d : ℕ) → tile_in d ≡ t
+here_silent : (c : CoverageTables) → HasFewEdges (library_of c) → (t : ℕ) (T : TileTables) (k : ℕ) (m : Bool) (d : ℕ) → tile_in d ≡ t
     → ((y e x : ℕ) → IsCopy (coverage_links c) (tile_in d) y e → IsCopy (coverage_links c) (tile_in d) y x → e ≡ x) → GoesOnHere (coverage_links c) d → line_of c t T k m d
 here_silent c few t T k m d tile one g =
     let C : DartLinks = coverage_links c in

@@ -9,8 +9,8 @@ use Rattle.vpf_wing.specs.Links.{DartLinks, links_of}
 use Rattle.vpf_follow.specs.Following.{is_home, follow, home_copy, library_map}
 use Rattle.vpf_follow.specs.Sided.{HasFollowers}
 use Rattle.vpf_follow.specs.Laws.{HomesExist}
-use Rattle.vpf_follow.specs.DartLaws.{same_some, both_ways, dart_bound, darts-below, stands, darts-stand, flip-has, flip-tile}
-use Rattle.vpf_follow.specs.FollowLaws.{home_has, home_self, away_outside, moves, stays}
+use Rattle.vpf_follow.specs.DartLaws.{same_some, never_both, dart_bound, darts-below, stands, darts-stand, flip-has, flip-tile}
+use Rattle.vpf_follow.specs.FollowLaws.{home_has, home_self, away_outside, home_moves, away_stays}
 use Rattle.vpf_cross.specs.Agreeing.{HasHomes, IsCopy}
 use Rattle.vpf_cross.proofs.LawMap.{flip_is, is_map}
 use Rattle.vpf_cross.proofs.LawWalks.{after, FirstStep, first_step, steps_below, StepBefore, round}
@@ -38,10 +38,10 @@ flips_apart L m d e q =
     elim (cases_Bool (is_home C d)) [
       | inl hd ↦ (elim (cases_Bool (is_home C e)) [
         | inl he ↦ sym (m.flip_flip d hd) ∙ ap (library_map C).flip q ∙ m.flip_flip e he
-        | inr ne ↦ absurd (both_ways (is_home C e) (ap (is_home C) (sym (flip_stays C e ne) ∙ sym q) ∙ m.flip_has d hd) ne)
+        | inr ne ↦ absurd (never_both (is_home C e) (ap (is_home C) (sym (flip_stays C e ne) ∙ sym q) ∙ m.flip_has d hd) ne)
       ])
       | inr nd ↦ (elim (cases_Bool (is_home C e)) [
-        | inl he ↦ absurd (both_ways (is_home C d) (ap (is_home C) (sym (flip_stays C d nd) ∙ q) ∙ m.flip_has e he) nd)
+        | inl he ↦ absurd (never_both (is_home C d) (ap (is_home C) (sym (flip_stays C d nd) ∙ q) ∙ m.flip_has e he) nd)
         | inr ne ↦ sym (flip_stays C d nd) ∙ q ∙ flip_stays C e ne
       ])
     ]
@@ -58,7 +58,7 @@ is_turn_map : (L : Library) → IsMap (library_map (links_of L)) → IsMap (turn
 is_turn_map L m = record {
   next_apart = λ d e q. flips_apart L m d e (m.next_apart _ _ q);
   next_live = turn_live L m;
-  next_dead = λ d away. ap (library_map (links_of L)).next (flip_stays (links_of L) d away) ∙ stays (links_of L) d away;
+  next_dead = λ d away. ap (library_map (links_of L)).next (flip_stays (links_of L) d away) ∙ away_stays (links_of L) d away;
   live_has = λ d h. h;
   flip_has = m.flip_has;
   flip_live = m.flip_live;
@@ -71,7 +71,7 @@ pub follow_turn : (L : Library) → Agreed L → (x : ℕ) → is_home (links_of
 follow_turn L a x h =
     let C : DartLinks = links_of L in
     let copy = a.exist L a.follows (flip x) (flip-has L x (home_has C x h)) in
-    sym copy.follows ∙ (moves C a.follows (home_copy C (flip x)) copy.home).follows ∙ ap (λ z. Some ((library_map C).next z)) (sym (flip_is C x h))
+    sym copy.follows ∙ (home_moves C a.follows (home_copy C (flip x)) copy.home).follows ∙ ap (λ z. Some ((library_map C).next z)) (sym (flip_is C x h))
 
 -- home darts turn to home darts
 pub turns_home : (L : Library) → IsMap (library_map (links_of L)) → (k x : ℕ) → is_home (links_of L) x ≡ true → is_home (links_of L) (after (turning L) k x) ≡ true
@@ -107,7 +107,7 @@ is_last_turn L a d y has f =
     let copy = a.exist L a.follows (flip h) (flip-has L h (home_has C h own.home)) in
     let turned : (library_map (links_of L)).flip (last_turn L d) ≡ home_copy (links_of L) d =
     ap (library_map C).flip (sym (flip_is C h own.home)) ∙ m.flip_flip h own.home in
-    let next : (library_map (links_of L)).next (home_copy (links_of L) d) ≡ y = same_some _ _ (sym (moves C a.follows h own.home).follows ∙ own.follows ∙ f) in
+    let next : (library_map (links_of L)).next (home_copy (links_of L) d) ≡ y = same_some _ _ (sym (home_moves C a.follows h own.home).follows ∙ own.follows ∙ f) in
     record {
       home = copy.home;
       turns = ap (library_map C).next turned ∙ next;

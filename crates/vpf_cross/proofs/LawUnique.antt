@@ -11,7 +11,7 @@ use Rattle.vpf_follow.specs.Libraries.{library_of}
 use Rattle.vpf_follow.specs.Following.{beyond_tile, is_own_face, is_far_face, is_inside, is_outside, is_home, is_named, face_name, follow_to, follow, home_copy}
 use Rattle.vpf_follow.specs.Sided.{HasSides}
 use Rattle.vpf_follow.specs.Laws.{HasFewEdges}
-use Rattle.vpf_follow.specs.DartLaws.{both_ways, none_is_some, same_some, code-tile, flip-flip, flip-tile, flip-has, only-passes}
+use Rattle.vpf_follow.specs.DartLaws.{never_both, none_is_some, same_some, code-tile, flip-flip, flip-tile, flip-has, only-passes}
 use Rattle.vpf_follow.specs.TileLaws.{TileOfDart, dart-tile}
 use Rattle.vpf_follow.specs.FollowLaws.{home_has, home_self, outside_has, away_outside}
 use Rattle.vpf_cross.specs.HomeLines.{coverage_links}
@@ -60,7 +60,7 @@ far_part f h =
     (ap not q.0, some_part f.out q.1)
   where
     some_part : (o : Option Beyond) → is_some o ≡ true → (p : Beyond) × (o ≡ Some p)
-    some_part None g = absurd (both_ways false g refl)
+    some_part None g = absurd (never_both false g refl)
     some_part (Some p) g = (p, refl)
 
 part_tile : (o : Option Beyond) (t : ℕ) → beyond_tile o ≡ Some t → (w : Beyond) × (o ≡ Some w) × (w.tile ≡ t)
@@ -68,7 +68,7 @@ part_tile None t h = absurd (none_is_some t h)
 part_tile (Some w) t h = (w, refl, same_some w.tile t h)
 
 -- what the rows of a coverage say of a dart whose face is of another tile, and of one that goes on in its own
-outside_goes : (c : CoverageTables) → HasFewEdges c → AreNumbered (library_of c) → HasSides (coverage_links c) → (d y : ℕ) → is_outside (coverage_links c) d ≡ true
+outside_goes : (c : CoverageTables) → HasFewEdges (library_of c) → AreNumbered (library_of c) → HasSides (coverage_links c) → (d y : ℕ) → is_outside (coverage_links c) d ≡ true
     → follow (coverage_links c) d ≡ Some y → tile_in y ≡ tile_in d → ⊥
 outside_goes c few numbered s d y out f same =
     let L : Library = library_of c in
@@ -88,7 +88,7 @@ outside_goes c few numbered s d y out f same =
     let small : w.0.id < 2 ^ 32 = omega arith in
     beyond.other (sym w.2 ∙ sym (follow_out C d y w.0 w.1 small f) ∙ same)
 
-inside_goes : (c : CoverageTables) → HasFewEdges c → AreNumbered (library_of c) → HasSides (coverage_links c) → (d y : ℕ) → (coverage_links c).has d ≡ true
+inside_goes : (c : CoverageTables) → HasFewEdges (library_of c) → AreNumbered (library_of c) → HasSides (coverage_links c) → (d y : ℕ) → (coverage_links c).has d ≡ true
     → is_inside (coverage_links c) d ≡ true → follow (coverage_links c) d ≡ Some y → tile_in y ≡ tile_in d
 inside_goes c few numbered s d y has own f =
     let L : Library = library_of c in
@@ -103,7 +103,7 @@ inside_goes c few numbered s d y has own f =
     follow_plain C d y (s.inside_plain d has own) small f
 
 -- a home dart and an outside dart of one tile aren't copies of one dart
-home_and_outside : (c : CoverageTables) → HasFewEdges c → AreNumbered (library_of c) → HasSides (coverage_links c) → Agreed (library_of c) → (e x : ℕ)
+home_and_outside : (c : CoverageTables) → HasFewEdges (library_of c) → AreNumbered (library_of c) → HasSides (coverage_links c) → Agreed (library_of c) → (e x : ℕ)
     → is_home (coverage_links c) e ≡ true → is_outside (coverage_links c) x ≡ true → tile_in e ≡ tile_in x → home_copy (coverage_links c) x ≡ e → ⊥
 home_and_outside c few numbered s a e x home out tile is =
     let L : Library = library_of c in
@@ -117,7 +117,7 @@ home_and_outside c few numbered s a e x home out tile is =
           let one : e ≡ x = sym (flip-flip e) ∙ ap flip same ∙ flip-flip x in
           let far = (and_parts (C.has x) (is_far_face (C.face x)) out).1 in
           let near = (and_parts (C.has e) (not (is_far_face (C.face e))) home).1 in
-          both_ways (not (is_far_face (C.face e))) near (ap not (ap (λ z. is_far_face (C.face z)) one ∙ far)))
+          never_both (not (is_far_face (C.face e))) near (ap not (ap (λ z. is_far_face (C.face z)) one ∙ far)))
       | inr away ↦ (
           let there = away_outside C (flip e) turned away in
           let far = far_part (C.face (flip e)) ((and_parts (C.has (flip e)) (is_far_face (C.face (flip e))) there).1) in
@@ -132,7 +132,7 @@ both_outside C e x fe fx h =
     let same : flip e ≡ flip x = sym fe ∙ ap (λ z. home_copy C (flip z)) h ∙ fx in
     sym (flip-flip e) ∙ ap flip same ∙ flip-flip x
 
-pub one_copy : (c : CoverageTables) → HasFewEdges c → AreNumbered (library_of c) → HasSides (coverage_links c) → Agreed (library_of c) → (t d e x : ℕ)
+pub one_copy : (c : CoverageTables) → HasFewEdges (library_of c) → AreNumbered (library_of c) → HasSides (coverage_links c) → Agreed (library_of c) → (t d e x : ℕ)
     → IsCopy (coverage_links c) t d e → IsCopy (coverage_links c) t d x → e ≡ x
 one_copy c few numbered s a t d e x ce cx =
     let C : DartLinks = coverage_links c in

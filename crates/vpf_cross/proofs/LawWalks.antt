@@ -2,7 +2,7 @@
 use Rattle.std.proofs.Common.{◌≡◌, ℕ, zero, suc, ◌+◌, ◌-◌, ◌<◌, ◌≤◌, true, false, cond, eqb, refl, sym, ap, ◌∙◌, subst, inl, inr, arith, List, [], ◌∷◌, ◌++◌, length, map}
 use Rattle.std.proofs.lemmas.Bool.{cases_Bool, cases_eq, or_cases, or_left, or_right, eqb-true}
 use Rattle.vpf_darts.specs.Cycles.{IsCycle, first_of}
-use Rattle.vpf_follow.specs.DartLaws.{both_ways, stands}
+use Rattle.vpf_follow.specs.DartLaws.{never_both, stands}
 
 -- what comes k steps after x
 unfoldable pub after : (ℕ → ℕ) → ℕ → ℕ → ℕ
@@ -39,11 +39,11 @@ leaving x (y ∷ ys) = cond (eqb x y) ys (y ∷ leaving x ys)
 
 leaving_length : (x : ℕ) (xs : List ℕ) → stands x xs ≡ true → length xs ≡ suc (length (leaving x xs))
 unfolding leaving
-leaving_length x [] h = absurd (both_ways false h refl)
+leaving_length x [] h = absurd (never_both false h refl)
 leaving_length x (y ∷ ys) h = elim (cases_Bool (eqb x y)) [
   | inl t ↦ rw t refl
   | inr f ↦ (elim (or_cases (eqb x y) (stands x ys) h) [
-    | inl t ↦ absurd (both_ways (eqb x y) t f)
+    | inl t ↦ absurd (never_both (eqb x y) t f)
     | inr s ↦ rw f (ap suc (leaving_length x ys s))
   ])
 ]
@@ -66,15 +66,15 @@ leaving_stands x w (y ∷ ys) ne h = elim (cases_Bool (eqb x y)) [
 pub steps_below : (f : ℕ → ℕ) (j x z : ℕ) (xs : List ℕ) → after f j x ≡ z → ((i : ℕ) → i < j → after f i x ≡ z → ⊥)
     → ((i : ℕ) → i ≤ j → stands (after f i x) xs ≡ true) → j < length xs
 unfolding after
-steps_below f zero x z [] e before all = absurd (both_ways false (all zero (omega arith)) refl)
+steps_below f zero x z [] e before all = absurd (never_both false (all zero (omega arith)) refl)
 steps_below f zero x z (y ∷ ys) e before all = omega arith
 steps_below f (suc j) x z xs e before all =
     let here : length xs ≡ suc (length (leaving x xs)) = leaving_length x xs (all zero (omega arith)) in
     let left : (i : ℕ) → i ≤ j → stands (after f i (f x)) (leaving x xs) ≡ true = λ i le.
     leaving_stands x (after f i (f x)) xs (λ back. (
-        let n : suc j ≡ (j - i) + suc i = omega arith in
-        let same : after f (suc j) x ≡ after f (j - i) x = ap (λ m. after f m x) n ∙ after_add f (j - i) (suc i) x ∙ ap (after f (j - i)) back in
-        before (j - i) (omega arith) (sym same ∙ e)))
+    let n : suc j ≡ (j - i) + suc i = omega arith in
+    let same : after f (suc j) x ≡ after f (j - i) x = ap (λ m. after f m x) n ∙ after_add f (j - i) (suc i) x ∙ ap (after f (j - i)) back in
+    before (j - i) (omega arith) (sym same ∙ e)))
     (all (suc i) (omega arith)) in
     let rest : j < length (leaving x xs) = steps_below f j (f x) z (leaving x xs) e (λ i lt. before (suc i) (omega arith)) left in
     omega arith

@@ -18,7 +18,7 @@ use Rattle.vpf_cross.specs.HomeLines.{coverage_links, homes_finding}
 use Rattle.vpf_cross.specs.RoundLines.{rounds_finding}
 use Rattle.vpf_cross.specs.CarriedLines.{carried_finding, inhabited_finding}
 use Rattle.vpf_cross.specs.CrossFinding.{topology_finding}
-use Rattle.vpf_cross.specs.Agreeing.{HasHomes, HasRounds, AreCarried, AreInhabited, LibraryAgrees}
+use Rattle.vpf_cross.specs.Agreeing.{IsCopy, HasHomes, HasRounds, AreCarried, AreInhabited, LibraryAgrees}
 
 -- the rows of all tables are whole, and the tables of all tiles carry as many columns without a role
 pub record AreWhole (c : CoverageTables) : Type 0 where
@@ -36,17 +36,23 @@ AreNumbered L = (t : ℕ) → has_tables L t ≡ true → IsNumbered L t
 
 -- there is no finding on home copies exactly where each outside dart is of one edge with its own
 abbrev pub HomesDecide : Type 0
-HomesDecide = (c : CoverageTables) → HasFewEdges c → AreWhole c → HasFollowers (coverage_links c) → (in_tiles (homes_finding c) c ≡ None) ↔ HasHomes (coverage_links c)
+HomesDecide = (c : CoverageTables) → HasFewEdges (library_of c) → AreWhole c → HasFollowers (coverage_links c)
+    → (in_tiles (homes_finding c) c ≡ None) ↔ HasHomes (coverage_links c)
 
 -- where the cycles of each tile hold, there is no finding on turning exactly where tiles turn about their nodes as the whole coverage does
 abbrev pub RoundsDecide : Type 0
-RoundsDecide = (c : CoverageTables) → HasFewEdges c → AreNumbered (library_of c) → ((t : ℕ) → has_tables (library_of c) t ≡ true → HasCycles (library_of c) t)
-    → HasSides (coverage_links c) → HasFollowers (coverage_links c) → HasHomes (coverage_links c)
+RoundsDecide = (c : CoverageTables) → HasFewEdges (library_of c) → AreNumbered (library_of c)
+    → ((t : ℕ) → has_tables (library_of c) t ≡ true → HasCycles (library_of c) t) → HasSides (coverage_links c) → HasFollowers (coverage_links c) → HasHomes (coverage_links c)
     → (in_tiles (rounds_finding (coverage_links c)) c ≡ None) ↔ HasRounds (coverage_links c)
+
+-- where sides, followers and home copies are right too, no dart has two copies in a tile
+abbrev pub CopiesAreOne : Type 0
+CopiesAreOne = (c : CoverageTables) → HasFewEdges (library_of c) → AreNumbered (library_of c) → HasSides (coverage_links c) → HasFollowers (coverage_links c)
+    → HasHomes (coverage_links c) → (t d e x : ℕ) → IsCopy (coverage_links c) t d e → IsCopy (coverage_links c) t d x → e ≡ x
 
 -- there is no finding on carried cells exactly where shared nodes and the universe carry the same everywhere
 abbrev pub CarriedDecides : Type 0
-CarriedDecides = (c : CoverageTables) → HasFewEdges c → AreWhole c → AreNumbered (library_of c)
+CarriedDecides = (c : CoverageTables) → HasFewEdges (library_of c) → AreWhole c → AreNumbered (library_of c)
     → (in_tiles (carried_finding (library_of c)) c ≡ None) ↔ AreCarried (library_of c)
 
 -- there is no finding on entity nodes exactly where each lies in a face of its tile

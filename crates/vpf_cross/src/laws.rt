@@ -1,7 +1,8 @@
 //! What is so of every tiled library.
 
 ghost use Rattle.vpf_cross.specs.Example.{TilesAreFound};
-ghost use Rattle.vpf_cross.specs.Laws.{AgreeingHasMap, AgreementDecides, CarriedDecides, HomesDecide, InhabitedDecides, RoundsDecide};
+ghost use Rattle.vpf_cross.specs.Laws.{AgreeingHasMap, AgreementDecides, CarriedDecides, CopiesAreOne, HomesDecide};
+ghost use Rattle.vpf_cross.specs.Laws.{InhabitedDecides, RoundsDecide};
 
 use vpf_darts::laws::darts_lie_on_cycles;
 use vpf_follow::laws::{followers_decide, homes_exist, sides_decide, tile_loops_decide};
@@ -23,6 +24,13 @@ pub fn agreeing_has_map()
 /// Where each dart has a home copy, there is no finding on home copies exactly where each outside dart is of one edge with its own.
 pub fn homes_decide()
     ensures { HomesDecide }
+{
+    homes_exist();
+}
+
+/// Where the numbers, the sides and the home copies of a coverage are right, no dart has two copies in a tile.
+pub fn copies_are_one()
+    ensures { CopiesAreOne }
 {
     homes_exist();
 }

@@ -96,7 +96,7 @@ line_silent C h t T k m has =
     let seen : ℕ → Disagreement = λ x. at_wing_of t T 4 k m (number_seen y.0) (number_seen x) in
     ap (follow_line_at C t T k m) y.1 ∙ (elim (cases_Bool (is_home C (code t k (sign_of m)))) [
       | inl home ↦ ap (λ b. cond b (option_map seen (earlier_home (code t k (sign_of m)) (first_home C (Some y.0)))) None) home
-      ∙ ap (option_map seen) (first_silent C h (code t k (sign_of m)) y.0 home y.1)
+          ∙ ap (option_map seen) (first_silent C h (code t k (sign_of m)) y.0 home y.1)
       | inr away ↦ ap (λ b. cond b (option_map seen (earlier_home (code t k (sign_of m)) (first_home C (Some y.0)))) None) away
     ])
 

@@ -11,8 +11,8 @@ use Rattle.vpf_wing.specs.Links.{DartLinks, links_of}
 use Rattle.vpf_follow.specs.Following.{is_home, follow, follows_to, first_home, home_copy, library_map}
 use Rattle.vpf_follow.specs.Sided.{HasFollowers}
 use Rattle.vpf_follow.specs.Laws.{HomesExist}
-use Rattle.vpf_follow.specs.DartLaws.{both_ways, flip-flip, flip-apart, dart_bound, darts-below, darts-stand, found-passes, found-some}
-use Rattle.vpf_follow.specs.FollowLaws.{home_has, follow_home, home_self, moves, stays, next_apart}
+use Rattle.vpf_follow.specs.DartLaws.{never_both, flip-flip, flip-apart, dart_bound, darts-below, darts-stand, found-passes, found-some}
+use Rattle.vpf_follow.specs.FollowLaws.{home_has, follow_home, home_self, home_moves, away_stays, next_apart}
 use Rattle.vpf_follow.specs.TileLaws.{options-same, same-options}
 
 flip_below : (n x : ℕ) → x < 2 * n → flip x < 2 * n
@@ -23,7 +23,7 @@ same_side : (a b n : ℕ) → (a < n → b < n) → (b < n → a < n) → ltb a 
 same_side a b n f g = elim (cases_Bool (ltb a n)) [
   | inl t ↦ t ∙ sym (lt-ltb b n (f (ltb-true a n t)))
   | inr u ↦ (elim (cases_Bool (ltb b n)) [
-    | inl v ↦ absurd (both_ways (ltb a n) (lt-ltb a n (g (ltb-true b n v))) u)
+    | inl v ↦ absurd (never_both (ltb a n) (lt-ltb a n (g (ltb-true b n v))) u)
     | inr w ↦ u ∙ sym w
   ])
 ]
@@ -34,14 +34,14 @@ plain_map L = record { has = λ d. true; next = (library_map (links_of L)).next;
 
 next_below : (L : Library) → HasFollowers (links_of L) → (d : ℕ) → d < dart_bound L → (library_map (links_of L)).next d < dart_bound L
 next_below L a d lt = elim (cases_Bool (is_home (links_of L) d)) [
-  | inl h ↦ darts-below L ((library_map (links_of L)).next d) (home_has (links_of L) ((library_map (links_of L)).next d) (moves (links_of L) a d h).home)
-  | inr g ↦ subst (λ z. z < dart_bound L) (sym (stays (links_of L) d g)) lt
+  | inl h ↦ darts-below L ((library_map (links_of L)).next d) (home_has (links_of L) ((library_map (links_of L)).next d) (home_moves (links_of L) a d h).home)
+  | inr g ↦ subst (λ z. z < dart_bound L) (sym (away_stays (links_of L) d g)) lt
 ]
 
 next_from : (L : Library) (d : ℕ) → (library_map (links_of L)).next d < dart_bound L → d < dart_bound L
 next_from L d lt = elim (cases_Bool (is_home (links_of L) d)) [
   | inl h ↦ darts-below L d (home_has (links_of L) d h)
-  | inr g ↦ subst (λ z. z < dart_bound L) (stays (links_of L) d g) lt
+  | inr g ↦ subst (λ z. z < dart_bound L) (away_stays (links_of L) d g) lt
 ]
 
 is_plain_map : (L : Library) → HasFollowers (links_of L) → IsMap (plain_map L)
@@ -51,8 +51,8 @@ is_plain_map L a =
       next_apart = next_apart C a;
       next_live = λ d. same_side ((library_map C).next d) d (dart_bound L) (next_from L d) (next_below L a d);
       next_dead = λ d h. elim (cases_Bool (is_home C d)) [
-        | inl t ↦ absurd (both_ways (ltb d (dart_bound L)) (lt-ltb d (dart_bound L) (darts-below L d (home_has C d t))) h)
-        | inr g ↦ stays C d g
+        | inl t ↦ absurd (never_both (ltb d (dart_bound L)) (lt-ltb d (dart_bound L) (darts-below L d (home_has C d t))) h)
+        | inr g ↦ away_stays C d g
       ];
       live_has = λ d h. refl;
       flip_has = λ d h. refl;
@@ -90,9 +90,9 @@ comes_after law L a y hy =
     let z : (z : ℕ) × ((library_map (links_of L)).next z ≡ y) = before_first (library_map C).next y cycle.0 cycle.1 cycle.2 in
     let hz : is_home (links_of L) z.0 ≡ true = elim (cases_Bool (is_home (links_of L) z.0)) [
       | inl h ↦ h
-      | inr g ↦ absurd (both_ways (is_home C z.0) (ap (is_home C) (sym (stays C z.0 g) ∙ z.1) ∙ hy) g)
+      | inr g ↦ absurd (never_both (is_home C z.0) (ap (is_home C) (sym (away_stays C z.0 g) ∙ z.1) ∙ hy) g)
     ] in
-    (z.0, hz, (moves C a z.0 hz).follows ∙ ap (λ o. Some o) z.1)
+    (z.0, hz, (home_moves C a z.0 hz).follows ∙ ap (λ o. Some o) z.1)
 
 -- the first home dart that is followed by y
 record IsFirst (C : DartLinks) (y : ℕ) : Type 0 where

@@ -45,10 +45,10 @@ tile_loops_decide c few = (
       let i : TileOfDart c d = dart-tile c d has in
       let here : loops_finding (tile_in d) i.tables ≡ None = tiles-none loops_finding c none (tile_in d) i.tables i.at in
       let line = row_none (tile_in d) i.tables here (edge_in d) i.from_one i.to_count in
-      subst (λ e. HasTwoFaces e (is_minus d)) (sym i.edge) 
+      subst (λ e. HasTwoFaces e (is_minus d)) (sym i.edge)
       (loop_none (tile_in d) i.tables (edge_in d) (kth (primitives_of i.tables.tables).edges (edge_in d) absent_edge) line (is_minus d)))),
   λ h. tiles-silent loops_finding c (λ t T e.
-  rows_silent t T 1 (edges_of T) (λ i lt. (
+      rows_silent t T 1 (edges_of T) (λ i lt. (
       let k : 1 + i ≡ suc i = omega arith in
       let two : HasTwoFaces (kth (edges_of T) (suc i) absent_edge) false =
       of_row c HasTwoFaces (loops_have (library_of c) h) t T (suc i) false (edge-dart c t T (suc i) false (few t) e (omega arith) (omega arith)) in

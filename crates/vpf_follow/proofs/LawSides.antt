@@ -168,6 +168,6 @@ sides_decide c few = (
       let said = sides_said (tile_in d) i.tables (edge_in d) _ (no_sides (tile_in d) i.tables (edge_in d) _ lines) (is_minus d) in
       subst (λ e. IsSided e (is_minus d)) (sym i.edge) said)),
   λ h. tiles-silent sides_finding c (λ t T e.
-  edges-silent (λ k. side_lines t T k (kth (primitives_of T.tables).edges k absent_edge)) T (λ k low high.
-  sides_silent t T k _ (λ m. of_row c IsSided (sides_have (library_of c) h) t T k m (edge-dart c t T k m (few t) e low high)))),
+      edges-silent (λ k. side_lines t T k (kth (primitives_of T.tables).edges k absent_edge)) T (λ k low high.
+      sides_silent t T k _ (λ m. of_row c IsSided (sides_have (library_of c) h) t T k m (edge-dart c t T k m (few t) e low high)))),
 )

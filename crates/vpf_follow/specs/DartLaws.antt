@@ -7,8 +7,8 @@ use Rattle.vpf_prims.specs.Primitives.{Library, edge_count}
 use Rattle.vpf_wing.specs.Links.{links_of, is_minus, row_darts, tile_darts, only}
 
 -- no test both holds and fails
-pub both_ways : (b : Bool) → b ≡ true → b ≡ false → ⊥
-both_ways b t f = cc
+pub never_both : (b : Bool) → b ≡ true → b ≡ false → ⊥
+never_both b t f = cc
 
 pub none_is_some : {A : Type 0} (y : A) → None ≡ Some y → ⊥
 none_is_some y h = cc
@@ -37,14 +37,14 @@ pub flip-sign : (x : ℕ) → sign_in (flip x) ≢ sign_in x
 unfolding sign_in flip
 flip-sign x e = omega arith
 
-pub signs : (d : ℕ) → (sign_in d ≡ 0) ⊎ (sign_in d ≡ 1)
+pub sign-cases : (d : ℕ) → (sign_in d ≡ 0) ⊎ (sign_in d ≡ 1)
 unfolding sign_in
-signs d = elim (cases_eq (d % 2) 0) [ inl e ↦ inl e | inr ne ↦ inr (omega arith) ]
+sign-cases d = elim (cases_eq (d % 2) 0) [ inl e ↦ inl e | inr ne ↦ inr (omega arith) ]
 
 pub flip-minus : (x : ℕ) → is_minus (flip x) ≡ not (is_minus x)
-flip-minus x = elim (signs x) [
-  | inl e ↦ (elim (signs (flip x)) [ inl f ↦ absurd (flip-sign x (f ∙ sym e)) | inr f ↦ rw (e, f) refl ])
-  | inr e ↦ (elim (signs (flip x)) [ inl f ↦ rw (e, f) refl | inr f ↦ absurd (flip-sign x (f ∙ sym e)) ])
+flip-minus x = elim (sign-cases x) [
+  | inl e ↦ (elim (sign-cases (flip x)) [ inl f ↦ absurd (flip-sign x (f ∙ sym e)) | inr f ↦ rw (e, f) refl ])
+  | inr e ↦ (elim (sign-cases (flip x)) [ inl f ↦ rw (e, f) refl | inr f ↦ absurd (flip-sign x (f ∙ sym e)) ])
 ]
 
 -- the parts of a dart's number
@@ -53,7 +53,7 @@ unfolding code tile_in edge_in sign_in
 code-parts x = omega arith
 
 pub sign-minus : (x : ℕ) → sign_of (is_minus x) ≡ sign_in x
-sign-minus x = elim (signs x) [ inl e ↦ rw e refl | inr e ↦ rw e refl ]
+sign-minus x = elim (sign-cases x) [ inl e ↦ rw e refl | inr e ↦ rw e refl ]
 
 pub code-minus : (x : ℕ) → code (tile_in x) (edge_in x) (sign_of (is_minus x)) ≡ x
 code-minus x = ap (code (tile_in x) (edge_in x)) (sign-minus x) ∙ code-parts x
@@ -84,8 +84,8 @@ pub record IsThere (L : Library) (d : ℕ) : Type 0 where
   pub to_count : edge_in d ≤ edge_count L (tile_in d)
   pub to_last : tile_in d ≤ L.last
 
-pub there : (L : Library) (d : ℕ) → (links_of L).has d ≡ true → IsThere L d
-there L d h =
+pub has-there : (L : Library) (d : ℕ) → (links_of L).has d ≡ true → IsThere L d
+has-there L d h =
     let low = leb 1 (edge_in d) in
     let high = leb (edge_in d) (edge_count L (tile_in d)) in
     let q = and_parts (low && high) (leb (tile_in d) L.last) h in
@@ -106,7 +106,7 @@ there-has L d i =
 -- the other dart of an edge is a dart
 pub flip-has : (L : Library) (x : ℕ) → (links_of L).has x ≡ true → (links_of L).has (flip x) ≡ true
 flip-has L x h =
-    let i : IsThere L x = there L x h in
+    let i : IsThere L x = has-there L x h in
     there-has L (flip x) (record {
       from_one = subst (λ e. 1 ≤ e) (sym (flip-edge x)) i.from_one;
       to_count = subst (λ t. edge_in (flip x) ≤ edge_count L t) (sym (flip-tile x)) (subst (λ e. e ≤ edge_count L (tile_in x)) (sym (flip-edge x)) i.to_count);
@@ -122,7 +122,7 @@ unfolding tile_in
 number_below x last h = omega arith
 
 pub darts-below : (L : Library) (x : ℕ) → (links_of L).has x ≡ true → x < dart_bound L
-darts-below L x h = number_below x L.last (there L x h).to_last
+darts-below L x h = number_below x L.last (has-there L x h).to_last
 
 -- x stands in the list
 abbrev pub stands : ℕ → List ℕ → Bool
@@ -130,7 +130,7 @@ stands x [] = false
 stands x (y ∷ ys) = eqb x y || stands x ys
 
 pub stands-left : (x : ℕ) (xs ys : List ℕ) → stands x xs ≡ true → stands x (xs ++ ys) ≡ true
-stands-left x [] ys h = absurd (both_ways false h refl)
+stands-left x [] ys h = absurd (never_both false h refl)
 stands-left x (z ∷ xs) ys h = elim (or_cases (eqb x z) (stands x xs) h) [
   | inl e ↦ or_left (eqb x z) (stands x (xs ++ ys)) e
   | inr i ↦ or_right (eqb x z) (stands x (xs ++ ys)) (stands-left x xs ys i)
@@ -154,7 +154,7 @@ row_stands t (suc k) e s a b i = elim (cases_eq e (suc k)) [
   | inl same ↦ stands-right (code t e s) (row_darts t k) (code t (suc k) 0 ∷ code t (suc k) 1 ∷ []) (elim i [
     | inl z ↦ or_left (eqb (code t e s) (code t (suc k) 0)) _ (eq-eqb _ _ (ap (λ w. code t w s) same ∙ ap (code t (suc k)) z))
     | inr o ↦ or_right (eqb (code t e s) (code t (suc k) 0)) (eqb (code t e s) (code t (suc k) 1) || false)
-    (or_left (eqb (code t e s) (code t (suc k) 1)) false (eq-eqb _ _ (ap (λ w. code t w s) same ∙ ap (code t (suc k)) o)))
+        (or_left (eqb (code t e s) (code t (suc k) 1)) false (eq-eqb _ _ (ap (λ w. code t w s) same ∙ ap (code t (suc k)) o)))
   ])
 ]
 
@@ -164,16 +164,16 @@ tile_stands edges zero t e s h a b i =
     subst (λ w. stands (code w e s) (row_darts 0 (edges 0)) ≡ true) (sym z) (row_stands 0 (edges 0) e s a (subst (λ w. e ≤ edges w) z b) i)
 tile_stands edges (suc last) t e s h a b i = elim (cases_eq t (suc last)) [
   | inl same ↦ stands-right (code t e s) (tile_darts edges last) (row_darts (suc last) (edges (suc last)))
-  (subst (λ z. stands (code t e s) (row_darts z (edges z)) ≡ true) same (row_stands t (edges t) e s a b i))
+      (subst (λ z. stands (code t e s) (row_darts z (edges z)) ≡ true) same (row_stands t (edges t) e s a b i))
   | inr ne ↦ stands-left (code t e s) (tile_darts edges last) (row_darts (suc last) (edges (suc last))) (tile_stands edges last t e s (omega arith) a b i)
 ]
 
 -- each dart stands in the list of darts
 pub darts-stand : (L : Library) (d : ℕ) → (links_of L).has d ≡ true → stands d (links_of L).darts ≡ true
 darts-stand L d h =
-    let i : IsThere L d = there L d h in
+    let i : IsThere L d = has-there L d h in
     subst (λ z. stands z (links_of L).darts ≡ true) (code-parts d)
-    (tile_stands (edge_count L) L.last (tile_in d) (edge_in d) (sign_in d) i.to_last i.from_one i.to_count (signs d))
+    (tile_stands (edge_count L) L.last (tile_in d) (edge_in d) (sign_in d) i.to_last i.from_one i.to_count (sign-cases d))
 
 -- what stands in the list of a tile's darts is a dart of the tile
 record IsInRow (t n d : ℕ) : Type 0 where
@@ -191,14 +191,14 @@ row_more : (t n d : ℕ) → IsInRow t n d → IsInRow t (suc n) d
 row_more t n d r = let b = r.to_all in record { tile = r.tile; from_one = r.from_one; to_all = omega arith }
 
 row_only : (t n d : ℕ) → n < 2 ^ 24 → stands d (row_darts t n) ≡ true → IsInRow t n d
-row_only t zero d few h = absurd (both_ways false h refl)
+row_only t zero d few h = absurd (never_both false h refl)
 row_only t (suc n) d few h = elim (stands-either d (row_darts t n) (code t (suc n) 0 ∷ code t (suc n) 1 ∷ []) h) [
   | inl a ↦ row_more t n d (row_only t n d (omega arith) a)
   | inr b ↦ (elim (or_cases (eqb d (code t (suc n) 0)) (eqb d (code t (suc n) 1) || false) b) [
     | inl e ↦ row_code t (suc n) (suc n) 0 d (eqb-true d (code t (suc n) 0) e) (omega arith) (omega arith) few (omega arith)
     | inr r ↦ (elim (or_cases (eqb d (code t (suc n) 1)) false r) [
       | inl e ↦ row_code t (suc n) (suc n) 1 d (eqb-true d (code t (suc n) 1) e) (omega arith) (omega arith) few (omega arith)
-      | inr f ↦ absurd (both_ways false f refl)
+      | inr f ↦ absurd (never_both false f refl)
     ])
   ])
 ]
@@ -239,11 +239,11 @@ found-passes p (x ∷ xs) w h = elim (cases_Bool (p x)) [
 ]
 
 pub found-some : (p : ℕ → Bool) (z : ℕ) → p z ≡ true → (xs : List ℕ) → stands z xs ≡ true → (w : ℕ) × (find p xs ≡ Some w)
-found-some p z pz [] s = absurd (both_ways false s refl)
+found-some p z pz [] s = absurd (never_both false s refl)
 found-some p z pz (x ∷ xs) s = elim (cases_Bool (p x)) [
   | inl t ↦ rw t (x, refl)
   | inr f ↦ (elim (or_cases (eqb z x) (stands z xs) s) [
-    | inl e ↦ absurd (both_ways (p x) (ap p (sym (eqb-true z x e)) ∙ pz) f)
+    | inl e ↦ absurd (never_both (p x) (ap p (sym (eqb-true z x e)) ∙ pz) f)
     | inr r ↦ rw f (found-some p z pz xs r)
   ])
 ]

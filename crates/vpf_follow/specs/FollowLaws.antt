@@ -6,7 +6,7 @@ use Rattle.vpf_darts.specs.Darts.{code, tile_in}
 use Rattle.vpf_wing.specs.Links.{Beyond, DartLinks}
 use Rattle.vpf_follow.specs.Following.{is_far_face, is_home, is_outside, is_named, face_name, follow_to, follow, home_copy, library_map}
 use Rattle.vpf_follow.specs.Sided.{HasFollowers}
-use Rattle.vpf_follow.specs.DartLaws.{both_ways, none_is_some, only-passes}
+use Rattle.vpf_follow.specs.DartLaws.{never_both, none_is_some, only-passes}
 
 pub home_has : (C : DartLinks) (d : ℕ) → is_home C d ≡ true → C.has d ≡ true
 home_has C d h = (and_parts (C.has d) (not (is_far_face (C.face d))) h).0
@@ -20,8 +20,8 @@ away_outside C x has away = outside_by (C.has x) (is_far_face (C.face x)) has aw
   where
     outside_by : (a b : Bool) → a ≡ true → (a && not b) ≡ false → (a && b) ≡ true
     outside_by true true h e = refl
-    outside_by true false h e = absurd (both_ways true refl e)
-    outside_by false b h e = absurd (both_ways false h refl)
+    outside_by true false h e = absurd (never_both true refl e)
+    outside_by false b h e = absurd (never_both false h refl)
 
 named_home : (C : DartLinks) (node : ℕ) (face : Option Beyond) (z y : ℕ) → is_named C node face y ≡ true → is_home C y ≡ true
 named_home C node face z y h = (and_parts (is_home C y) _ h).0
@@ -48,23 +48,23 @@ pub record Moves (C : DartLinks) (x : ℕ) : Type 0 where
   pub follows : follow C x ≡ Some ((library_map C).next x)
   pub home : is_home C ((library_map C).next x) ≡ true
 
-pub moves : (C : DartLinks) → HasFollowers C → (x : ℕ) → is_home C x ≡ true → Moves C x
-moves C a x h =
+pub home_moves : (C : DartLinks) → HasFollowers C → (x : ℕ) → is_home C x ≡ true → Moves C x
+home_moves C a x h =
     let f : (e : ℕ) × (follow C x ≡ Some e) = a.follows x (home_has C x h) in
     let e : (library_map C).next x ≡ f.0 = ap (λ b. cond b (unwrap_or (follow C x) x) x) h ∙ ap (λ o. unwrap_or o x) f.1 in
     record { follows = f.1 ∙ ap (λ z. Some z) (sym e); home = ap (is_home C) e ∙ follow_home C x f.0 f.1 }
 
-pub stays : (C : DartLinks) (x : ℕ) → is_home C x ≡ false → (library_map C).next x ≡ x
-stays C x h = ap (λ b. cond b (unwrap_or (follow C x) x) x) h
+pub away_stays : (C : DartLinks) (x : ℕ) → is_home C x ≡ false → (library_map C).next x ≡ x
+away_stays C x h = ap (λ b. cond b (unwrap_or (follow C x) x) x) h
 
 pub next_apart : (C : DartLinks) → HasFollowers C → (d e : ℕ) → (library_map C).next d ≡ (library_map C).next e → d ≡ e
 next_apart C a d e q = elim (cases_Bool (is_home C d)) [
   | inl hd ↦ (elim (cases_Bool (is_home C e)) [
-    | inl he ↦ a.follow_apart d e hd he ((moves C a d hd).follows ∙ ap (λ z. Some z) q ∙ sym (moves C a e he).follows)
-    | inr ne ↦ absurd (both_ways (is_home C e) (ap (is_home C) (sym (stays C e ne)) ∙ ap (is_home C) (sym q) ∙ (moves C a d hd).home) ne)
+    | inl he ↦ a.follow_apart d e hd he ((home_moves C a d hd).follows ∙ ap (λ z. Some z) q ∙ sym (home_moves C a e he).follows)
+    | inr ne ↦ absurd (never_both (is_home C e) (ap (is_home C) (sym (away_stays C e ne)) ∙ ap (is_home C) (sym q) ∙ (home_moves C a d hd).home) ne)
   ])
   | inr nd ↦ (elim (cases_Bool (is_home C e)) [
-    | inl he ↦ absurd (both_ways (is_home C d) (ap (is_home C) (sym (stays C d nd)) ∙ ap (is_home C) q ∙ (moves C a e he).home) nd)
-    | inr ne ↦ sym (stays C d nd) ∙ q ∙ stays C e ne
+    | inl he ↦ absurd (never_both (is_home C d) (ap (is_home C) (sym (away_stays C d nd)) ∙ ap (is_home C) q ∙ (home_moves C a e he).home) nd)
+    | inr ne ↦ sym (away_stays C d nd) ∙ q ∙ away_stays C e ne
   ])
 ]

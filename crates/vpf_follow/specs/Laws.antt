@@ -12,21 +12,21 @@ use Rattle.vpf_follow.specs.SideLines.{sides_finding}
 use Rattle.vpf_follow.specs.FollowLines.{follows_finding}
 
 -- no tile has many edges
-abbrev pub HasFewEdges : CoverageTables → Type 0
-HasFewEdges c = (t : ℕ) → edge_count (library_of c) t < 2 ^ 24
+abbrev pub HasFewEdges : Library → Type 0
+HasFewEdges L = (t : ℕ) → edge_count L t < 2 ^ 24
 
 -- there is no finding on the sides of edges exactly where they name tiles as they should
 abbrev pub SidesDecide : Type 0
-SidesDecide = (c : CoverageTables) → HasFewEdges c → (in_tiles sides_finding c ≡ None) ↔ HasSides (links_of (library_of c))
+SidesDecide = (c : CoverageTables) → HasFewEdges (library_of c) → (in_tiles sides_finding c ≡ None) ↔ HasSides (links_of (library_of c))
 
 -- there is no finding on what follows darts exactly where each is followed, and no two home darts by the same
 abbrev pub FollowersDecide : Type 0
-FollowersDecide = (c : CoverageTables) → HasFewEdges c
+FollowersDecide = (c : CoverageTables) → HasFewEdges (library_of c)
     → (in_tiles (follows_finding (links_of (library_of c))) c ≡ None) ↔ HasFollowers (links_of (library_of c))
 
 -- there is no finding on the loops of the tiles of a coverage exactly where they have two faces
 abbrev pub TileLoopsDecide : Type 0
-TileLoopsDecide = (c : CoverageTables) → HasFewEdges c → (in_tiles loops_finding c ≡ None) ↔ HasLoops (links_of (library_of c))
+TileLoopsDecide = (c : CoverageTables) → HasFewEdges (library_of c) → (in_tiles loops_finding c ≡ None) ↔ HasLoops (links_of (library_of c))
 
 -- what follows a dart is a home dart
 abbrev pub FollowersAreHome : Type 0

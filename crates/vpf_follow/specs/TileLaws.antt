@@ -14,7 +14,7 @@ use Rattle.vpf_prims.specs.Tables.{TileTables}
 use Rattle.vpf_prims.specs.Coverages.{CoverageTables, tile_at, last_tile}
 use Rattle.vpf_wing.specs.Links.{links_of, edge_of_dart}
 use Rattle.vpf_follow.specs.Libraries.{primitives_in, library_of, in_tile, in_tiles, over_edges}
-use Rattle.vpf_follow.specs.DartLaws.{IsThere, there, there-has, none_is_some, both_ways, code-tile, code-edge, sign-small}
+use Rattle.vpf_follow.specs.DartLaws.{IsThere, has-there, there-has, none_is_some, never_both, code-tile, code-edge, sign-small}
 
 -- a line says nothing exactly where its test holds
 pub unless-none : {F : Type 0} (b : Bool) (f : F) → unless b f ≡ None → b ≡ true
@@ -95,7 +95,7 @@ edges-there (Some T) h = (T, refl)
 
 pub dart-tile : (c : CoverageTables) (d : ℕ) → (links_of (library_of c)).has d ≡ true → TileOfDart c d
 dart-tile c d h =
-    let i : IsThere (library_of c) d = there (library_of c) d h in
+    let i : IsThere (library_of c) d = has-there (library_of c) d h in
     let low = i.from_one in
     let high = i.to_count in
     let T : (T : TileTables) × (tile_at c (tile_in d) ≡ Some T) = edges-there (tile_at c (tile_in d)) (omega arith) in
@@ -165,8 +165,8 @@ darts-silent line first c h =
 -- optional numbers are told apart
 pub options-same : (a b : Option ℕ) → option_eq nat_eq a b ≡ true → a ≡ b
 options-same None None h = refl
-options-same None (Some b) h = absurd (both_ways false h refl)
-options-same (Some a) None h = absurd (both_ways false h refl)
+options-same None (Some b) h = absurd (never_both false h refl)
+options-same (Some a) None h = absurd (never_both false h refl)
 options-same (Some a) (Some b) h = ap Some (eqb-true a b h)
 
 pub same-options : (a b : Option ℕ) → a ≡ b → option_eq nat_eq a b ≡ true
