@@ -43,7 +43,8 @@ abbrev HaveCycles : Library → Type 0
 HaveCycles L = (t : ℕ) → has_tables L t ≡ true → HasCycles L t
 
 -- there is no finding on the cycles of the tiles exactly where each has them
-cycles_decide : CyclesDecide → (c : CoverageTables) → IsLibrary (library_of c) → AreNumbered (library_of c) → (in_tiles cycles_finding c ≡ None) ↔ HaveCycles (library_of c)
+cycles_decide : CyclesDecide → (c : CoverageTables) → IsLibrary (library_of c) → AreNumbered (library_of c)
+    → (in_tiles cycles_finding c ≡ None) ↔ HaveCycles (library_of c)
 cycles_decide law c lib numbered =
     let decides : (t : ℕ) (T : TileTables) → tile_at c t ≡ Some T → (cycles_finding t T ≡ None) ↔ HasCycles (library_of c) t = λ t T e.
     law (library_of c) t T (ap primitives_in e) (tile-below c t T e) (lib.few t) (numbered t (tile_has_tables c t T e)) in (
@@ -57,7 +58,8 @@ module _ (laws : LawsBelow) (c : CoverageTables) (lib : IsLibrary (library_of c)
       let C = coverage_links c in
       let v : Option Disagreement = in_tiles inhabited_finding c in
       let w : Option Disagreement = in_tiles (carried_finding (library_of c)) c or in_tiles inhabited_finding c in
-      let x : Option Disagreement = in_tiles (rounds_finding (coverage_links c)) c or in_tiles (carried_finding (library_of c)) c or in_tiles inhabited_finding c in
+      let x : Option Disagreement =
+      in_tiles (rounds_finding (coverage_links c)) c or in_tiles (carried_finding (library_of c)) c or in_tiles inhabited_finding c in
       let p = or-none_both (in_tiles (follows_finding C) c) (in_tiles (homes_finding c) c or x) none in
       let q = or-none_both (in_tiles (homes_finding c) c) x p.1 in
       let r = or-none_both (in_tiles (rounds_finding C) c) w q.1 in
@@ -108,7 +110,8 @@ module _ (laws : LawsBelow) (c : CoverageTables) (lib : IsLibrary (library_of c)
 
   untiled_silent : LibraryAgrees (library_of c) → topology_finding_of false c ≡ None
   untiled_silent h =
-      or-silent (in_tiles loops_finding c) (in_tiles cycles_finding c) ((laws.loops c lib.few).1 h.loops) ((cycles_decide laws.cycles c lib numbered).1 h.cycles)
+      or-silent (in_tiles loops_finding c) (in_tiles cycles_finding c) ((laws.loops c lib.few).1 h.loops)
+      ((cycles_decide laws.cycles c lib numbered).1 h.cycles)
 
 pub agreement_decides : LawsBelow → AgreementDecides
 agreement_decides laws c lib numbered whole = elim (cases_Bool c.is_tiled) [

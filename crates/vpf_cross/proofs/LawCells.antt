@@ -47,7 +47,8 @@ pub none_for_same : (cs : List Col) (xs ys : List Value) → xs ≡ ys → first
 none_for_same cs xs ys e = subst (λ z. first_difference cs xs z ≡ None) e (same_cells cs xs)
 
 -- a row with a cell for each column carries a cell for each column without a role
-pub carries : (roles : List Role) (columns : List Col) (row : Row) → length row ≡ length columns → length (carried_in roles columns row) ≡ length (carried_columns roles columns)
+pub carries : (roles : List Role) (columns : List Col) (row : Row) → length row ≡ length columns
+    → length (carried_in roles columns row) ≡ length (carried_columns roles columns)
 carries roles [] row h = refl
 carries roles (c ∷ cs) [] h = absurd (omega arith)
 carries roles (c ∷ cs) (x ∷ row) h =

@@ -66,7 +66,8 @@ home_there law c f d has = home_has (coverage_links c) (home_copy (coverage_link
 abbrev carried_found : ℕ → TileTables → ℕ → Difference → Disagreement
 carried_found t T k f = in_table (edg_at t T) 5 k f.column f.here f.there
 
-lines_none : HomesExist → (c : CoverageTables) → AreWhole c → HasFollowers (coverage_links c) → (t : ℕ) (T : TileTables) (k : ℕ) (m : Bool) → tile_at c t ≡ Some T
+lines_none : HomesExist → (c : CoverageTables) → AreWhole c → HasFollowers (coverage_links c) → (t : ℕ) (T : TileTables) (k : ℕ) (m : Bool)
+    → tile_at c t ≡ Some T
     → (coverage_links c).has (code t k (sign_of m)) ≡ true → home_lines c t T k m ≡ None → IsOfEdge (coverage_links c) (code t k (sign_of m))
 lines_none law c whole f t T k m e has none =
     let C : DartLinks = coverage_links c in
@@ -74,7 +75,8 @@ lines_none law c whole f t T k m e has none =
     let x = or-none_both (home_flip_line C t T k m) (home_sign_line C t T k m or home_mark_line c t T k m or home_carried_line C t T k m) none in
     let y = or-none_both (home_sign_line C t T k m) (home_mark_line c t T k m or home_carried_line C t T k m) x.1 in
     let z = or-none_both (home_mark_line c t T k m) (home_carried_line C t T k m) y.1 in
-    let same : first_difference (edge_cells T) ((coverage_links c).carried (code t k (sign_of m))) ((coverage_links c).carried (home_copy (coverage_links c) (code t k (sign_of m)))) ≡ None =
+    let same : first_difference (edge_cells T) ((coverage_links c).carried (code t k (sign_of m)))
+    ((coverage_links c).carried (home_copy (coverage_links c) (code t k (sign_of m)))) ≡ None =
     option_map-none (carried_found t T k) (first_difference (edge_cells T) (C.carried d) (C.carried (home_copy C d))) z.1 in
     record {
       flips = eqb-true _ _ (unless-none (eqb (home_copy C (flip (home_copy C d))) (flip d)) _ x.0);
@@ -84,7 +86,8 @@ lines_none law c whole f t T k m e has none =
           (dart_carries c whole t T e (home_copy C d) (home_there law c f d has)) same;
     }
 
-lines_silent : (c : CoverageTables) (t : ℕ) (T : TileTables) (k : ℕ) (m : Bool) → IsOfEdge (coverage_links c) (code t k (sign_of m)) → home_lines c t T k m ≡ None
+lines_silent : (c : CoverageTables) (t : ℕ) (T : TileTables) (k : ℕ) (m : Bool) → IsOfEdge (coverage_links c) (code t k (sign_of m))
+    → home_lines c t T k m ≡ None
 lines_silent c t T k m i =
     let C : DartLinks = coverage_links c in
     let d : ℕ = code t k (sign_of m) in
@@ -99,7 +102,8 @@ outside_none : (c : CoverageTables) (t : ℕ) (T : TileTables) (k : ℕ) (m : Bo
     → is_outside (coverage_links c) (code t k (sign_of m)) ≡ true → home_lines c t T k m ≡ None
 outside_none c t T k m none out = sym (ap (λ b. cond b (home_lines c t T k m) None) out) ∙ none
 
-outside_silent : (c : CoverageTables) (t : ℕ) (T : TileTables) (k : ℕ) (m : Bool) → (is_outside (coverage_links c) (code t k (sign_of m)) ≡ true → home_lines c t T k m ≡ None)
+outside_silent : (c : CoverageTables) (t : ℕ) (T : TileTables) (k : ℕ) (m : Bool)
+    → (is_outside (coverage_links c) (code t k (sign_of m)) ≡ true → home_lines c t T k m ≡ None)
     → outside_lines c t T k m ≡ None
 outside_silent c t T k m h = elim (cases_Bool (is_outside (coverage_links c) (code t k (sign_of m)))) [
   | inl out ↦ ap (λ b. cond b (home_lines c t T k m) None) out ∙ h out
@@ -122,10 +126,12 @@ homes_decide law c few whole f = (
   λ none. has_homes (coverage_links c) (λ d out. (
       let i : TileOfDart c d = dart-tile c d (outside_has (coverage_links c) d out) in
       let line = darts-none (outside_lines c) false c none (tile_in d) i.tables (edge_in d) (is_minus d) i.at i.from_one i.to_count in
-      let r : DartOfEdge c (tile_in d) i.tables (edge_in d) (is_minus d) = edge-dart c (tile_in d) i.tables (edge_in d) (is_minus d) (few (tile_in d)) i.at i.from_one i.to_count in
+      let r : DartOfEdge c (tile_in d) i.tables (edge_in d) (is_minus d) =
+      edge-dart c (tile_in d) i.tables (edge_in d) (is_minus d) (few (tile_in d)) i.at i.from_one i.to_count in
       let out' = subst (λ x. is_outside (coverage_links c) x ≡ true) (sym (code-minus d)) out in
       subst (IsOfEdge (coverage_links c)) (code-minus d)
-      (lines_none law c whole f (tile_in d) i.tables (edge_in d) (is_minus d) i.at r.has (outside_none c (tile_in d) i.tables (edge_in d) (is_minus d) line out')))),
+      (lines_none law c whole f (tile_in d) i.tables (edge_in d) (is_minus d) i.at r.has
+      (outside_none c (tile_in d) i.tables (edge_in d) (is_minus d) line out')))),
   λ h. darts-silent (outside_lines c) false c (λ t T k m e low high.
       outside_silent c t T k m (λ out. lines_silent c t T k m (homes_have (coverage_links c) h (code t k (sign_of m)) out))),
 )

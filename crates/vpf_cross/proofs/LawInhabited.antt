@@ -27,12 +27,14 @@ IsInFace entities n = id_of (kth entities n absent_entity).containing_face ≢ 1
 entities_said : (T : TileTables) (o : Option Grid) → T.tables.end ≡ o → entities_of T ≡ unwrap_or (option_map (rows_said entity_in_row) o) []
 entities_said T o e = ap (λ x. unwrap_or (option_map (rows_said entity_in_row) x) []) e
 
-line_none : (t : ℕ) (T : TileTables) (end : Grid) (n : ℕ) → universe_entity_line t T end n (kth (entities_of T) n absent_entity) ≡ None → IsInFace (entities_of T) n
+line_none : (t : ℕ) (T : TileTables) (end : Grid) (n : ℕ) → universe_entity_line t T end n (kth (entities_of T) n absent_entity) ≡ None
+    → IsInFace (entities_of T) n
 line_none t T end n none =
     let id : ℕ = id_of (kth (entities_of T) n absent_entity).containing_face in
     eqb-false (id_of (kth (entities_of T) n absent_entity).containing_face) 1 (not-true (eqb id 1) (unless-none (not (eqb id 1)) _ none))
 
-line_silent : (t : ℕ) (T : TileTables) (end : Grid) (n : ℕ) → IsInFace (entities_of T) n → universe_entity_line t T end n (kth (entities_of T) n absent_entity) ≡ None
+line_silent : (t : ℕ) (T : TileTables) (end : Grid) (n : ℕ) → IsInFace (entities_of T) n
+    → universe_entity_line t T end n (kth (entities_of T) n absent_entity) ≡ None
 line_silent t T end n h =
     let id : ℕ = id_of (kth (entities_of T) n absent_entity).containing_face in
     unless-true (not (eqb id 1)) _ (not_from_false (eqb id 1) (ne_eqb (id_of (kth (entities_of T) n absent_entity).containing_face) 1 h))
@@ -49,7 +51,8 @@ tile_none t T (Some end) e none (suc i) row =
     let count : length (entities_of T) ≡ length end.rows = ap length (entities_said T (Some end) e) ∙ length-map end.rows (entity_in_row end.head.columns) in
     let high = row.1 in
     let k : i + 1 ≡ suc i = omega arith in
-    let here = over_none (λ i. universe_entity_line t T end (i + 1) (kth (entities_of T) (i + 1) absent_entity)) 0 (length end.rows) none i (omega arith) (omega arith) in
+    let here =
+    over_none (λ i. universe_entity_line t T end (i + 1) (kth (entities_of T) (i + 1) absent_entity)) 0 (length end.rows) none i (omega arith) (omega arith) in
     subst (IsInFace (entities_of T)) k (line_none t T end (i + 1) here)
 
 tile_silent : (t : ℕ) (T : TileTables) (o : Option Grid) → T.tables.end ≡ o → ((n : ℕ) → IsRowOf (length (entities_of T)) n → IsInFace (entities_of T) n)

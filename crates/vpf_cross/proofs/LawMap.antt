@@ -37,10 +37,11 @@ is_map law L a h =
       live_has = λ d home. home;
       flip_has = turned;
       flip_live = λ d home. turned d home ∙ sym home;
-      flip_flip = λ d home. flip_is C ((library_map C).flip d) (turned d home) ∙ ap (λ z. home_copy C (flip z)) (flip_is C d home) ∙ (elim (cases_Bool (is_home C (flip d))) [
-        | inl there ↦ ap (λ z. home_copy C (flip z)) (home_self C (flip d) there) ∙ ap (home_copy C) (flip-flip d) ∙ home_self C d home
-        | inr g ↦ h.flips (flip d) (away_outside C (flip d) (has d home) g) ∙ flip-flip d
-      ]);
+      flip_flip = λ d home. flip_is C ((library_map C).flip d) (turned d home) ∙ ap (λ z. home_copy C (flip z)) (flip_is C d home) ∙
+          (elim (cases_Bool (is_home C (flip d))) [
+            | inl there ↦ ap (λ z. home_copy C (flip z)) (home_self C (flip d) there) ∙ ap (home_copy C) (flip-flip d) ∙ home_self C d home
+            | inr g ↦ h.flips (flip d) (away_outside C (flip d) (has d home) g) ∙ flip-flip d
+          ]);
       flip_apart = λ d home e. flip-sign d (sym (same_sign C h (flip d) (has d home)) ∙ ap sign_in (sym (flip_is C d home) ∙ e));
     }
 

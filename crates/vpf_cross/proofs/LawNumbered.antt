@@ -24,7 +24,8 @@ pub tile_has_tables : (c : CoverageTables) (t : ℕ) (T : TileTables) → tile_a
 tile_has_tables c t T e = ap (λ o. is_there (primitives_in o)) e
 
 -- the row of a dart
-pub dart_row : (c : CoverageTables) → AreNumbered (library_of c) → (d : ℕ) → (links_of (library_of c)).has d ≡ true → (T : TileTables) → tile_at c (tile_in d) ≡ Some T
+pub dart_row : (c : CoverageTables) → AreNumbered (library_of c) → (d : ℕ) → (links_of (library_of c)).has d ≡ true → (T : TileTables)
+    → tile_at c (tile_in d) ≡ Some T
     → IsEdgeOf (library_of c) (tile_in d) (edge_in d) (edge_of_dart (library_of c) d)
 dart_row c numbered d has T e =
     let i : IsThere (library_of c) d = has-there (library_of c) d has in
@@ -37,7 +38,8 @@ pub record GoesOn (L : Library) (count : ℕ → ℕ) (t : ℕ) (r : Triplet) (p
   pub has : has_tables L p.tile ≡ true
   pub row : IsRowOf (count p.tile) p.id
 
-pub cross_on : (L : Library) (count : ℕ → ℕ) (t low : ℕ) (r : Triplet) (p : Beyond) → 1 ≤ low → IsCross L count t low r → (link_of r).out ≡ Some p → GoesOn L count t r p
+pub cross_on : (L : Library) (count : ℕ → ℕ) (t low : ℕ) (r : Triplet) (p : Beyond) → 1 ≤ low → IsCross L count t low r → (link_of r).out ≡ Some p
+    → GoesOn L count t r p
 cross_on L count t low r p one c out =
     let is : id_of r ≡ c.id = ap id_of c.is in
     let same : Some (record { tile = c.tile; id = c.ext }) ≡ Some p = sym (ap (λ (x : Triplet). (link_of x).out) c.is) ∙ out in

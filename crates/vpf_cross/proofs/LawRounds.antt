@@ -1,5 +1,5 @@
 -- There is no finding on turning exactly where the tiles turn about their nodes as the whole coverage does.
-use Rattle.std.proofs.Common.{◌≡◌, ℕ, zero, suc, ◌+◌, ◌<◌, Bool, true, false, eqb, ◌&&◌, refl, sym, ap, ◌∙◌, subst, inl, inr, ◌⊎◌, arith, Option, Some, None, length}
+use Rattle.std.proofs.Common.{◌≡◌, ℕ, zero, suc, ◌+◌, ◌<◌, Bool, true, false, eqb, ◌&&◌, refl, sym, ap, ◌∙◌, subst, inl, inr, arith, Option, Some, None, length}
 use Rattle.std.proofs.lemmas.Bool.{and_parts, and_from, eqb-true, eq-eqb}
 use Rattle.vpf_darts.specs.Darts.{code, tile_in, edge_in, sign_of, flip}
 use Rattle.vpf_darts.specs.Laws.{DartLiesOnCycle}
@@ -10,7 +10,7 @@ use Rattle.vpf_wing.specs.Links.{DartLinks, links_of, is_minus, local_next}
 use Rattle.vpf_follow.specs.Libraries.{library_of}
 use Rattle.vpf_follow.specs.Following.{is_home, follow, home_copy}
 use Rattle.vpf_follow.specs.Laws.{HasFewEdges, HomesExist}
-use Rattle.vpf_follow.specs.DartLaws.{none_is_some, same_some, code-minus, darts-stand, stands-has, found-passes, found-some}
+use Rattle.vpf_follow.specs.DartLaws.{some-or-none, none_is_some, same_some, code-minus, darts-stand, stands-has, found-passes, found-some}
 use Rattle.vpf_follow.specs.TileLaws.{TileOfDart, dart-tile, DartOfEdge, edge-dart, unless-none, unless-true, darts-none, darts-silent}
 use Rattle.vpf_follow.specs.FollowLaws.{follow_home}
 use Rattle.vpf_cross.specs.HomeLines.{coverage_links}
@@ -22,10 +22,6 @@ use Rattle.vpf_cross.proofs.LawWalks.{after}
 use Rattle.vpf_cross.proofs.LawTurns.{Agreed, turning, follow_turn, turns_home, is_last_turn, IsLastTurn, last_turn, WalkRound, walk_round}
 use Rattle.vpf_cross.proofs.LawMap.{is_map}
 use Rattle.vpf_cross.proofs.LawUnique.{one_copy}
-
-some_or_none : (o : Option ℕ) → ((x : ℕ) × (o ≡ Some x)) ⊎ (o ≡ None)
-some_or_none None = inr refl
-some_or_none (Some x) = inl (x, refl)
 
 -- the test of a copy in a tile
 abbrev tests_copy : DartLinks → (t y e : ℕ) → Bool
@@ -48,11 +44,12 @@ found_copy c few t y e h =
     record { has = stands-has (library_of c) few e p.1; tile = eqb-true _ _ q.0; home = eqb-true _ _ q.1 }
 
 -- the first copy that is found is the first there is
-first_is : (c : CoverageTables) → HasFewEdges (library_of c) → (t n x e : ℕ) → first_copy (coverage_links c) t n (Some x) ≡ Some e → (k : ℕ) × IsFirstCopy (coverage_links c) t k x e
+first_is : (c : CoverageTables) → HasFewEdges (library_of c) → (t n x e : ℕ) → first_copy (coverage_links c) t n (Some x) ≡ Some e
+    → (k : ℕ) × IsFirstCopy (coverage_links c) t k x e
 first_is c few t zero x e h = absurd (none_is_some e h)
 first_is c few t (suc n) x e h =
     let C : DartLinks = coverage_links c in
-    elim (some_or_none (copy_in_tile C t x)) [
+    elim (some-or-none (copy_in_tile C t x)) [
       | inl v ↦ (
           let h' = rw v.1 at h in
           let same : v.0 ≡ e = same_some v.0 e h' in
@@ -74,7 +71,8 @@ first_is c few t (suc n) x e h =
     no_copy none z copy = let w = copy_found (library_of c) t x z copy in none_is_some w.0 (sym none ∙ w.1)
 
 -- there are no two first copies
-first_same : (C : DartLinks) (t : ℕ) → ((d e x : ℕ) → IsCopy C t d e → IsCopy C t d x → e ≡ x) → (j k d e x : ℕ) → IsFirstCopy C t j d e → IsFirstCopy C t k d x → e ≡ x
+first_same : (C : DartLinks) (t : ℕ) → ((d e x : ℕ) → IsCopy C t d e → IsCopy C t d x → e ≡ x) → (j k d e x : ℕ) → IsFirstCopy C t j d e
+    → IsFirstCopy C t k d x → e ≡ x
 first_same C t one zero zero d e x a b = one d e x a b
 first_same C t one zero (suc k) d e x a b = absurd (b.0 e a)
 first_same C t one (suc j) zero d e x a b = absurd (a.0 x b)
@@ -92,11 +90,12 @@ walk_finds L a t zero k x w lt home h = absurd (omega arith)
 walk_finds L a t (suc n) zero x w lt home h = (w, rw h refl)
 walk_finds L a t (suc n) (suc k) x w lt home h =
     let C : DartLinks = links_of L in
-    elim (some_or_none (copy_in_tile C t x)) [
+    elim (some-or-none (copy_in_tile C t x)) [
       | inl v ↦ (v.0, rw v.1 refl)
       | inr none ↦ (
           let m = is_map a.exist L a.follows a.homes in
-          let r : (e : ℕ) × (first_copy (links_of L) t n (Some (turning L x)) ≡ Some e) = walk_finds L a t n k (turning L x) w (omega arith) (turns_home L m 1 x home) h in
+          let r : (e : ℕ) × (first_copy (links_of L) t n (Some (turning L x)) ≡ Some e) =
+          walk_finds L a t n k (turning L x) w (omega arith) (turns_home L m 1 x home) h in
           (r.0, rw none (ap (first_copy C t n) (follow_turn L a x home) ∙ r.1)))
     ]
 
@@ -112,7 +111,8 @@ finds law L a d y has f =
     let w : (w : ℕ) × (copy_in_tile (links_of L) (tile_in d) (last_turn L d) ≡ Some w) = copy_found L (tile_in d) (last_turn L d) (flip d) last.copy in
     walk_finds L a (tile_in d) (length C.darts + 1) walk.steps y w.0 (omega arith) home (ap (copy_in_tile C (tile_in d)) walk.comes ∙ w.1)
 
-line_none : (t : ℕ) (T : TileTables) (k : ℕ) (m : Bool) (next copy : Option ℕ) (e w : ℕ) → next ≡ Some e → copy ≡ Some w → first_copy_line t T k m next copy ≡ None → e ≡ w
+line_none : (t : ℕ) (T : TileTables) (k : ℕ) (m : Bool) (next copy : Option ℕ) (e w : ℕ) → next ≡ Some e → copy ≡ Some w
+    → first_copy_line t T k m next copy ≡ None → e ≡ w
 line_none t T k m next copy e w n c none =
     eqb-true e w (unless-none (eqb e w) _ (ap (first_copy_line t T k m (Some e)) (sym c) ∙ ap (λ o. first_copy_line t T k m o copy) (sym n) ∙ none))
 
@@ -125,14 +125,17 @@ line_silent t T k m (Some x) (Some w) e n h = unless-true (eqb x w) _ (eq-eqb x 
 -- the line on a dart
 abbrev line_of : CoverageTables → (t : ℕ) → TileTables → (k : ℕ) → Bool → ℕ → Type 0
 line_of c t T k m d =
-    first_copy_line t T k m (local_next (coverage_links c) d) (first_copy (coverage_links c) t (length (coverage_links c).darts + 1) (follow (coverage_links c) d)) ≡ None
+    first_copy_line t T k m (local_next (coverage_links c) d)
+    (first_copy (coverage_links c) t (length (coverage_links c).darts + 1) (follow (coverage_links c) d)) ≡ None
 
-goes_on_here : DartLiesOnCycle → (c : CoverageTables) → HasFewEdges (library_of c) → Agreed (library_of c) → (t : ℕ) (T : TileTables) (k : ℕ) (m : Bool) (d e : ℕ)
+goes_on_here : DartLiesOnCycle → (c : CoverageTables) → HasFewEdges (library_of c) → Agreed (library_of c)
+    → (t : ℕ) (T : TileTables) (k : ℕ) (m : Bool) (d e : ℕ)
     → tile_in d ≡ t → (coverage_links c).has d ≡ true → local_next (coverage_links c) d ≡ Some e → line_of c t T k m d → GoesOnHere (coverage_links c) d
 goes_on_here law c few a t T k m d e tile has next none =
     let C : DartLinks = coverage_links c in
     let y : (y : ℕ) × (follow (coverage_links c) d ≡ Some y) = a.follows.follows d has in
-    let w : (w : ℕ) × (first_copy (coverage_links c) (tile_in d) (length (coverage_links c).darts + 1) (Some y.0) ≡ Some w) = finds law (library_of c) a d y.0 has y.1 in
+    let w : (w : ℕ) × (first_copy (coverage_links c) (tile_in d) (length (coverage_links c).darts + 1) (Some y.0) ≡ Some w) =
+    finds law (library_of c) a d y.0 has y.1 in
     let copy : first_copy (coverage_links c) t (length (coverage_links c).darts + 1) (follow (coverage_links c) d) ≡ Some w.0 =
     ap (first_copy C t (length C.darts + 1)) y.1 ∙ ap (λ s. first_copy C s (length C.darts + 1) (Some y.0)) (sym tile) ∙ w.1 in
     let same : e ≡ w.0 = line_none t T k m (local_next C d) _ e w.0 next copy none in
@@ -140,7 +143,8 @@ goes_on_here law c few a t T k m d e tile has next none =
     record { followed = y.0; next = w.0; steps = first.0; follows = y.1; goes = next ∙ ap Some same; first = first.1 }
 
 here_silent : (c : CoverageTables) → HasFewEdges (library_of c) → (t : ℕ) (T : TileTables) (k : ℕ) (m : Bool) (d : ℕ) → tile_in d ≡ t
-    → ((y e x : ℕ) → IsCopy (coverage_links c) (tile_in d) y e → IsCopy (coverage_links c) (tile_in d) y x → e ≡ x) → GoesOnHere (coverage_links c) d → line_of c t T k m d
+    → ((y e x : ℕ) → IsCopy (coverage_links c) (tile_in d) y e → IsCopy (coverage_links c) (tile_in d) y x → e ≡ x) → GoesOnHere (coverage_links c) d
+    → line_of c t T k m d
 here_silent c few t T k m d tile one g =
     let C : DartLinks = coverage_links c in
     line_silent t T k m (local_next C d) (first_copy C t (length C.darts + 1) (follow C d)) g.next g.goes (λ w copy. (
@@ -157,7 +161,8 @@ rounds_decide law exist c few numbered cycles sides follows homes =
           let i : TileOfDart c d = dart-tile c d has in
           let line = darts-none (round_line C) false c none (tile_in d) i.tables (edge_in d) (is_minus d) i.at i.from_one i.to_count in
           let line' = subst (line_of c (tile_in d) i.tables (edge_in d) (is_minus d)) (code-minus d) line in
-          let next : (e : ℕ) × (local_next (coverage_links c) d ≡ Some e) = (cycles (tile_in d) (tile_has_tables c (tile_in d) i.tables i.at)).next d (record { has = has; tile = refl }) in
+          let next : (e : ℕ) × (local_next (coverage_links c) d ≡ Some e) =
+          (cycles (tile_in d) (tile_has_tables c (tile_in d) i.tables i.at)).next d (record { has = has; tile = refl }) in
           goes_on_here law c few a (tile_in d) i.tables (edge_in d) (is_minus d) d next.0 refl has next.1 line'),
       λ h. darts-silent (round_line C) false c (λ t T k m e low high. (
           let d : ℕ = code t k (sign_of m) in

@@ -74,7 +74,8 @@ follow_turn L a x h =
     sym copy.follows ∙ (home_moves C a.follows (home_copy C (flip x)) copy.home).follows ∙ ap (λ z. Some ((library_map C).next z)) (sym (flip_is C x h))
 
 -- home darts turn to home darts
-pub turns_home : (L : Library) → IsMap (library_map (links_of L)) → (k x : ℕ) → is_home (links_of L) x ≡ true → is_home (links_of L) (after (turning L) k x) ≡ true
+pub turns_home : (L : Library) → IsMap (library_map (links_of L)) → (k x : ℕ) → is_home (links_of L) x ≡ true
+    → is_home (links_of L) (after (turning L) k x) ≡ true
 unfolding after
 turns_home L m zero x h = h
 turns_home L m (suc k) x h = turns_home L m k (turning L x) (turn_live L m x ∙ h)
@@ -107,7 +108,8 @@ is_last_turn L a d y has f =
     let copy = a.exist L a.follows (flip h) (flip-has L h (home_has C h own.home)) in
     let turned : (library_map (links_of L)).flip (last_turn L d) ≡ home_copy (links_of L) d =
     ap (library_map C).flip (sym (flip_is C h own.home)) ∙ m.flip_flip h own.home in
-    let next : (library_map (links_of L)).next (home_copy (links_of L) d) ≡ y = same_some _ _ (sym (home_moves C a.follows h own.home).follows ∙ own.follows ∙ f) in
+    let next : (library_map (links_of L)).next (home_copy (links_of L) d) ≡ y =
+    same_some _ _ (sym (home_moves C a.follows h own.home).follows ∙ own.follows ∙ f) in
     record {
       home = copy.home;
       turns = ap (library_map C).next turned ∙ next;

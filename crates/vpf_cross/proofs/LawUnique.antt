@@ -25,12 +25,14 @@ only_tile p t e y small (inl same) = ap tile_in same ∙ code-tile t e 0 small (
 only_tile p t e y small (inr same) = ap tile_in same ∙ flip-tile (code t e 0) ∙ code-tile t e 0 small (omega arith)
 
 -- what follows a dart is in the dart's tile, or in the one of its wing's external part
-to_plain : (C : DartLinks) (tile edge node : ℕ) (face w v : Option Beyond) (y : ℕ) → w ≡ None → edge < 2 ^ 32 → follow_to C tile edge node face w v ≡ Some y → tile_in y ≡ tile
+to_plain : (C : DartLinks) (tile edge node : ℕ) (face w v : Option Beyond) (y : ℕ) → w ≡ None → edge < 2 ^ 32 → follow_to C tile edge node face w v ≡ Some y
+    → tile_in y ≡ tile
 to_plain C tile edge node face None v y e small f =
     only_tile (is_named C node face) tile edge y small ((only-passes (is_named C node face) (code tile edge 0) y f).1)
 to_plain C tile edge node face (Some w) v y e small f = absurd (none_is_some w (sym e))
 
-to_out : (C : DartLinks) (tile edge node : ℕ) (face o v : Option Beyond) (w : Beyond) (y : ℕ) → o ≡ Some w → w.id < 2 ^ 32 → follow_to C tile edge node face o v ≡ Some y
+to_out : (C : DartLinks) (tile edge node : ℕ) (face o v : Option Beyond) (w : Beyond) (y : ℕ) → o ≡ Some w → w.id < 2 ^ 32
+    → follow_to C tile edge node face o v ≡ Some y
     → tile_in y ≡ w.tile
 to_out C tile edge node face None v w y e small f = absurd (none_is_some w e)
 to_out C tile edge node face (Some x) None w y e small f = absurd (none_is_some y f)
@@ -68,7 +70,8 @@ part_tile None t h = absurd (none_is_some t h)
 part_tile (Some w) t h = (w, refl, same_some w.tile t h)
 
 -- what the rows of a coverage say of a dart whose face is of another tile, and of one that goes on in its own
-outside_goes : (c : CoverageTables) → HasFewEdges (library_of c) → AreNumbered (library_of c) → HasSides (coverage_links c) → (d y : ℕ) → is_outside (coverage_links c) d ≡ true
+outside_goes : (c : CoverageTables) → HasFewEdges (library_of c) → AreNumbered (library_of c) → HasSides (coverage_links c) → (d y : ℕ)
+    → is_outside (coverage_links c) d ≡ true
     → follow (coverage_links c) d ≡ Some y → tile_in y ≡ tile_in d → ⊥
 outside_goes c few numbered s d y out f same =
     let L : Library = library_of c in
@@ -80,15 +83,18 @@ outside_goes c few numbered s d y out f same =
     let p : (p : Beyond) × (((coverage_links c).face d).out ≡ Some p) = far.1 in
     let beyond : GoesOn (library_of c) (face_count (library_of c)) (tile_in d) (face_by (is_minus d) (edge_of_dart (library_of c) d)) p.0 =
     face_on L (tile_in d) (face_by (is_minus d) (edge_of_dart L d)) p.0 (face_named L (tile_in d) (edge_in d) (edge_of_dart L d) (is_minus d) row) p.1 in
-    let w : (w : Beyond) × (((coverage_links c).wing d).out ≡ Some w) × (w.tile ≡ p.0.tile) = part_tile (C.wing d).out p.0.tile (s.outside_part d out ∙ ap beyond_tile p.1) in
+    let w : (w : Beyond) × (((coverage_links c).wing d).out ≡ Some w) × (w.tile ≡ p.0.tile) =
+    part_tile (C.wing d).out p.0.tile (s.outside_part d out ∙ ap beyond_tile p.1) in
     let on : GoesOn (library_of c) (edge_count (library_of c)) (tile_in d) (wing_by (is_minus d) (edge_of_dart (library_of c) d)) w.0 =
-    reference_on L (edge_count L) (tile_in d) (wing_by (is_minus d) (edge_of_dart L d)) w.0 (wing_named L (tile_in d) (edge_in d) (edge_of_dart L d) (is_minus d) row) w.1 in
+    reference_on L (edge_count L) (tile_in d) (wing_by (is_minus d) (edge_of_dart L d)) w.0
+    (wing_named L (tile_in d) (edge_in d) (edge_of_dart L d) (is_minus d) row) w.1 in
     let most = on.row.1 in
     let fewer : edge_count (library_of c) w.0.tile < 2 ^ 24 = few w.0.tile in
     let small : w.0.id < 2 ^ 32 = omega arith in
     beyond.other (sym w.2 ∙ sym (follow_out C d y w.0 w.1 small f) ∙ same)
 
-inside_goes : (c : CoverageTables) → HasFewEdges (library_of c) → AreNumbered (library_of c) → HasSides (coverage_links c) → (d y : ℕ) → (coverage_links c).has d ≡ true
+inside_goes : (c : CoverageTables) → HasFewEdges (library_of c) → AreNumbered (library_of c) → HasSides (coverage_links c) → (d y : ℕ)
+    → (coverage_links c).has d ≡ true
     → is_inside (coverage_links c) d ≡ true → follow (coverage_links c) d ≡ Some y → tile_in y ≡ tile_in d
 inside_goes c few numbered s d y has own f =
     let L : Library = library_of c in
@@ -96,14 +102,16 @@ inside_goes c few numbered s d y has own f =
     let i : TileOfDart c d = dart-tile c d has in
     let row = dart_row c numbered d has i.tables i.at in
     let here : IsRowOf (edge_count (library_of c) (tile_in d)) ((coverage_links c).wing d).id =
-    reference_here L (edge_count L) (tile_in d) (wing_by (is_minus d) (edge_of_dart L d)) (wing_named L (tile_in d) (edge_in d) (edge_of_dart L d) (is_minus d) row) in
+    reference_here L (edge_count L) (tile_in d) (wing_by (is_minus d) (edge_of_dart L d))
+    (wing_named L (tile_in d) (edge_in d) (edge_of_dart L d) (is_minus d) row) in
     let most = here.1 in
     let fewer : edge_count (library_of c) (tile_in d) < 2 ^ 24 = few (tile_in d) in
     let small : ((coverage_links c).wing d).id < 2 ^ 32 = omega arith in
     follow_plain C d y (s.inside_plain d has own) small f
 
 -- a home dart and an outside dart of one tile aren't copies of one dart
-home_and_outside : (c : CoverageTables) → HasFewEdges (library_of c) → AreNumbered (library_of c) → HasSides (coverage_links c) → Agreed (library_of c) → (e x : ℕ)
+home_and_outside : (c : CoverageTables) → HasFewEdges (library_of c) → AreNumbered (library_of c) → HasSides (coverage_links c) → Agreed (library_of c)
+    → (e x : ℕ)
     → is_home (coverage_links c) e ≡ true → is_outside (coverage_links c) x ≡ true → tile_in e ≡ tile_in x → home_copy (coverage_links c) x ≡ e → ⊥
 home_and_outside c few numbered s a e x home out tile is =
     let L : Library = library_of c in
@@ -127,12 +135,14 @@ home_and_outside c few numbered s a e x home out tile is =
           outside_goes c few numbered s x y.0 out follows (inside_goes c few numbered s e y.0 has own y.1 ∙ tile))
     ]
 
-both_outside : (C : DartLinks) (e x : ℕ) → home_copy C (flip (home_copy C e)) ≡ flip e → home_copy C (flip (home_copy C x)) ≡ flip x → home_copy C e ≡ home_copy C x → e ≡ x
+both_outside : (C : DartLinks) (e x : ℕ) → home_copy C (flip (home_copy C e)) ≡ flip e → home_copy C (flip (home_copy C x)) ≡ flip x
+    → home_copy C e ≡ home_copy C x → e ≡ x
 both_outside C e x fe fx h =
     let same : flip e ≡ flip x = sym fe ∙ ap (λ z. home_copy C (flip z)) h ∙ fx in
     sym (flip-flip e) ∙ ap flip same ∙ flip-flip x
 
-pub one_copy : (c : CoverageTables) → HasFewEdges (library_of c) → AreNumbered (library_of c) → HasSides (coverage_links c) → Agreed (library_of c) → (t d e x : ℕ)
+pub one_copy : (c : CoverageTables) → HasFewEdges (library_of c) → AreNumbered (library_of c) → HasSides (coverage_links c) → Agreed (library_of c)
+    → (t d e x : ℕ)
     → IsCopy (coverage_links c) t d e → IsCopy (coverage_links c) t d x → e ≡ x
 one_copy c few numbered s a t d e x ce cx =
     let C : DartLinks = coverage_links c in

@@ -42,7 +42,8 @@ HomesDecide = (c : CoverageTables) → HasFewEdges (library_of c) → AreWhole c
 -- where the cycles of each tile hold, there is no finding on turning exactly where tiles turn about their nodes as the whole coverage does
 abbrev pub RoundsDecide : Type 0
 RoundsDecide = (c : CoverageTables) → HasFewEdges (library_of c) → AreNumbered (library_of c)
-    → ((t : ℕ) → has_tables (library_of c) t ≡ true → HasCycles (library_of c) t) → HasSides (coverage_links c) → HasFollowers (coverage_links c) → HasHomes (coverage_links c)
+    → ((t : ℕ) → has_tables (library_of c) t ≡ true → HasCycles (library_of c) t) → HasSides (coverage_links c) → HasFollowers (coverage_links c)
+    → HasHomes (coverage_links c)
     → (in_tiles (rounds_finding (coverage_links c)) c ≡ None) ↔ HasRounds (coverage_links c)
 
 -- where sides, followers and home copies are right too, no dart has two copies in a tile

@@ -1,5 +1,5 @@
 -- There is no finding on what follows darts exactly where each is followed, and no two home darts by the same.
-use Rattle.std.proofs.Common.{◌≡◌, ℕ, Bool, true, false, cond, eqb, nat_eq, refl, sym, ap, ◌∙◌, subst, inl, inr, ◌⊎◌, Option, Some, None}
+use Rattle.std.proofs.Common.{◌≡◌, ℕ, Bool, true, false, cond, eqb, nat_eq, refl, sym, ap, ◌∙◌, subst, inl, inr, Option, Some, None}
 use Rattle.std.specs.Prelude.{find}
 use Rattle.std.specs.Option.{option_eq, option_map}
 use Rattle.std.proofs.lemmas.Bool.{cases_Bool, and_parts, and_from, eqb-true, eq-eqb}
@@ -14,13 +14,9 @@ use Rattle.vpf_follow.specs.Following.{is_home, follow, follows_to, first_home, 
 use Rattle.vpf_follow.specs.FollowLines.{at_wing_of, earlier_home, follow_line, follow_line_at}
 use Rattle.vpf_follow.specs.Sided.{HasFollowers}
 use Rattle.vpf_follow.specs.Laws.{FollowersDecide}
-use Rattle.vpf_follow.specs.DartLaws.{same_some, code-minus, darts-stand, found-passes, found-some}
+use Rattle.vpf_follow.specs.DartLaws.{some-or-none, same_some, code-minus, darts-stand, found-passes, found-some}
 use Rattle.vpf_follow.specs.FollowLaws.{home_has}
 use Rattle.vpf_follow.specs.TileLaws.{TileOfDart, dart-tile, DartOfEdge, edge-dart, unless-none, unless-true, darts-none, darts-silent, options-same, same-options}
-
-some_or_none : (o : Option ℕ) → ((x : ℕ) × (o ≡ Some x)) ⊎ (o ≡ None)
-some_or_none None = inr refl
-some_or_none (Some x) = inl (x, refl)
 
 -- a dart is followed, and where it is a home dart no other one is by the same
 record FollowsAlone (C : DartLinks) (d : ℕ) : Type 0 where
@@ -60,7 +56,8 @@ first_is L d y home f =
 earlier_none : (d w : ℕ) (o : Option ℕ) → o ≡ Some w → earlier_home d o ≡ None → w ≡ d
 earlier_none d w o e h = eqb-true w d (unless-none (eqb w d) w (ap (earlier_home d) (sym e) ∙ h))
 
-apart : (L : Library) → ((d : ℕ) → (links_of L).has d ≡ true → FollowsAlone (links_of L) d) → (d e : ℕ) → is_home (links_of L) d ≡ true → is_home (links_of L) e ≡ true
+apart : (L : Library) → ((d : ℕ) → (links_of L).has d ≡ true → FollowsAlone (links_of L) d) → (d e : ℕ) → is_home (links_of L) d ≡ true
+    → is_home (links_of L) e ≡ true
     → follow (links_of L) d ≡ follow (links_of L) e → d ≡ e
 apart L all d e hd he same =
     let x : FollowsAlone (links_of L) d = all d (home_has (links_of L) d hd) in
@@ -80,7 +77,7 @@ has_followers L all = record {
 -- where no two home darts are followed by the same, none comes before a dart that is
 first_silent : (C : DartLinks) → HasFollowers C → (d y : ℕ) → is_home C d ≡ true → follow C d ≡ Some y → earlier_home d (first_home C (Some y)) ≡ None
 unfolding first_home
-first_silent C h d y home f = elim (some_or_none (find (follows_to C (Some y)) C.darts)) [
+first_silent C h d y home f = elim (some-or-none (find (follows_to C (Some y)) C.darts)) [
   | inl w ↦ (
       let p = found-passes (follows_to C (Some y)) C.darts w.0 w.1 in
       let q = and_parts (is_home C w.0) (option_eq nat_eq (follow C w.0) (Some y)) p.0 in
@@ -89,7 +86,8 @@ first_silent C h d y home f = elim (some_or_none (find (follows_to C (Some y)) C
   | inr n ↦ ap (earlier_home d) n
 ]
 
-line_silent : (C : DartLinks) → HasFollowers C → (t : ℕ) (T : TileTables) (k : ℕ) (m : Bool) → C.has (code t k (sign_of m)) ≡ true → follow_line C t T k m ≡ None
+line_silent : (C : DartLinks) → HasFollowers C → (t : ℕ) (T : TileTables) (k : ℕ) (m : Bool) → C.has (code t k (sign_of m)) ≡ true
+    → follow_line C t T k m ≡ None
 line_silent C h t T k m has =
     let d : ℕ = code t k (sign_of m) in
     let y : (y : ℕ) × (follow C (code t k (sign_of m)) ≡ Some y) = h.follows (code t k (sign_of m)) has in

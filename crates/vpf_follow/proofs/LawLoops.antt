@@ -32,7 +32,8 @@ row_none t T none (suc i) low high =
     (subst (λ x. loop_line t T (1 + i) x ≡ None) (get_or-map own_edge (edges_of T) i absent_edge) r)
 
 rows_silent : (t : ℕ) (T : TileTables) (k : ℕ) (rows : List EdgePrimitive)
-    → ((i : ℕ) → i < length rows → loop_line t T (k + i) (own_edge (get_or rows i absent_edge)) ≡ None) → first_of_rows (loop_line t T) k (map own_edge rows) ≡ None
+    → ((i : ℕ) → i < length rows → loop_line t T (k + i) (own_edge (get_or rows i absent_edge)) ≡ None)
+    → first_of_rows (loop_line t T) k (map own_edge rows) ≡ None
 rows_silent t T k [] all = refl
 rows_silent t T k (r ∷ rows) all =
     let e : k + zero ≡ k = omega arith in
@@ -52,5 +53,6 @@ tile_loops_decide c few = (
       let k : 1 + i ≡ suc i = omega arith in
       let two : HasTwoFaces (kth (edges_of T) (suc i) absent_edge) false =
       of_row c HasTwoFaces (loops_have (library_of c) h) t T (suc i) false (edge-dart c t T (suc i) false (few t) e (omega arith) (omega arith)) in
-      subst (λ k. loop_line t T k (own_edge (get_or (edges_of T) i absent_edge)) ≡ None) (sym k) (loop_silent t T (suc i) (kth (edges_of T) (suc i) absent_edge) two)))),
+      subst (λ k. loop_line t T k (own_edge (get_or (edges_of T) i absent_edge)) ≡ None) (sym k)
+      (loop_silent t T (suc i) (kth (edges_of T) (suc i) absent_edge) two)))),
 )

@@ -125,7 +125,8 @@ edge-dart c t T k minus few e low high =
     record {
       has = there-has (library_of c) (code t k (sign_of minus)) (record {
         from_one = subst (λ n. 1 ≤ n) (sym number) low;
-        to_count = subst (λ s. edge_in (code t k (sign_of minus)) ≤ edge_count (library_of c) s) (sym tile) (subst (λ n. n ≤ edge_count (library_of c) t) (sym number) most);
+        to_count = subst (λ s. edge_in (code t k (sign_of minus)) ≤ edge_count (library_of c) s) (sym tile)
+            (subst (λ n. n ≤ edge_count (library_of c) t) (sym number) most);
         to_last = subst (λ s. s ≤ last_tile c) (sym tile) (tile-below c t T e);
       });
       tile = tile;
