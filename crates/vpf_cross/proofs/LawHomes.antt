@@ -27,7 +27,7 @@ use Rattle.vpf_follow.specs.FollowLaws.{home_has, outside_has}
 use Rattle.vpf_cross.specs.Carrying.{Difference, first_difference}
 use Rattle.vpf_cross.specs.HomeLines.{coverage_links, home_flip_line, home_sign_line, home_mark_line, home_carried_line, home_lines, outside_lines}
 use Rattle.vpf_cross.specs.Agreeing.{HasHomes}
-use Rattle.vpf_cross.specs.Laws.{AreWhole, HomesDecide}
+use Rattle.vpf_cross.specs.Laws.{AreWhole, HomesDecide, HomesFlipBack}
 use Rattle.vpf_cross.proofs.LawCells.{none_differ, none_for_same, carries, row_filled, row_said}
 
 -- a dart and its home copy are of one edge
@@ -110,6 +110,17 @@ outside_silent c t T k m h = elim (cases_Bool (is_outside (coverage_links c) (co
   | inr in' ↦ ap (λ b. cond b (home_lines c t T k m) None) in'
 ]
 
+abbrev IsFlippedBack : DartLinks → ℕ → Type 0
+IsFlippedBack C d = home_copy C (flip (home_copy C d)) ≡ flip d
+
+flip_line_none : (c : CoverageTables) (t : ℕ) (T : TileTables) (k : ℕ) (m : Bool) → home_lines c t T k m ≡ None
+    → IsFlippedBack (coverage_links c) (code t k (sign_of m))
+flip_line_none c t T k m none =
+    let C : DartLinks = coverage_links c in
+    let d : ℕ = code t k (sign_of m) in
+    let x = or-none_both (home_flip_line C t T k m) (home_sign_line C t T k m or home_mark_line c t T k m or home_carried_line C t T k m) none in
+    eqb-true _ _ (unless-none (eqb (home_copy C (flip (home_copy C d))) (flip d)) _ x.0)
+
 has_homes : (C : DartLinks) → ((d : ℕ) → is_outside C d ≡ true → IsOfEdge C d) → HasHomes C
 has_homes C all = record {
   flips = λ d out. (all d out).flips;
@@ -135,3 +146,11 @@ homes_decide law c few whole f = (
   λ h. darts-silent (outside_lines c) false c (λ t T k m e low high.
       outside_silent c t T k m (λ out. lines_silent c t T k m (homes_have (coverage_links c) h (code t k (sign_of m)) out))),
 )
+
+pub homes_flip_back : HomesFlipBack
+homes_flip_back c few none d out =
+    let i : TileOfDart c d = dart-tile c d (outside_has (coverage_links c) d out) in
+    let line = darts-none (outside_lines c) false c none (tile_in d) i.tables (edge_in d) (is_minus d) i.at i.from_one i.to_count in
+    let out' = subst (λ x. is_outside (coverage_links c) x ≡ true) (sym (code-minus d)) out in
+    let lines = outside_none c (tile_in d) i.tables (edge_in d) (is_minus d) line out' in
+    subst (IsFlippedBack (coverage_links c)) (code-minus d) (flip_line_none c (tile_in d) i.tables (edge_in d) (is_minus d) lines)

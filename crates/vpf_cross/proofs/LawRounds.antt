@@ -21,7 +21,7 @@ use Rattle.vpf_cross.proofs.LawNumbered.{tile_has_tables}
 use Rattle.vpf_cross.proofs.LawWalks.{after}
 use Rattle.vpf_cross.proofs.LawTurns.{Agreed, turning, follow_turn, turns_home, is_last_turn, IsLastTurn, last_turn, WalkRound, walk_round}
 use Rattle.vpf_cross.proofs.LawMap.{is_map}
-use Rattle.vpf_cross.proofs.LawUnique.{one_copy}
+use Rattle.vpf_cross.proofs.LawUnique.{FlipsAgree, one_copy}
 
 -- the test of a copy in a tile
 abbrev tests_copy : DartLinks → (t y e : ℕ) → Bool
@@ -31,11 +31,12 @@ copy_tested : (C : DartLinks) (t y e : ℕ) → IsCopy C t y e → tests_copy C 
 copy_tested C t y e c = and_from (eqb (tile_in e) t) (eqb (home_copy C e) (home_copy C y)) (eq-eqb _ _ c.tile) (eq-eqb _ _ c.home)
 
 -- where there is a copy, one is found, and what is found is one
-copy_found : (L : Library) (t y e : ℕ) → IsCopy (links_of L) t y e → (w : ℕ) × (copy_in_tile (links_of L) t y ≡ Some w)
+pub copy_found : (L : Library) (t y e : ℕ) → IsCopy (links_of L) t y e → (w : ℕ) × (copy_in_tile (links_of L) t y ≡ Some w)
 unfolding copy_in_tile
 copy_found L t y e c = found-some (tests_copy (links_of L) t y) e (copy_tested (links_of L) t y e c) (links_of L).darts (darts-stand L e c.has)
 
-found_copy : (c : CoverageTables) → HasFewEdges (library_of c) → (t y e : ℕ) → copy_in_tile (coverage_links c) t y ≡ Some e → IsCopy (coverage_links c) t y e
+pub found_copy : (c : CoverageTables) → HasFewEdges (library_of c) → (t y e : ℕ) → copy_in_tile (coverage_links c) t y ≡ Some e
+    → IsCopy (coverage_links c) t y e
 unfolding copy_in_tile
 found_copy c few t y e h =
     let C : DartLinks = coverage_links c in
@@ -156,7 +157,8 @@ here_silent c few t T k m d tile one g =
 pub rounds_decide : DartLiesOnCycle → HomesExist → RoundsDecide
 rounds_decide law exist c few numbered cycles sides follows homes =
     let C : DartLinks = coverage_links c in
-    let a : Agreed (library_of c) = record { exist = exist; follows = follows; homes = homes } in (
+    let a : Agreed (library_of c) = record { exist = exist; follows = follows; homes = homes } in
+    let back : FlipsAgree (library_of c) = record { exist = exist; follows = follows; flips = homes.flips } in (
       λ none d has. (
           let i : TileOfDart c d = dart-tile c d has in
           let line = darts-none (round_line C) false c none (tile_in d) i.tables (edge_in d) (is_minus d) i.at i.from_one i.to_count in
@@ -167,5 +169,5 @@ rounds_decide law exist c few numbered cycles sides follows homes =
       λ h. darts-silent (round_line C) false c (λ t T k m e low high. (
           let d : ℕ = code t k (sign_of m) in
           let r : DartOfEdge c t T k m = edge-dart c t T k m (few t) e low high in
-          here_silent c few t T k m (code t k (sign_of m)) r.tile (λ y e x. one_copy c few numbered sides a (tile_in d) y e x) (h d r.has))),
+          here_silent c few t T k m (code t k (sign_of m)) r.tile (λ y e x. one_copy c few numbered sides back (tile_in d) y e x) (h d r.has))),
     )

@@ -6,19 +6,24 @@ use Rattle.vpf_darts.specs.Darts.{code, tile_in, edge_in, flip}
 use Rattle.vpf_prims.specs.Primitives.{Library, edge_count, face_count}
 use Rattle.vpf_prims.specs.Numbering.{IsRowOf}
 use Rattle.vpf_prims.specs.Coverages.{CoverageTables}
-use Rattle.vpf_wing.specs.Links.{Beyond, Link, DartLinks, edge_of_dart, is_minus, wing_by, face_by}
+use Rattle.vpf_wing.specs.Links.{links_of, Beyond, Link, DartLinks, edge_of_dart, is_minus, wing_by, face_by}
 use Rattle.vpf_follow.specs.Libraries.{library_of}
 use Rattle.vpf_follow.specs.Following.{beyond_tile, is_own_face, is_far_face, is_inside, is_outside, is_home, is_named, face_name, follow_to, follow, home_copy}
-use Rattle.vpf_follow.specs.Sided.{HasSides}
-use Rattle.vpf_follow.specs.Laws.{HasFewEdges}
+use Rattle.vpf_follow.specs.Sided.{HasSides, HasFollowers}
+use Rattle.vpf_follow.specs.Laws.{HasFewEdges, HomesExist}
 use Rattle.vpf_follow.specs.DartLaws.{never_both, none_is_some, same_some, code-tile, flip-flip, flip-tile, flip-has, only-passes}
 use Rattle.vpf_follow.specs.TileLaws.{TileOfDart, dart-tile}
 use Rattle.vpf_follow.specs.FollowLaws.{home_has, home_self, outside_has, away_outside}
 use Rattle.vpf_cross.specs.HomeLines.{coverage_links}
 use Rattle.vpf_cross.specs.Agreeing.{IsCopy}
-use Rattle.vpf_cross.specs.Laws.{AreNumbered}
+use Rattle.vpf_cross.specs.Laws.{AreNumbered, FlipsBack}
 use Rattle.vpf_cross.proofs.LawNumbered.{dart_row, GoesOn, reference_on, reference_here, face_on, wing_named, face_named}
-use Rattle.vpf_cross.proofs.LawTurns.{Agreed}
+
+-- each dart has a home copy, and those of both darts of an edge are of one edge
+pub record FlipsAgree (L : Library) : Type 0 where
+  pub exist : HomesExist
+  pub follows : HasFollowers (links_of L)
+  pub flips : FlipsBack (links_of L)
 
 only_tile : (p : ℕ → Bool) (t e y : ℕ) → e < 2 ^ 32 → (y ≡ code t e 0) ⊎ (y ≡ flip (code t e 0)) → tile_in y ≡ t
 only_tile p t e y small (inl same) = ap tile_in same ∙ code-tile t e 0 small (omega arith)
@@ -110,7 +115,7 @@ inside_goes c few numbered s d y has own f =
     follow_plain C d y (s.inside_plain d has own) small f
 
 -- a home dart and an outside dart of one tile aren't copies of one dart
-home_and_outside : (c : CoverageTables) → HasFewEdges (library_of c) → AreNumbered (library_of c) → HasSides (coverage_links c) → Agreed (library_of c)
+home_and_outside : (c : CoverageTables) → HasFewEdges (library_of c) → AreNumbered (library_of c) → HasSides (coverage_links c) → FlipsAgree (library_of c)
     → (e x : ℕ)
     → is_home (coverage_links c) e ≡ true → is_outside (coverage_links c) x ≡ true → tile_in e ≡ tile_in x → home_copy (coverage_links c) x ≡ e → ⊥
 home_and_outside c few numbered s a e x home out tile is =
@@ -118,7 +123,7 @@ home_and_outside c few numbered s a e x home out tile is =
     let C : DartLinks = coverage_links c in
     let has : (coverage_links c).has e ≡ true = home_has C e home in
     let turned : (coverage_links c).has (flip e) ≡ true = flip-has L e has in
-    let back : home_copy (coverage_links c) (flip e) ≡ flip x = ap (λ z. home_copy C (flip z)) (sym is) ∙ a.homes.flips x out in
+    let back : home_copy (coverage_links c) (flip e) ≡ flip x = ap (λ z. home_copy C (flip z)) (sym is) ∙ a.flips x out in
     elim (cases_Bool (is_home C (flip e))) [
       | inl h ↦ (
           let same : flip e ≡ flip x = sym (home_self C (flip e) h) ∙ back in
@@ -141,7 +146,7 @@ both_outside C e x fe fx h =
     let same : flip e ≡ flip x = sym fe ∙ ap (λ z. home_copy C (flip z)) h ∙ fx in
     sym (flip-flip e) ∙ ap flip same ∙ flip-flip x
 
-pub one_copy : (c : CoverageTables) → HasFewEdges (library_of c) → AreNumbered (library_of c) → HasSides (coverage_links c) → Agreed (library_of c)
+pub one_copy : (c : CoverageTables) → HasFewEdges (library_of c) → AreNumbered (library_of c) → HasSides (coverage_links c) → FlipsAgree (library_of c)
     → (t d e x : ℕ)
     → IsCopy (coverage_links c) t d e → IsCopy (coverage_links c) t d x → e ≡ x
 one_copy c few numbered s a t d e x ce cx =
@@ -155,6 +160,6 @@ one_copy c few numbered s a t d e x ce cx =
       ])
       | inr ae ↦ (elim (cases_Bool (is_home C x)) [
         | inl hx ↦ absurd (home_and_outside c few numbered s a x e hx (away_outside C e ce.has ae) (sym tile) (h ∙ home_self C x hx))
-        | inr ax ↦ both_outside C e x (a.homes.flips e (away_outside C e ce.has ae)) (a.homes.flips x (away_outside C x cx.has ax)) h
+        | inr ax ↦ both_outside C e x (a.flips e (away_outside C e ce.has ae)) (a.flips x (away_outside C x cx.has ax)) h
       ])
     ]

@@ -9,4 +9,5 @@ mod LawWalks
 mod LawTurns
 mod LawUnique
 mod LawRounds
+mod LawCopies
 mod LawAgreement

@@ -1,5 +1,6 @@
 -- What is so of the tiles of every coverage: nothing is found exactly where they agree with each other.
-use Rattle.std.specs.Prelude.{◌≡◌, ◌↔◌, ℕ, true, Some, None, length}
+use Rattle.std.specs.Prelude.{◌≡◌, ◌↔◌, ℕ, true, ◌==◌, ◌&&◌, if◌then◌else◌, Option, Some, None, length}
+use Rattle.vpf_darts.specs.Darts.{tile_in, flip}
 use Rattle.vpf_darts.specs.Maps.{IsMap}
 use Rattle.vpf_prims.specs.Primitives.{Library, has_tables}
 use Rattle.vpf_prims.specs.Numbering.{IsNumbered}
@@ -8,14 +9,15 @@ use Rattle.vpf_prims.specs.Suiting.{carried_columns}
 use Rattle.vpf_prims.specs.Tables.{TileTables}
 use Rattle.vpf_prims.specs.Coverages.{CoverageTables, tile_at}
 use Rattle.vpf_prims.specs.Laws.{AreFilled}
-use Rattle.vpf_wing.specs.Links.{links_of}
+use Rattle.vpf_findings.specs.Firsts.{where_holds}
+use Rattle.vpf_wing.specs.Links.{DartLinks, links_of}
 use Rattle.vpf_wing.specs.WellFormed.{HasCycles}
 use Rattle.vpf_follow.specs.Libraries.{IsLibrary, library_of, in_tiles}
-use Rattle.vpf_follow.specs.Following.{library_map}
+use Rattle.vpf_follow.specs.Following.{is_home, is_outside, home_copy, library_map}
 use Rattle.vpf_follow.specs.Sided.{HasSides, HasFollowers}
 use Rattle.vpf_follow.specs.Laws.{HasFewEdges}
 use Rattle.vpf_cross.specs.HomeLines.{coverage_links, homes_finding}
-use Rattle.vpf_cross.specs.RoundLines.{rounds_finding}
+use Rattle.vpf_cross.specs.RoundLines.{copy_in_tile, rounds_finding}
 use Rattle.vpf_cross.specs.CarriedLines.{carried_finding, inhabited_finding}
 use Rattle.vpf_cross.specs.CrossFinding.{topology_finding}
 use Rattle.vpf_cross.specs.Agreeing.{IsCopy, HasHomes, HasRounds, AreCarried, AreInhabited, LibraryAgrees}
@@ -46,10 +48,38 @@ RoundsDecide = (c : CoverageTables) → HasFewEdges (library_of c) → AreNumber
     → HasHomes (coverage_links c)
     → (in_tiles (rounds_finding (coverage_links c)) c ≡ None) ↔ HasRounds (coverage_links c)
 
--- where sides, followers and home copies are right too, no dart has two copies in a tile
+-- the home copies of both darts of an outside dart's edge are of one edge
+abbrev pub FlipsBack : DartLinks → Type 0
+FlipsBack C = (d : ℕ) → is_outside C d ≡ true → home_copy C (flip (home_copy C d)) ≡ flip d
+
+-- where there is no finding on home copies, those of both darts of an edge are of one edge
+abbrev pub HomesFlipBack : Type 0
+HomesFlipBack = (c : CoverageTables) → HasFewEdges (library_of c) → in_tiles (homes_finding c) c ≡ None → FlipsBack (coverage_links c)
+
+-- the numbers of a tiled coverage are right, its sides and what follows its darts, and the home copies of both darts of an edge
+pub record FlipsInTiles (c : CoverageTables) : Type 0 where
+  pub few : HasFewEdges (library_of c)
+  pub numbered : AreNumbered (library_of c)
+  pub sides : HasSides (coverage_links c)
+  pub follows : HasFollowers (coverage_links c)
+  pub back : FlipsBack (coverage_links c)
+
+-- then no dart has two copies in a tile
 abbrev pub CopiesAreOne : Type 0
-CopiesAreOne = (c : CoverageTables) → HasFewEdges (library_of c) → AreNumbered (library_of c) → HasSides (coverage_links c) → HasFollowers (coverage_links c)
-    → HasHomes (coverage_links c) → (t d e x : ℕ) → IsCopy (coverage_links c) t d e → IsCopy (coverage_links c) t d x → e ≡ x
+CopiesAreOne = (c : CoverageTables) → FlipsInTiles c → (t d e x : ℕ) → IsCopy (coverage_links c) t d e → IsCopy (coverage_links c) t d x → e ≡ x
+
+-- the other dart of z's edge, where it is a copy of y in the tile
+abbrev pub flip_in_tile : DartLinks → (t y z : ℕ) → Option ℕ
+flip_in_tile C t y z = where_holds ((tile_in z == t) && (home_copy C (flip z) == y)) (flip z)
+
+-- the copy of a home dart in a tile: itself, or the other dart of the home copy of its own other dart
+abbrev pub copy_by_flip : DartLinks → ℕ → ℕ → Option ℕ
+copy_by_flip C t y = if tile_in y == t then Some y else flip_in_tile C t y (home_copy C (flip y))
+
+-- and the copy of a home dart in a tile is found by the other dart of its edge
+abbrev pub FlipsGiveCopies : Type 0
+FlipsGiveCopies = (c : CoverageTables) → FlipsInTiles c → (t y : ℕ) → is_home (coverage_links c) y ≡ true
+    → copy_in_tile (coverage_links c) t y ≡ copy_by_flip (coverage_links c) t y
 
 -- there is no finding on carried cells exactly where shared nodes and the universe carry the same everywhere
 abbrev pub CarriedDecides : Type 0

@@ -1,8 +1,8 @@
 //! What is so of every tiled library.
 
 ghost use Rattle.vpf_cross.specs.Example.{TilesAreFound};
-ghost use Rattle.vpf_cross.specs.Laws.{AgreeingHasMap, AgreementDecides, CarriedDecides, CopiesAreOne, HomesDecide};
-ghost use Rattle.vpf_cross.specs.Laws.{InhabitedDecides, RoundsDecide};
+ghost use Rattle.vpf_cross.specs.Laws.{AgreeingHasMap, AgreementDecides, CarriedDecides, CopiesAreOne, FlipsGiveCopies};
+ghost use Rattle.vpf_cross.specs.Laws.{HomesDecide, HomesFlipBack, InhabitedDecides, RoundsDecide};
 
 use vpf_darts::laws::darts_lie_on_cycles;
 use vpf_follow::laws::{followers_decide, homes_exist, sides_decide, tile_loops_decide};
@@ -28,9 +28,22 @@ pub fn homes_decide()
     homes_exist();
 }
 
+/// Where there is no finding on home copies, those of both darts of an outside dart's edge are of one edge.
+pub fn homes_flip_back()
+    ensures { HomesFlipBack }
+{}
+
 /// Where the numbers, the sides and the home copies of a coverage are right, no dart has two copies in a tile.
 pub fn copies_are_one()
     ensures { CopiesAreOne }
+{
+    homes_exist();
+}
+
+/// Then the copy of a home dart in a tile is the dart itself, or else the other dart of the home copy of its own other dart, where that is
+/// in the tile and has the home dart as its home copy.
+pub fn flips_give_copies()
+    ensures { FlipsGiveCopies }
 {
     homes_exist();
 }
