@@ -1,0 +1,13 @@
+mod Example
+mod LawMap
+mod LawCells
+mod LawHomes
+mod LawNumbered
+mod LawCarried
+mod LawInhabited
+mod LawWalks
+mod LawTurns
+mod LawUnique
+mod LawRounds
+mod LawCopies
+mod LawAgreement

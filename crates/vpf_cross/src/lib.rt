@@ -1,0 +1,4 @@
+//! References across the tiles of a coverage.
+#![tactic(auto)]
+
+pub mod laws;

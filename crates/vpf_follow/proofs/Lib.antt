@@ -1,0 +1,5 @@
+mod LawFacts
+mod LawSides
+mod LawLoops
+mod LawFollows
+mod LawHomes

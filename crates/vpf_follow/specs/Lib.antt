@@ -1,0 +1,9 @@
+pub mod Libraries
+pub mod Following
+pub mod Sided
+pub mod SideLines
+pub mod FollowLines
+pub mod DartLaws
+pub mod TileLaws
+pub mod FollowLaws
+pub mod Laws
