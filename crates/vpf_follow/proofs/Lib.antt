@@ -1,2 +1,4 @@
 pub mod DartLemmas
 pub mod HomeLemmas
+pub mod ListLemmas
+pub mod RowLemmas
