@@ -2,3 +2,4 @@ pub mod DartLemmas
 pub mod HomeLemmas
 pub mod ListLemmas
 pub mod RowLemmas
+pub mod CoverageLemmas

@@ -1,5 +1,6 @@
 -- Darts by the rows of their edges.
 use Rattle.std.proofs.Common.{◌≡◌, ℕ, zero, suc, ◌+◌, ◌-◌, ◌^◌, ◌<◌, ◌≤◌, Bool, true, false, not, ◌&&◌, ◌==◌, Option, Some, None, List, [], length, refl, ap, sym, subst, ◌∙◌, arith, inl, inr}
+use mathlib.Core.Bool.{beq}
 use Rattle.std.proofs.lemmas.Bool.{cases_Bool, cases_eq, leb-true, le-leb}
 use Rattle.std.specs.Prelude.{nat_le, if◌then◌else◌, nat_eq}
 use Rattle.std.specs.Option.{option_map, option_eq}
@@ -13,6 +14,19 @@ use Rattle.vpf_wing.specs.Links.{Beyond, Link, DartLinks, links_of, link_of, edg
 use Rattle.vpf_follow.specs.Following.{face_beyond, face_name, follow, follow_links, is_far_face, is_home, is_named, is_outside, same_beyond}
 use Rattle.vpf_follow.specs.Rows.{row_in, row_wing, row_node, row_face, row_is_named}
 use Rattle.vpf_follow.proofs.DartLemmas.{code-tile, code-edge, code-minus, code-flip}
+
+-- booleans that are compared
+pub beq_same : (x y : Bool) → beq x y ≡ true → x ≡ y
+beq_same true true e = refl
+beq_same true false e = absurd cc
+beq_same false true e = absurd cc
+beq_same false false e = refl
+
+pub beq_differ : (x y : Bool) → beq x y ≡ false → x ≡ y → ⊥
+beq_differ true true e = absurd cc
+beq_differ true false e = λ same. absurd cc
+beq_differ false true e = λ same. absurd cc
+beq_differ false false e = absurd cc
 
 -- tiles that have edges are among those of the library
 abbrev pub EndsAtLast : Library → Type 0
