@@ -3,3 +3,4 @@ pub mod HomeLemmas
 pub mod ListLemmas
 pub mod RowLemmas
 pub mod CoverageLemmas
+pub mod EdgeLines

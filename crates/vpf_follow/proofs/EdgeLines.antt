@@ -1,0 +1,28 @@
+-- A loop over the edges of a tile that stops at the first finding.
+use Rattle.std.proofs.Common.{◌≡◌, ℕ, ◌+◌, ◌-◌, ◌<◌, ◌≤◌, Option, Some, None, length, refl, sym, ◌∙◌, arith}
+use Rattle.vpf_findings.specs.Findings.{Disagreement}
+use Rattle.vpf_findings.specs.FirstLaws.{over_end, over_found, over_pass}
+use Rattle.vpf_findings.specs.Firsts.{first_over}
+use Rattle.vpf_prims.specs.Reading.{primitives_of}
+use Rattle.vpf_prims.specs.Tables.{TileTables}
+use Rattle.vpf_follow.specs.Libraries.{over_edges}
+
+-- what is left to say of the edges after k
+abbrev pub from_edge : (ℕ → Option Disagreement) → TileTables → ℕ → Option Disagreement
+from_edge lines T k = first_over (λ i. lines (i + 1)) k (length (primitives_of T.tables).edges - k)
+
+pub edges_begin : (lines : ℕ → Option Disagreement) (T : TileTables) → from_edge lines T 0 ≡ over_edges lines T
+unfolding over_edges
+edges_begin lines T = let whole : length (primitives_of T.tables).edges - 0 ≡ length (primitives_of T.tables).edges = omega arith in rw whole refl
+
+pub edges_pass : (lines : ℕ → Option Disagreement) (T : TileTables) (k : ℕ) → k < length (primitives_of T.tables).edges → lines (k + 1) ≡ None
+    → from_edge lines T k ≡ over_edges lines T → from_edge lines T (k + 1) ≡ over_edges lines T
+edges_pass lines T k h none left = over_pass (λ i. lines (i + 1)) k (length (primitives_of T.tables).edges) h none ∙ left
+
+pub edges_stop : (lines : ℕ → Option Disagreement) (T : TileTables) (k : ℕ) (f : Disagreement) → k < length (primitives_of T.tables).edges → lines (k + 1) ≡ Some f
+    → from_edge lines T k ≡ over_edges lines T → over_edges lines T ≡ Some f
+edges_stop lines T k f h some left = over_found (λ i. lines (i + 1)) k (length (primitives_of T.tables).edges) f f (over_edges lines T) left h some refl
+
+pub edges_end : (lines : ℕ → Option Disagreement) (T : TileTables) (k : ℕ) → length (primitives_of T.tables).edges ≤ k
+    → from_edge lines T k ≡ over_edges lines T → over_edges lines T ≡ None
+edges_end lines T k h left = sym left ∙ over_end (λ i. lines (i + 1)) k (length (primitives_of T.tables).edges) h
