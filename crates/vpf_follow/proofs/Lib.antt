@@ -4,3 +4,4 @@ pub mod ListLemmas
 pub mod RowLemmas
 pub mod CoverageLemmas
 pub mod EdgeLines
+pub mod CheckLemmas

@@ -15,16 +15,16 @@ use Rattle.vpf_follow.specs.Homes.{darts_to, darts_before}
 abbrev pub Begins : List ℕ → List ℕ → Type 0
 Begins xs whole = (rest : List ℕ) × (xs ++ rest ≡ whole)
 
-begins_self : (xs : List ℕ) → Begins xs xs
+pub begins_self : (xs : List ℕ) → Begins xs xs
 begins_self xs = ([], append-nil xs)
 
-begins_more : (xs ys zs : List ℕ) → Begins xs ys → Begins xs (ys ++ zs)
+pub begins_more : (xs ys zs : List ℕ) → Begins xs ys → Begins xs (ys ++ zs)
 begins_more xs ys zs b = (b.0 ++ zs, sym (append_assoc xs b.0 zs) ∙ ap (λ v. v ++ zs) b.1)
 
 begins_both : (xs ys zs : List ℕ) → Begins ys zs → Begins (xs ++ ys) (xs ++ zs)
 begins_both xs ys zs b = (b.0, append_assoc xs ys b.0 ∙ ap (λ v. xs ++ v) b.1)
 
-begins_trans : (xs ys zs : List ℕ) → Begins xs ys → Begins ys zs → Begins xs zs
+pub begins_trans : (xs ys zs : List ℕ) → Begins xs ys → Begins ys zs → Begins xs zs
 begins_trans xs ys zs a b = (a.0 ++ b.0, sym (append_assoc xs a.0 b.0) ∙ ap (λ v. v ++ b.0) a.1 ∙ b.1)
 
 begins_rows : (t k n : ℕ) → k ≤ n → Begins (row_darts t k) (row_darts t n)
@@ -65,7 +65,7 @@ pub to_end : (edges : ℕ → ℕ) (t : ℕ) → darts_to edges t (edges t) ≡ 
 to_end edges zero = refl
 to_end edges (suc t) = refl
 
-All-widen : (m n : ℕ) (xs : List ℕ) → m ≤ n → All (λ x. x < m) xs → All (λ x. x < n) xs
+pub All-widen : (m n : ℕ) (xs : List ℕ) → m ≤ n → All (λ x. x < m) xs → All (λ x. x < n) xs
 All-widen m n xs h all i d low = let below : _ = all i d low in omega arith
 
 All-two : (n x y : ℕ) → x < n → y < n → All (λ z. z < n) (x ∷ y ∷ [])
