@@ -1,8 +1,10 @@
 -- A loop over the edges of a tile that stops at the first finding.
-use Rattle.std.proofs.Common.{◌≡◌, ℕ, ◌+◌, ◌-◌, ◌<◌, ◌≤◌, Option, Some, None, length, refl, sym, ◌∙◌, arith}
-use Rattle.vpf_findings.specs.Findings.{Disagreement}
+use Rattle.std.proofs.Common.{◌≡◌, ℕ, ◌+◌, ◌-◌, ◌<◌, ◌≤◌, Option, Some, None, Err, length, refl, sym, ◌∙◌, arith}
+use Rattle.vpf_findings.specs.declared.errors.FindError.{FindError}
+use Rattle.vpf_findings.specs.declared.errors.FindError.TheVariants as errors
+use Rattle.vpf_findings.specs.Findings.{Disagreement, disagreement_of}
 use Rattle.vpf_findings.specs.FirstLaws.{over_end, over_found, over_pass}
-use Rattle.vpf_findings.specs.Firsts.{first_over}
+use Rattle.vpf_findings.specs.Firsts.{Tells, first_over}
 use Rattle.vpf_prims.specs.Reading.{primitives_of}
 use Rattle.vpf_prims.specs.Tables.{TileTables}
 use Rattle.vpf_follow.specs.Libraries.{over_edges}
@@ -26,3 +28,9 @@ edges_stop lines T k f h some left = over_found (λ i. lines (i + 1)) k (length 
 pub edges_end : (lines : ℕ → Option Disagreement) (T : TileTables) (k : ℕ) → length (primitives_of T.tables).edges ≤ k
     → from_edge lines T k ≡ over_edges lines T → over_edges lines T ≡ None
 edges_end lines T k h left = sym left ∙ over_end (λ i. lines (i + 1)) k (length (primitives_of T.tables).edges) h
+
+-- the same of a call that may want memory
+pub edges_tell : (e : FindError) (lines : ℕ → Option Disagreement) (T : TileTables) (k : ℕ) → k < length (primitives_of T.tables).edges
+    → Tells {V = ℕ} (Err e) (lines (k + 1)) → from_edge lines T k ≡ over_edges lines T → Tells {V = ℕ} (Err e) (over_edges lines T)
+edges_tell (errors.Finding f) lines T k h some left = edges_stop lines T k (disagreement_of f) h some left
+edges_tell errors.NoMemory lines T k h some left = tt

@@ -56,6 +56,11 @@ to_next edges (suc t) k =
     sym (append_assoc (tile_darts edges t) (row_darts (suc t) k) (code (suc t) (suc k) 0 ∷ code (suc t) (suc k) 1 ∷ []))
     ∙ sym (append_assoc (tile_darts edges t ++ row_darts (suc t) k) (code (suc t) (suc k) 0 ∷ []) (code (suc t) (suc k) 1 ∷ []))
 
+-- both darts of an edge are passed
+pub darts_after : (edges : ℕ → ℕ) (t k : ℕ) → 1 ≤ k → darts_before edges t k true ++ code t k 1 ∷ [] ≡ darts_to edges t k
+darts_after edges t zero some = absurd (omega arith)
+darts_after edges t (suc j) some = let z : suc j - 1 ≡ j = omega arith in rw z (sym (to_next edges t j))
+
 -- past the last edge of a tile the next tile begins
 pub to_tile : (edges : ℕ → ℕ) (t : ℕ) → darts_to edges (suc t) 0 ≡ darts_to edges t (edges t)
 to_tile edges zero = append-nil (row_darts 0 (edges 0))
