@@ -1,6 +1,6 @@
 -- The tiles of a coverage, and those of its library.
-use Rattle.std.proofs.Common.{◌≡◌, ℕ, ◌+◌, ◌-◌, ◌<◌, ◌≤◌, Option, Some, None, List, length, get_or, refl, ap, sym, ◌∙◌, arith, inl, inr}
-use Rattle.std.proofs.lemmas.Bool.{cases_Bool, leb-true, leb-false}
+use Rattle.std.proofs.Common.{◌≡◌, ℕ, ◌+◌, ◌-◌, ◌^◌, ◌<◌, ◌≤◌, Option, Some, None, List, length, get_or, refl, ap, sym, ◌∙◌, arith, inl, inr}
+use Rattle.std.proofs.lemmas.Bool.{cases_Bool, cases_eq, leb-true, leb-false}
 use Rattle.std.proofs.lemmas.List.{get_or_past}
 use Rattle.std.specs.Prelude.{nat_le}
 use Rattle.vpf_prims.specs.Coverages.{CoverageTables, last_tile, tile_at}
@@ -8,6 +8,7 @@ use Rattle.vpf_prims.specs.Primitives.{EdgePrimitive, Library, edge_count, edges
 use Rattle.vpf_prims.specs.Reading.{primitives_of}
 use Rattle.vpf_prims.specs.Tables.{TileTables}
 use Rattle.vpf_follow.specs.Libraries.{library_of, primitives_in}
+use Rattle.vpf_follow.specs.Homes.{HasFewEdges}
 use Rattle.vpf_follow.proofs.RowLemmas.{EndsAtLast}
 
 inside : (xs : List (Option TileTables)) (t : ℕ) (T : TileTables) → get_or xs t None ≡ Some T → t < length xs
@@ -33,3 +34,13 @@ edges_are c t T is = ap (λ o. edges_in (primitives_in o)) is
 
 pub no_edges : (c : CoverageTables) (t : ℕ) → tile_at c t ≡ None → edge_count (library_of c) t ≡ 0
 no_edges c t none = ap (λ o. length (edges_in (primitives_in o))) none
+
+-- there are few edges in each tile where there are in each up to the last
+pub few_to_last : (c : CoverageTables) → ((t : ℕ) → t ≤ last_tile c → edge_count (library_of c) t < 2 ^ 24) → HasFewEdges (library_of c)
+few_to_last c few t = elim (cases_Bool (nat_le t (last_tile c))) [
+  | inl low ↦ few t (leb-true t (last_tile c) low)
+  | inr high ↦ elim (cases_eq (edge_count (library_of c) t) 0) [
+    | inl none ↦ rw none (omega arith)
+    | inr some ↦ (let past : last_tile c < t = leb-false t (last_tile c) high in let low : t ≤ last_tile c = ends_at_last c t (omega (arith, some)) in absurd (omega arith))
+  ]
+]
