@@ -1,9 +1,9 @@
 -- A loop over the edges of a tile that stops at the first finding.
-use Rattle.std.proofs.Common.{◌≡◌, ℕ, ◌+◌, ◌-◌, ◌<◌, ◌≤◌, Option, Some, None, Err, length, refl, sym, ◌∙◌, arith}
+use Rattle.std.proofs.Common.{◌≡◌, ℕ, ◌+◌, ◌-◌, ◌<◌, ◌≤◌, Option, Some, None, Err, length, refl, ap, sym, ◌∙◌, arith}
 use Rattle.vpf_findings.specs.declared.errors.FindError.{FindError}
 use Rattle.vpf_findings.specs.declared.errors.FindError.TheVariants as errors
 use Rattle.vpf_findings.specs.Findings.{Disagreement, disagreement_of}
-use Rattle.vpf_findings.specs.FirstLaws.{over_end, over_found, over_pass}
+use Rattle.vpf_findings.specs.FirstLaws.{over_end, over_found, over_none, over_pass}
 use Rattle.vpf_findings.specs.Firsts.{Tells, first_over}
 use Rattle.vpf_prims.specs.Reading.{primitives_of}
 use Rattle.vpf_prims.specs.Tables.{TileTables}
@@ -34,3 +34,10 @@ pub edges_tell : (e : FindError) (lines : ℕ → Option Disagreement) (T : Tile
     → Tells {V = ℕ} (Err e) (lines (k + 1)) → from_edge lines T k ≡ over_edges lines T → Tells {V = ℕ} (Err e) (over_edges lines T)
 edges_tell (errors.Finding f) lines T k h some left = edges_stop lines T k (disagreement_of f) h some left
 edges_tell errors.NoMemory lines T k h some left = tt
+
+-- what is so of the edges where nothing is found in them
+pub edges_none : (lines : ℕ → Option Disagreement) (T : TileTables) (k : ℕ) → 1 ≤ k → k ≤ length (primitives_of T.tables).edges → over_edges lines T ≡ None → lines k ≡ None
+unfolding over_edges
+edges_none lines T k low high none =
+    let back : (k - 1) + 1 ≡ k = omega arith in
+    ap lines (sym back) ∙ over_none (λ i. lines (i + 1)) 0 (length (primitives_of T.tables).edges) none (k - 1) (omega arith) (omega arith)

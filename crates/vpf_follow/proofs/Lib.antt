@@ -5,3 +5,4 @@ pub mod RowLemmas
 pub mod CoverageLemmas
 pub mod EdgeLines
 pub mod CheckLemmas
+pub mod TileLines

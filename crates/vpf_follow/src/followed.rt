@@ -74,9 +74,7 @@ pub fn check_follows<'c, 'a>(
     let darts = count_darts(coverage);
     let mut homes = Homes::new(alloc);
     for t in 0..=coverage.tiles() {
-        if let Some(tile) = coverage.tile(t) {
-            check_tile(coverage, tile, t, &mut homes)?;
-        }
+        check_tile(coverage, t, &mut homes)?;
     }
     Ok(Followed {
         coverage,

@@ -5,7 +5,7 @@ use Rattle.vpf_follow.specs.FollowLines.{follow_lines, follows_finding}
 use Rattle.vpf_follow.specs.Homes.{AreHomes, darts_to}
 use Rattle.vpf_follow.specs.Libraries.{library_of}
 use Rattle.vpf_follow.proofs.EdgeLines.{from_edge}
-use Rattle.vpf_follow.proofs.checking.check_tile.Given as goal
+use Rattle.vpf_follow.proofs.checking.check_edges.Given as goal
 
 abbrev pub invariant-loop-k : goal.invariant-loop-k
 invariant-loop-k l = record {
