@@ -6,3 +6,4 @@ pub mod CoverageLemmas
 pub mod EdgeLines
 pub mod CheckLemmas
 pub mod TileLines
+pub mod FollowedLemmas

@@ -33,7 +33,7 @@ abbrev pub EndsAtLast : Library → Type 0
 EndsAtLast L = (t : ℕ) → 1 ≤ edge_count L t → t ≤ L.last
 
 -- a dart is there where its edge is, in a tile of the library
-has_is : (L : Library) (t k : ℕ) (m : Bool) → k < 2 ^ 32
+pub has_is : (L : Library) (t k : ℕ) (m : Bool) → k < 2 ^ 32
     → (links_of L).has (code t k (sign_of m)) ≡ (nat_le 1 k && nat_le k (edge_count L t) && nat_le t L.last)
 has_is L t k m few = rw (code-tile t k m few, code-edge t k m few) refl
 
