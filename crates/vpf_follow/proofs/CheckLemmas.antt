@@ -6,7 +6,7 @@ use Rattle.std.specs.Prelude.{All, find, if◌then◌else◌}
 use Rattle.std.specs.Option.{option_map}
 use Rattle.vpf_darts.specs.declared.darts.TileDart.{TileDart}
 use Rattle.vpf_darts.specs.Darts.{code, sign_of, tile_dart_code}
-use Rattle.vpf_findings.specs.Findings.{DartSeen, Disagreement}
+use Rattle.vpf_findings.specs.Findings.{DartSeen}
 use Rattle.vpf_prims.specs.Coverages.{CoverageTables, last_tile, tile_at}
 use Rattle.vpf_prims.specs.Lists.{kth}
 use Rattle.vpf_prims.specs.Numbering.{IsRowOf}
@@ -42,8 +42,8 @@ begins_dart edges t (suc j) last false some h low =
     let z : suc j - 1 ≡ j = omega arith in
     let before : List ℕ = darts_to edges t j ++ code t (suc j) 0 ∷ [] in
     rw z (begins_trans before (darts_to edges t (suc j)) (tile_darts edges last)
-      (rw (to_next edges t j) (begins_more before before (code t (suc j) 1 ∷ []) (begins_self before)))
-      (begins_all edges t (suc j) last h low))
+    (rw (to_next edges t j) (begins_more before before (code t (suc j) 1 ∷ []) (begins_self before)))
+    (begins_all edges t (suc j) last h low))
 begins_dart edges t (suc j) last true some h low =
     let z : suc j - 1 ≡ j = omega arith in
     rw z (subst (λ v. Begins v (tile_darts edges last)) (to_next edges t j) (begins_all edges t (suc j) last h low))
@@ -60,8 +60,8 @@ below_dart edges t (suc j) false few some = let z : suc j - 1 ≡ j = omega arit
 below_dart edges t (suc j) true few some =
     let z : suc j - 1 ≡ j = omega arith in
     rw z (All-append (λ x. x < 2 * (2 ^ 32 * t + suc j) + 1) (darts_to edges t j) ((2 * (2 ^ 32 * t + suc j) + 0) ∷ [])
-      (All-widen (2 * (2 ^ 32 * t + suc j) + 0) (2 * (2 ^ 32 * t + suc j) + 1) (darts_to edges t j) (omega arith) (to_below edges t j few))
-      (All-one (2 * (2 ^ 32 * t + suc j) + 1) (2 * (2 ^ 32 * t + suc j) + 0) (omega arith)))
+    (All-widen (2 * (2 ^ 32 * t + suc j) + 0) (2 * (2 ^ 32 * t + suc j) + 1) (darts_to edges t j) (omega arith) (to_below edges t j few))
+    (All-one (2 * (2 ^ 32 * t + suc j) + 1) (2 * (2 ^ 32 * t + suc j) + 0) (omega arith)))
 
 -- what is said of a home dart is said by the first that is kept with the same dart after it
 pub home_line : (C : DartLinks) (t : ℕ) (T : TileTables) (k : ℕ) (m : Bool) (before : List ℕ) (h : Followings) (next : TileDart) → next.edge < 2 ^ 32
@@ -86,7 +86,7 @@ pub said_home : (c : CoverageTables) (T : TileTables) (d : TileDart) (h : Follow
     → is_home (links_of (library_of c)) (tile_dart_code d) ≡ true → follow (links_of (library_of c)) (tile_dart_code d) ≡ Some (tile_dart_code next)
     → AreHomes (links_of (library_of c)) (darts_before (edge_count (library_of c)) d.tile d.edge d.minus) h
     → follow_line (links_of (library_of c)) d.tile T d.edge d.minus
-      ≡ option_map (λ first. at_wing_of d.tile T 4 d.edge d.minus (DartSeen next) (DartSeen first)) (first_followed h next)
+    ≡ option_map (λ first. at_wing_of d.tile T 4 d.edge d.minus (DartSeen next) (DartSeen first)) (first_followed h next)
 said_home c T d h next few is row edges home follows kept =
     let L : Library = library_of c in
     let count : edge_count (library_of c) d.tile ≡ length (primitives_of T.tables).edges = ap length (edges_are c d.tile T is) in

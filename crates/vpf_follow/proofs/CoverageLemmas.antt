@@ -1,10 +1,10 @@
 -- The tiles of a coverage, and those of its library.
-use Rattle.std.proofs.Common.{◌≡◌, ℕ, ◌+◌, ◌-◌, ◌^◌, ◌<◌, ◌≤◌, Option, Some, None, List, length, get_or, refl, ap, sym, ◌∙◌, arith, inl, inr}
+use Rattle.std.proofs.Common.{◌≡◌, ℕ, ◌^◌, ◌<◌, ◌≤◌, Option, Some, None, List, length, get_or, refl, ap, arith, inl, inr}
 use Rattle.std.proofs.lemmas.Bool.{cases_Bool, cases_eq, leb-true, leb-false}
 use Rattle.std.proofs.lemmas.List.{get_or_past}
 use Rattle.std.specs.Prelude.{nat_le}
 use Rattle.vpf_prims.specs.Coverages.{CoverageTables, last_tile, tile_at}
-use Rattle.vpf_prims.specs.Primitives.{EdgePrimitive, Library, edge_count, edges_in, tile_edges}
+use Rattle.vpf_prims.specs.Primitives.{edge_count, edges_in, tile_edges}
 use Rattle.vpf_prims.specs.Reading.{primitives_of}
 use Rattle.vpf_prims.specs.Tables.{TileTables}
 use Rattle.vpf_follow.specs.Libraries.{library_of, primitives_in}

@@ -1,10 +1,10 @@
 -- What follows a dart is a home dart, and in a coverage where nothing disagrees in what follows darts it is there.
-use Rattle.std.proofs.Common.{◌≡◌, ℕ, ◌+◌, ◌-◌, ◌^◌, ◌<◌, ◌≤◌, Bool, true, false, not, ◌&&◌, ◌==◌, Option, Some, None, List, [], ◌∷◌, length, refl, ap, sym, ◌∙◌, arith, inl, inr}
+use Rattle.std.proofs.Common.{◌≡◌, ℕ, ◌^◌, ◌<◌, ◌≤◌, Bool, true, false, ◌&&◌, ◌==◌, Option, Some, None, List, [], ◌∷◌, length, refl, ap, sym, ◌∙◌, arith, inl, inr}
 use Rattle.std.proofs.lemmas.Bool.{cases_Bool, leb-true}
 use Rattle.std.specs.Prelude.{find, if◌then◌else◌, nat_le}
 use Rattle.std.specs.Option.{option_map, option_eq, unwrap_or}
 use Rattle.vpf_darts.specs.declared.darts.TileDart.{TileDart}
-use Rattle.vpf_darts.specs.Darts.{code, flip, sign_of, tile_dart_code, tile_in}
+use Rattle.vpf_darts.specs.Darts.{code, flip, tile_dart_code, tile_in}
 use Rattle.vpf_findings.specs.FirstLaws.{or-none_both}
 use Rattle.vpf_prims.specs.Coverages.{CoverageTables, last_tile, tile_at}
 use Rattle.vpf_prims.specs.Primitives.{Library, edge_count, edges_in}
@@ -98,7 +98,7 @@ is_followed c d few has none nothing =
     let edge = edges_none (follow_lines C d.tile there.0) there.0 d.edge low (rw (← count) high) tile in
     let line : follow_line (links_of (library_of c)) d.tile there.0 d.edge d.minus ≡ None = lines_none C d.tile d.edge there.0 d.minus edge in
     let told : follow_line (links_of (library_of c)) d.tile there.0 d.edge d.minus ≡ follow_line_at (links_of (library_of c)) d.tile there.0 d.edge d.minus None =
-      ap (follow_line_at C d.tile there.0 d.edge d.minus) nothing in
+    ap (follow_line_at C d.tile there.0 d.edge d.minus) nothing in
     none_told (sym line ∙ told)
 
 find_passes : (p : ℕ → Bool) (xs : List ℕ) (x : ℕ) → find p xs ≡ Some x → p x ≡ true

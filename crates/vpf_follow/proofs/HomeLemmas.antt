@@ -1,5 +1,5 @@
 -- The first home dart that a dart follows, by the lists in which home darts and what follows them are kept.
-use Rattle.std.proofs.Common.{◌≡◌, ℕ, zero, suc, ◌+◌, ◌^◌, ◌<◌, Bool, true, false, ◌&&◌, ◌==◌, cond, Option, Some, None, List, [], ◌∷◌, ◌++◌, length, map, refl, ap, sym, subst, ◌∙◌, arith, inl, inr, eq-eqb, ne_eqb, append-nil, add-one, zero-add}
+use Rattle.std.proofs.Common.{◌≡◌, ℕ, suc, ◌+◌, ◌^◌, ◌<◌, Bool, true, false, ◌&&◌, cond, Option, Some, None, List, [], ◌∷◌, ◌++◌, map, refl, ap, sym, ◌∙◌, arith, inl, inr, eq-eqb, ne_eqb, append-nil, zero-add}
 use Rattle.std.proofs.lemmas.Bool.{cases_Bool, cases_eq}
 use Rattle.std.proofs.lemmas.Iterator.Adapters.{position_from-zero}
 use Rattle.std.proofs.lemmas.List.{map-append}
@@ -78,7 +78,7 @@ first_by_place C next few (x ∷ hs) (y ∷ ns) e =
     by : (b : Bool)
         → option_and_then (slice_get (map dart_numbered hs)) (place ((eq-value).it next) ns) ≡ option_map dart_numbered (find (λ z. option_eq nat_eq (follow C z) (Some (tile_dart_code next))) hs)
         → option_and_then (slice_get (dart_numbered x ∷ map dart_numbered hs)) (cond b (Some 0) (option_map suc (place ((eq-value).it next) ns)))
-          ≡ option_map dart_numbered (cond b (Some x) (find (λ z. option_eq nat_eq (follow C z) (Some (tile_dart_code next))) hs))
+        ≡ option_map dart_numbered (cond b (Some x) (find (λ z. option_eq nat_eq (follow C z) (Some (tile_dart_code next))) hs))
     by true h = refl
     by false h = shift (place ((eq-value).it next) ns) ∙ h
       where
@@ -109,18 +109,18 @@ home_put C among h dart next few few' home is kept =
     let named : follower C (tile_dart_code dart) ≡ Some next = ap (option_map dart_numbered) is ∙ ap Some (code-numbered next few') in
     record {
       homes = ap (λ xs. xs ++ dart ∷ []) kept.homes ∙ ap (λ x. map dart_numbered (filter (is_home C) among) ++ x ∷ []) (sym (code-numbered dart few))
-        ∙ sym (map-append dart_numbered (filter (is_home C) among) (tile_dart_code dart ∷ [])) ∙ ap (map dart_numbered) (sym more);
+          ∙ sym (map-append dart_numbered (filter (is_home C) among) (tile_dart_code dart ∷ [])) ∙ ap (map dart_numbered) (sym more);
       followers = map-append Some h.nexts (next ∷ []) ∙ ap (λ xs. xs ++ Some next ∷ []) kept.followers
-        ∙ ap (λ x. map (follower C) (filter (is_home C) among) ++ x ∷ []) (sym named)
-        ∙ sym (map-append (follower C) (filter (is_home C) among) (tile_dart_code dart ∷ [])) ∙ ap (map (follower C)) (sym more);
+          ∙ ap (λ x. map (follower C) (filter (is_home C) among) ++ x ∷ []) (sym named)
+          ∙ sym (map-append (follower C) (filter (is_home C) among) (tile_dart_code dart ∷ [])) ∙ ap (map (follower C)) (sym more);
     }
 
 -- a dart that isn't one is passed
 pub home_passed : (C : DartLinks) (among : List ℕ) (h : Followings) (d : ℕ) → is_home C d ≡ false → AreHomes C among h → AreHomes C (among ++ d ∷ []) h
 home_passed C among h d not_home kept =
     let same : filter (is_home C) (among ++ d ∷ []) ≡ filter (is_home C) among = filter_other (is_home C) among d not_home in
-    record { homes = kept.homes ∙ ap (map dart_numbered) (sym same); followers = kept.followers ∙ ap (map (follower C)) (sym same); }
+    record { homes = kept.homes ∙ ap (map dart_numbered) (sym same); followers = kept.followers ∙ ap (map (follower C)) (sym same) }
 
 -- no dart is passed yet
 pub home_none : (C : DartLinks) → AreHomes C [] (record { darts = []; nexts = [] })
-home_none C = record { homes = refl; followers = refl; }
+home_none C = record { homes = refl; followers = refl }

@@ -1,5 +1,5 @@
 -- The darts of a coverage, of which those before a dart are passed.
-use Rattle.std.proofs.Common.{◌≡◌, ℕ, zero, suc, ◌+◌, ◌-◌, ◌*◌, ◌^◌, ◌<◌, ◌≤◌, Bool, true, false, ◌==◌, Option, Some, None, List, [], ◌∷◌, ◌++◌, length, refl, ap, sym, subst, ◌∙◌, arith, inl, inr, append-nil, append_assoc, eq-eqb, ne_eqb, length-append}
+use Rattle.std.proofs.Common.{◌≡◌, ℕ, zero, suc, ◌+◌, ◌-◌, ◌*◌, ◌^◌, ◌<◌, ◌≤◌, Bool, true, Option, Some, None, List, [], ◌∷◌, ◌++◌, length, refl, ap, sym, ◌∙◌, arith, inl, inr, append-nil, append_assoc, eq-eqb, ne_eqb, length-append}
 use Rattle.std.proofs.lemmas.Bool.{cases_Bool, cases_eq}
 use Rattle.std.specs.Prelude.{All, find}
 use Rattle.std.specs.Option.{option_or}
@@ -139,7 +139,7 @@ first_here C before d e begins below home is =
     let passes : follows_to C (Some e) d ≡ true = rw (home, is) (eq-eqb e e refl) in
     let here : find test (d ∷ begins.0) ≡ Some d = rw passes refl in
     let whole : find test C.darts ≡ option_or (find test before) (Some d) =
-      ap (find test) (sym begins.1 ∙ append_assoc before (d ∷ []) begins.0) ∙ find-append test before (d ∷ begins.0) ∙ ap (option_or (find test before)) here in
+    ap (find test) (sym begins.1 ∙ append_assoc before (d ∷ []) begins.0) ∙ find-append test before (d ∷ begins.0) ∙ ap (option_or (find test before)) here in
     ap (earlier_home d) whole ∙ by (find test before) refl
   where
     by : (o : Option ℕ) → find (follows_to C (Some e)) before ≡ o → earlier_home d (option_or o (Some d)) ≡ o

@@ -1,16 +1,15 @@
 -- Darts by the rows of their edges.
-use Rattle.std.proofs.Common.{◌≡◌, ℕ, zero, suc, ◌+◌, ◌-◌, ◌^◌, ◌<◌, ◌≤◌, Bool, true, false, not, ◌&&◌, ◌==◌, Option, Some, None, List, [], length, refl, ap, sym, subst, ◌∙◌, arith, inl, inr}
+use Rattle.std.proofs.Common.{◌≡◌, ℕ, ◌^◌, ◌<◌, ◌≤◌, Bool, true, false, not, ◌&&◌, ◌==◌, Option, Some, None, refl, ap, sym, ◌∙◌, arith}
 use mathlib.Core.Bool.{beq}
-use Rattle.std.proofs.lemmas.Bool.{cases_Bool, cases_eq, leb-true, le-leb}
-use Rattle.std.specs.Prelude.{nat_le, if◌then◌else◌, nat_eq}
-use Rattle.std.specs.Option.{option_map, option_eq}
-use Rattle.vpf_darts.specs.declared.darts.TileDart.{TileDart}
-use Rattle.vpf_darts.specs.Darts.{code, tile_in, edge_in, sign_of, flip, tile_dart_code}
+use Rattle.std.proofs.lemmas.Bool.{leb-true, le-leb}
+use Rattle.std.specs.Prelude.{nat_le, if◌then◌else◌}
+use Rattle.std.specs.Option.{option_eq}
+use Rattle.vpf_darts.specs.Darts.{code, sign_of}
 use Rattle.vpf_prims.specs.declared.rows.EdgeRow.{EdgeRow}
 use Rattle.vpf_prims.specs.Lists.{kth}
 use Rattle.vpf_prims.specs.Primitives.{EdgePrimitive, Library, absent_edge, tile_edges, edge_count, edge_row_of}
 use Rattle.vpf_prims.specs.References.{id_of}
-use Rattle.vpf_wing.specs.Links.{Beyond, Link, DartLinks, links_of, link_of, edge_of_dart, is_minus, only, wing_by, node_by, face_by, tail_node}
+use Rattle.vpf_wing.specs.Links.{Beyond, Link, DartLinks, links_of, link_of, edge_of_dart, only, wing_by, node_by, face_by, tail_node}
 use Rattle.vpf_follow.specs.Following.{face_beyond, face_name, follow, follow_links, is_far_face, is_home, is_named, is_outside, same_beyond}
 use Rattle.vpf_follow.specs.Rows.{row_in, row_wing, row_node, row_face, row_is_named}
 use Rattle.vpf_follow.proofs.DartLemmas.{code-tile, code-edge, code-minus, code-flip}

@@ -1,5 +1,5 @@
 -- A loop over the tiles of a coverage that stops at the first finding.
-use Rattle.std.proofs.Common.{◌≡◌, ℕ, ◌+◌, ◌-◌, ◌<◌, ◌≤◌, Option, Some, None, Err, refl, ap, sym, ◌∙◌, arith}
+use Rattle.std.proofs.Common.{◌≡◌, ℕ, ◌+◌, ◌-◌, ◌≤◌, Option, Some, None, Err, refl, ap, sym, ◌∙◌, arith}
 use Rattle.vpf_findings.specs.declared.errors.FindError.{FindError}
 use Rattle.vpf_findings.specs.declared.errors.FindError.TheVariants as errors
 use Rattle.vpf_findings.specs.Findings.{Disagreement, disagreement_of}

@@ -1,5 +1,5 @@
 -- The darts of a coverage in their order, and its home darts as they are kept: in their order, and what follows each.
-use Rattle.std.specs.Prelude.{◌≡◌, ℕ, zero, suc, ◌-◌, ◌<◌, ◌^◌, true, false, Bool, if◌then◌else◌, List, [], ◌∷◌, ◌++◌, Option, Some, map, filter, position, slice_get}
+use Rattle.std.specs.Prelude.{◌≡◌, ℕ, zero, suc, ◌-◌, ◌<◌, ◌^◌, true, Bool, if◌then◌else◌, List, [], ◌∷◌, ◌++◌, Option, Some, map, filter, position, slice_get}
 use Rattle.std.specs.Option.{option_map, option_and_then}
 use Rattle.vpf_darts.specs.declared.darts.TileDart.{TileDart}
 use Rattle.vpf_darts.specs.contracts.darts.TileDartPartialEq.TheImpl.{eq-value}

@@ -1,6 +1,6 @@
 -- What a row of edges says of its darts, and which of them are home darts, outside darts, or named by another dart.
-use Rattle.std.specs.Prelude.{ℕ, Bool, true, false, not, ◌&&◌, ◌==◌, if◌then◌else◌, nat_le, Option, Some, None}
-use Rattle.std.specs.Option.{option_eq, option_map}
+use Rattle.std.specs.Prelude.{ℕ, Bool, not, ◌&&◌, ◌==◌, if◌then◌else◌, nat_le, Option, Some, None}
+use Rattle.std.specs.Option.{option_eq}
 use Rattle.vpf_triplet.specs.declared.triplets.Triplet.{Triplet}
 use Rattle.vpf_prims.specs.declared.rows.EdgeRow.{EdgeRow}
 use Rattle.vpf_prims.specs.Lists.{kth}

@@ -8,7 +8,10 @@ ghost use Rattle.vpf_follow.specs.Following.{follow, follow_links, is_home, is_n
 ghost use Rattle.vpf_follow.specs.Homes.{IsDartIn};
 ghost use Rattle.vpf_follow.specs.Libraries.{library_of};
 
-use crate::links::{ExternalPart, Start, begins_at, edge_row, external_part, face, face_name, head_node, is_far_face, wing};
+use crate::links::{
+    ExternalPart, Start, begins_at, edge_row, external_part, face, face_name, head_node,
+    is_far_face, wing,
+};
 use vpf_darts::TileDart;
 use vpf_prims::{Coverage, id_of};
 use vpf_triplet::Triplet;

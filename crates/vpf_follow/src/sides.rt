@@ -58,12 +58,7 @@ fn check_parts<'a>(
 }
 
 /// A side of the edge is in its tile.
-fn check_inside<'a>(
-    tile: &Tile<'a>,
-    number: u32,
-    k: u32,
-    row: &EdgeRow,
-) -> Result<(), Finding<'a>>
+fn check_inside<'a>(tile: &Tile<'a>, number: u32, k: u32, row: &EdgeRow) -> Result<(), Finding<'a>>
     requires edge { IsRowOf (length (primitives_of tile.now.tables).edges) k }
     requires row { row.now ≡ edge_row_of (kth (primitives_of tile.now.tables).edges k absent_edge) }
     ensures { Finds result (inside_line number tile.now k (kth (primitives_of tile.now.tables).edges k absent_edge)) }

@@ -39,7 +39,7 @@ returns-clause-homes c =
     let t = c.args.number in
     let edges : ℕ → ℕ = edge_count (library_of c.args.coverage.now) in
     let count : edge_count (library_of c.args.coverage.now) c.args.number ≡ length (primitives_of c.args.tile.now.tables).edges =
-      ap length (edges_are c.args.coverage.now c.args.number c.args.tile.now c.requires.tile) in
+    ap length (edges_are c.args.coverage.now c.args.number c.args.tile.now c.requires.tile) in
     let all : c.loop-k.k ≡ edge_count (library_of c.args.coverage.now) c.args.number = omega (arith, count, c.edges-k-end.ensures.value) in
     let next : c.args.number + 1 ≡ suc c.args.number = omega arith in
     let same = ap (darts_to (edge_count (library_of c.args.coverage.now)) c.args.number) all ∙ sym (to_tile (edge_count (library_of c.args.coverage.now)) c.args.number) in

@@ -1,4 +1,4 @@
-use Rattle.std.proofs.Common.{◌≡◌, ℕ, suc, ◌+◌, ◌<◌, ◌≤◌, List, ap, sym, subst, ◌∙◌, arith}
+use Rattle.std.proofs.Common.{◌≡◌, ℕ, suc, ◌+◌, ◌≤◌, List, ap, subst, ◌∙◌, arith}
 use Rattle.std.proofs.lemmas.Result.{err_from_is_err_and}
 use Rattle.vpf_prims.specs.Coverages.{last_tile}
 use Rattle.vpf_prims.specs.Primitives.{edge_count}
@@ -45,8 +45,8 @@ invariant_of-result c =
           let next : c.loop-t.t + 1 ≡ suc c.loop-t.t = omega arith in
           let left = tiles_pass rule c.args.coverage.now c.loop-t.t (omega arith) w.in_ok-check_tile.ensures.first c.loop-t.invariant.left in
           let all : darts_to (edge_count (library_of c.args.coverage.now)) (c.loop-t.t + 1) 0 ≡ tile_darts (edge_count (library_of c.args.coverage.now)) (last_tile c.args.coverage.now) =
-            ap (λ t. darts_to (edge_count (library_of c.args.coverage.now)) t 0) next ∙ to_tile (edge_count (library_of c.args.coverage.now)) c.loop-t.t
-            ∙ to_end (edge_count (library_of c.args.coverage.now)) c.loop-t.t ∙ ap (tile_darts (edge_count (library_of c.args.coverage.now))) last in
+          ap (λ t. darts_to (edge_count (library_of c.args.coverage.now)) t 0) next ∙ to_tile (edge_count (library_of c.args.coverage.now)) c.loop-t.t
+          ∙ to_end (edge_count (library_of c.args.coverage.now)) c.loop-t.t ∙ ap (tile_darts (edge_count (library_of c.args.coverage.now))) last in
           record {
             agrees = tiles_end rule c.args.coverage.now (c.loop-t.t + 1) (omega arith) left;
             kept = rw w.homes-is (subst (λ (v : List ℕ). AreHomes (links_of (library_of c.args.coverage.now)) v w.check_tile.new.homes) all w.in_ok-check_tile.ensures.homes);

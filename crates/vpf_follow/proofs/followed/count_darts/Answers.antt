@@ -1,8 +1,7 @@
-use Rattle.std.proofs.Common.{◌≡◌, ℕ, suc, ◌+◌, ◌*◌, ◌^◌, ◌<◌, ◌≤◌, length, ap, sym, subst, ◌∙◌, arith, below_more}
+use Rattle.std.proofs.Common.{◌≡◌, ℕ, suc, ◌+◌, ◌*◌, ◌^◌, ◌<◌, length, ap, ◌∙◌, arith, below_more}
 use Rattle.vpf_prims.specs.Coverages.{last_tile}
 use Rattle.vpf_prims.specs.Primitives.{edge_count}
 use Rattle.vpf_wing.specs.Links.{tile_darts}
-use Rattle.vpf_follow.specs.Homes.{darts_to}
 use Rattle.vpf_follow.specs.Libraries.{library_of}
 use Rattle.vpf_follow.proofs.CoverageLemmas.{few_to_last}
 use Rattle.vpf_follow.proofs.ListLemmas.{length-tiles, to_end, to_tile}
@@ -28,7 +27,7 @@ returns-2-clause-count c =
     let all = ap length (to_tile (edge_count (library_of c.args.coverage.now)) c.loop-t.t ∙ to_end (edge_count (library_of c.args.coverage.now)) c.loop-t.t) in
     let same = c.from.ensures in
     let sum : c.loop-t.darts + 2 * c.from.result ≡ length (tile_darts (edge_count (library_of c.args.coverage.now)) c.loop-t.t) =
-      omega (arith, more, all, same, c.edge_count.ensures.value, c.loop-t.invariant.count) in
+    omega (arith, more, all, same, c.edge_count.ensures.value, c.loop-t.invariant.count) in
     sum ∙ ap (λ t. length (tile_darts (edge_count (library_of c.args.coverage.now)) t)) last
 
 pub returns-2-clause-few : goal.returns-2-clause-few

@@ -1,4 +1,4 @@
-use Rattle.std.proofs.Common.{◌≡◌, ◌<◌, ◌^◌, sym, ap, ◌∙◌, arith}
+use Rattle.std.proofs.Common.{◌<◌, ◌^◌, sym, ap, ◌∙◌, arith}
 use Rattle.vpf_wing.specs.Links.{link_of}
 use Rattle.vpf_follow.specs.Following.{is_far_face}
 use Rattle.vpf_follow.specs.Libraries.{library_of}

@@ -1,4 +1,4 @@
-use Rattle.std.proofs.Common.{◌≡◌, ◌<◌, ◌^◌, Some, sym, ap, ◌∙◌, arith}
+use Rattle.std.proofs.Common.{◌<◌, ◌^◌, Some, sym, ap, ◌∙◌, arith}
 use Rattle.std.specs.Option.{option_map}
 use Rattle.vpf_darts.specs.Darts.{code, sign_of, tile_dart_code}
 use Rattle.vpf_follow.specs.Libraries.{library_of}
@@ -28,4 +28,4 @@ returns c =
     let minus = c.begins_at-minus.ensures in
     ap (λ m. Some (code c.args.tile c.args.edge (sign_of m))) minus
     ∙ sym (only_one (library_of c.args.coverage.now) c.args.tile c.args.edge c.in_ok-row.row start.node start.face (ends_at_last c.args.coverage.now) few (sym c.in_ok-row.ensures)
-      (λ same. beq_differ c.begins_at-plus.result c.begins_at-minus.result c.if-plus-minus.false (plus ∙ same ∙ sym minus)))
+    (λ same. beq_differ c.begins_at-plus.result c.begins_at-minus.result c.if-plus-minus.false (plus ∙ same ∙ sym minus)))

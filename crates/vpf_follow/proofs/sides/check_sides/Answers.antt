@@ -1,4 +1,4 @@
-use Rattle.std.proofs.Common.{◌≡◌, ℕ, ◌<◌, Option, length, arith}
+use Rattle.std.proofs.Common.{ℕ, ◌<◌, Option, length, arith}
 use Rattle.std.proofs.lemmas.Result.{err_from_is_err_and}
 use Rattle.vpf_findings.specs.Findings.{Disagreement}
 use Rattle.vpf_prims.specs.Lists.{kth}
