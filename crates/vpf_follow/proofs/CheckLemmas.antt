@@ -1,5 +1,6 @@
 -- The line on a dart, by the home dart that is kept with the same dart after it.
-use Rattle.std.proofs.Common.{◌≡◌, ℕ, zero, suc, ◌+◌, ◌-◌, ◌*◌, ◌^◌, ◌<◌, ◌≤◌, Bool, true, false, Option, Some, None, List, [], ◌∷◌, ◌++◌, length, refl, ap, sym, subst, ◌∙◌, arith}
+use Rattle.std.proofs.Common.{◌≡◌, ℕ, zero, suc, ◌+◌, ◌-◌, ◌*◌, ◌^◌, ◌<◌, ◌≤◌, Bool, true, false, Option, Some, None, List, [], ◌∷◌, ◌++◌, length, refl, ap}
+use Rattle.std.proofs.Common.{sym, subst, ◌∙◌, arith}
 use Rattle.std.proofs.lemmas.Bool.{le-leb}
 use Rattle.std.proofs.lemmas.List.Elements.{All-append}
 use Rattle.std.specs.Prelude.{All, find, if◌then◌else◌}
@@ -70,13 +71,17 @@ pub home_line : (C : DartLinks) (t : ℕ) (T : TileTables) (k : ℕ) (m : Bool) 
     → follow_line C t T k m ≡ option_map (λ first. at_wing_of t T 4 k m (DartSeen next) (DartSeen first)) (first_followed h next)
 home_line C t T k m before h next few begins below home is kept =
     ap (follow_line_at C t T k m) is
-    ∙ ap (λ b. if b then option_map (λ x. at_wing_of t T 4 k m (number_seen (tile_dart_code next)) (number_seen x)) (earlier_home (code t k (sign_of m)) (first_home C (Some (tile_dart_code next)))) else None) home
-    ∙ ap (option_map (λ x. at_wing_of t T 4 k m (number_seen (tile_dart_code next)) (number_seen x))) (first_here C before (code t k (sign_of m)) (tile_dart_code next) begins below home is)
-    ∙ ap (λ x. option_map (λ y. at_wing_of t T 4 k m (DartSeen x) (number_seen y)) (find (follows_to C (Some (tile_dart_code next))) before)) (code-numbered next few)
+    ∙ ap (λ b. if b then option_map (λ x. at_wing_of t T 4 k m (number_seen (tile_dart_code next)) (number_seen x))
+    (earlier_home (code t k (sign_of m)) (first_home C (Some (tile_dart_code next)))) else None) home
+    ∙ ap (option_map (λ x. at_wing_of t T 4 k m (number_seen (tile_dart_code next)) (number_seen x)))
+    (first_here C before (code t k (sign_of m)) (tile_dart_code next) begins below home is)
+    ∙ ap (λ x. option_map (λ y. at_wing_of t T 4 k m (DartSeen x) (number_seen y)) (find (follows_to C (Some (tile_dart_code next))) before))
+    (code-numbered next few)
     ∙ named (find (follows_to C (Some (tile_dart_code next))) before)
     ∙ ap (option_map (λ first. at_wing_of t T 4 k m (DartSeen next) (DartSeen first))) (sym (first_is C before h next few kept))
   where
-    named : (o : Option ℕ) → option_map (λ x. at_wing_of t T 4 k m (DartSeen next) (number_seen x)) o ≡ option_map (λ first. at_wing_of t T 4 k m (DartSeen next) (DartSeen first)) (option_map dart_numbered o)
+    named : (o : Option ℕ) → option_map (λ x. at_wing_of t T 4 k m (DartSeen next) (number_seen x)) o
+        ≡ option_map (λ first. at_wing_of t T 4 k m (DartSeen next) (DartSeen first)) (option_map dart_numbered o)
     named None = refl
     named (Some x) = refl
 
@@ -95,8 +100,3 @@ said_home c T d h next few is row edges home follows kept =
     (begins_dart (edge_count L) d.tile d.edge (last_tile c) d.minus row.0 high (tile_last c d.tile T is))
     (below_dart (edge_count L) d.tile d.edge d.minus edges row.0)
     home follows kept
-
--- nothing is said of a dart that is followed and isn't a home dart
-pub other_line : (C : DartLinks) (t : ℕ) (T : TileTables) (k : ℕ) (m : Bool) (e : ℕ) → is_home C (code t k (sign_of m)) ≡ false → follow C (code t k (sign_of m)) ≡ Some e
-    → follow_line C t T k m ≡ None
-other_line C t T k m e other is = ap (follow_line_at C t T k m) is ∙ rw other refl

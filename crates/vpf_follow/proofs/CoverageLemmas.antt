@@ -41,6 +41,7 @@ few_to_last c few t = elim (cases_Bool (nat_le t (last_tile c))) [
   | inl low ↦ few t (leb-true t (last_tile c) low)
   | inr high ↦ elim (cases_eq (edge_count (library_of c) t) 0) [
     | inl none ↦ rw none (omega arith)
-    | inr some ↦ (let past : last_tile c < t = leb-false t (last_tile c) high in let low : t ≤ last_tile c = ends_at_last c t (omega (arith, some)) in absurd (omega arith))
+    | inr some ↦ (let past : last_tile c < t = leb-false t (last_tile c) high in let low : t ≤ last_tile c = ends_at_last c t (omega (arith, some)) in
+        absurd (omega arith))
   ]
 ]

@@ -21,7 +21,8 @@ pub edges_pass : (lines : ℕ → Option Disagreement) (T : TileTables) (k : ℕ
     → from_edge lines T k ≡ over_edges lines T → from_edge lines T (k + 1) ≡ over_edges lines T
 edges_pass lines T k h none left = over_pass (λ i. lines (i + 1)) k (length (primitives_of T.tables).edges) h none ∙ left
 
-pub edges_stop : (lines : ℕ → Option Disagreement) (T : TileTables) (k : ℕ) (f : Disagreement) → k < length (primitives_of T.tables).edges → lines (k + 1) ≡ Some f
+pub edges_stop : (lines : ℕ → Option Disagreement) (T : TileTables) (k : ℕ) (f : Disagreement) → k < length (primitives_of T.tables).edges
+    → lines (k + 1) ≡ Some f
     → from_edge lines T k ≡ over_edges lines T → over_edges lines T ≡ Some f
 edges_stop lines T k f h some left = over_found (λ i. lines (i + 1)) k (length (primitives_of T.tables).edges) f f (over_edges lines T) left h some refl
 
@@ -36,7 +37,8 @@ edges_tell (errors.Finding f) lines T k h some left = edges_stop lines T k (disa
 edges_tell errors.NoMemory lines T k h some left = tt
 
 -- what is so of the edges where nothing is found in them
-pub edges_none : (lines : ℕ → Option Disagreement) (T : TileTables) (k : ℕ) → 1 ≤ k → k ≤ length (primitives_of T.tables).edges → over_edges lines T ≡ None → lines k ≡ None
+pub edges_none : (lines : ℕ → Option Disagreement) (T : TileTables) (k : ℕ) → 1 ≤ k → k ≤ length (primitives_of T.tables).edges → over_edges lines T ≡ None
+    → lines k ≡ None
 unfolding over_edges
 edges_none lines T k low high none =
     let back : (k - 1) + 1 ≡ k = omega arith in

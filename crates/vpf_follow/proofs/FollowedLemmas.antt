@@ -1,5 +1,6 @@
 -- What follows a dart is a home dart, and in a coverage where nothing disagrees in what follows darts it is there.
-use Rattle.std.proofs.Common.{◌≡◌, ℕ, ◌^◌, ◌<◌, ◌≤◌, Bool, true, false, ◌&&◌, ◌==◌, Option, Some, None, List, [], ◌∷◌, length, refl, ap, sym, ◌∙◌, arith, inl, inr}
+use Rattle.std.proofs.Common.{◌≡◌, ℕ, ◌^◌, ◌<◌, ◌≤◌, Bool, true, false, ◌&&◌, ◌==◌, Option, Some, None, List, [], ◌∷◌, length, refl, ap, sym, ◌∙◌, arith}
+use Rattle.std.proofs.Common.{inl, inr}
 use Rattle.std.proofs.lemmas.Bool.{cases_Bool, leb-true}
 use Rattle.std.specs.Prelude.{find, if◌then◌else◌, nat_le}
 use Rattle.std.specs.Option.{option_map, option_eq, unwrap_or}
@@ -42,7 +43,8 @@ both_left false b e = absurd cc
 named_home : (C : DartLinks) (node : ℕ) (face : Option Beyond) (e : ℕ) → is_named C node face e ≡ true → is_home C e ≡ true
 named_home C node face e is = both_left (is_home C e) ((tail_node C e == node) && option_eq same_beyond (face_name C e) face) is
 
-to_home : (C : DartLinks) (tile edge node : ℕ) (face wing_out node_out : Option Beyond) (e : ℕ) → follow_to C tile edge node face wing_out node_out ≡ Some e → is_home C e ≡ true
+to_home : (C : DartLinks) (tile edge node : ℕ) (face wing_out node_out : Option Beyond) (e : ℕ) → follow_to C tile edge node face wing_out node_out ≡ Some e
+    → is_home C e ≡ true
 to_home C tile edge node face None v e is = named_home C node face e (only_passes (is_named C node face) (code tile edge 0) e is)
 to_home C tile edge node face (Some w) None e is = absurd cc
 to_home C tile edge node face (Some w) (Some v) e is = elim (cases_Bool (w.tile == v.tile)) [
@@ -87,7 +89,8 @@ pub is_followed : (c : CoverageTables) (d : TileDart) → d.edge < 2 ^ 32 → Is
 is_followed c d few has none nothing =
     let C : DartLinks = links_of (library_of c) in
     let L : Library = library_of c in
-    let parts = all_three (nat_le 1 d.edge) (nat_le d.edge (edge_count L d.tile)) (nat_le d.tile (last_tile c)) (sym (has_is L d.tile d.edge d.minus few) ∙ has) in
+    let parts = all_three (nat_le 1 d.edge) (nat_le d.edge (edge_count L d.tile)) (nat_le d.tile (last_tile c))
+    (sym (has_is L d.tile d.edge d.minus few) ∙ has) in
     let low : 1 ≤ d.edge = leb-true 1 d.edge parts.0 in
     let high : d.edge ≤ edge_count (library_of c) d.tile = leb-true d.edge (edge_count L d.tile) parts.1 in
     let last : d.tile ≤ last_tile c = leb-true d.tile (last_tile c) parts.2 in
@@ -97,7 +100,8 @@ is_followed c d few has none nothing =
     let tile = tiles_none (follows_finding C) c d.tile there.0 last there.1 none in
     let edge = edges_none (follow_lines C d.tile there.0) there.0 d.edge low (rw (← count) high) tile in
     let line : follow_line (links_of (library_of c)) d.tile there.0 d.edge d.minus ≡ None = lines_none C d.tile d.edge there.0 d.minus edge in
-    let told : follow_line (links_of (library_of c)) d.tile there.0 d.edge d.minus ≡ follow_line_at (links_of (library_of c)) d.tile there.0 d.edge d.minus None =
+    let told : follow_line (links_of (library_of c)) d.tile there.0 d.edge d.minus
+    ≡ follow_line_at (links_of (library_of c)) d.tile there.0 d.edge d.minus None =
     ap (follow_line_at C d.tile there.0 d.edge d.minus) nothing in
     none_told (sym line ∙ told)
 

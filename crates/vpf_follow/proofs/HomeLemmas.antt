@@ -1,5 +1,6 @@
 -- The first home dart that a dart follows, by the lists in which home darts and what follows them are kept.
-use Rattle.std.proofs.Common.{◌≡◌, ℕ, suc, ◌+◌, ◌^◌, ◌<◌, Bool, true, false, ◌&&◌, cond, Option, Some, None, List, [], ◌∷◌, ◌++◌, map, refl, ap, sym, ◌∙◌, arith, inl, inr, eq-eqb, ne_eqb, append-nil, zero-add}
+use Rattle.std.proofs.Common.{◌≡◌, ℕ, suc, ◌+◌, ◌^◌, ◌<◌, Bool, true, false, ◌&&◌, cond, Option, Some, None, List, [], ◌∷◌, ◌++◌, map, refl, ap, sym, ◌∙◌}
+use Rattle.std.proofs.Common.{arith, inl, inr, eq-eqb, ne_eqb, zero-add}
 use Rattle.std.proofs.lemmas.Bool.{cases_Bool, cases_eq}
 use Rattle.std.proofs.lemmas.Iterator.Adapters.{position_from-zero}
 use Rattle.std.proofs.lemmas.List.{map-append}
@@ -24,7 +25,8 @@ place_from : {K : Type 0} (p : K → Bool) (i : ℕ) (xs : List K) → position_
 place_from p i [] = refl
 place_from p i (x ∷ xs) = place_step (p x) (place_from p (i + 1) xs)
   where
-    place_step : (b : Bool) → position_from p (i + 1) xs ≡ option_map (λ j. (i + 1) + j) (place p xs) → cond b (Some i) (position_from p (i + 1) xs) ≡ option_map (λ j. i + j) (cond b (Some 0) (option_map suc (place p xs)))
+    place_step : (b : Bool) → position_from p (i + 1) xs ≡ option_map (λ j. (i + 1) + j) (place p xs)
+        → cond b (Some i) (position_from p (i + 1) xs) ≡ option_map (λ j. i + j) (cond b (Some 0) (option_map suc (place p xs)))
     place_step true e = let z : i + 0 ≡ i = omega arith in rw z refl
     place_step false e = e ∙ shift (place p xs)
       where
@@ -57,7 +59,8 @@ follows_number C next few x y is = by (follow C x) is
     by (Some n) e =
         let named : y ≡ dart_numbered n = cc in
         elim (cases_eq n (tile_dart_code next)) [
-          | inl same ↦ (let is_next : y ≡ next = named ∙ ap dart_numbered same ∙ code-numbered next few in rw (is_next, same-refl next) (eq-eqb n (tile_dart_code next) same))
+          | inl same ↦ (let is_next : y ≡ next = named ∙ ap dart_numbered same ∙ code-numbered next few in
+              rw (is_next, same-refl next) (eq-eqb n (tile_dart_code next) same))
           | inr other ↦ elim (cases_Bool ((eq-value).it next y)) [
             | inl t ↦ absurd (other (sym (numbered-code n) ∙ ap tile_dart_code (sym named ∙ sym (same-is next y t))))
             | inr f ↦ rw f (ne_eqb n (tile_dart_code next) other)
@@ -66,7 +69,8 @@ follows_number C next few x y is = by (follow C x) is
 
 -- the first home dart that one follows, by its place
 first_by_place : (C : DartLinks) (next : TileDart) → next.edge < 2 ^ 32 → (hs : List ℕ) (ns : List TileDart) → map Some ns ≡ map (follower C) hs
-    → option_and_then (slice_get (map dart_numbered hs)) (place ((eq-value).it next) ns) ≡ option_map dart_numbered (find (λ x. option_eq nat_eq (follow C x) (Some (tile_dart_code next))) hs)
+    → option_and_then (slice_get (map dart_numbered hs)) (place ((eq-value).it next) ns)
+    ≡ option_map dart_numbered (find (λ x. option_eq nat_eq (follow C x) (Some (tile_dart_code next))) hs)
 first_by_place C next few [] [] e = refl
 first_by_place C next few [] (y ∷ ns) e = absurd cc
 first_by_place C next few (x ∷ hs) [] e = absurd cc
@@ -76,13 +80,15 @@ first_by_place C next few (x ∷ hs) (y ∷ ns) e =
     rw (follows_number C next few x y first) (by ((eq-value).it next y) (first_by_place C next few hs ns rest))
   where
     by : (b : Bool)
-        → option_and_then (slice_get (map dart_numbered hs)) (place ((eq-value).it next) ns) ≡ option_map dart_numbered (find (λ z. option_eq nat_eq (follow C z) (Some (tile_dart_code next))) hs)
+        → option_and_then (slice_get (map dart_numbered hs)) (place ((eq-value).it next) ns)
+        ≡ option_map dart_numbered (find (λ z. option_eq nat_eq (follow C z) (Some (tile_dart_code next))) hs)
         → option_and_then (slice_get (dart_numbered x ∷ map dart_numbered hs)) (cond b (Some 0) (option_map suc (place ((eq-value).it next) ns)))
         ≡ option_map dart_numbered (cond b (Some x) (find (λ z. option_eq nat_eq (follow C z) (Some (tile_dart_code next))) hs))
     by true h = refl
     by false h = shift (place ((eq-value).it next) ns) ∙ h
       where
-        shift : (o : Option ℕ) → option_and_then (slice_get (dart_numbered x ∷ map dart_numbered hs)) (option_map suc o) ≡ option_and_then (slice_get (map dart_numbered hs)) o
+        shift : (o : Option ℕ) → option_and_then (slice_get (dart_numbered x ∷ map dart_numbered hs)) (option_map suc o)
+            ≡ option_and_then (slice_get (map dart_numbered hs)) o
         shift None = refl
         shift (Some j) = refl
 
@@ -96,9 +102,6 @@ first_is C among h next few kept =
 
 filter_home : (p : ℕ → Bool) (among : List ℕ) (d : ℕ) → p d ≡ true → filter p (among ++ d ∷ []) ≡ filter p among ++ d ∷ []
 filter_home p among d t = filter-append p among (d ∷ []) ∙ rw t refl
-
-filter_other : (p : ℕ → Bool) (among : List ℕ) (d : ℕ) → p d ≡ false → filter p (among ++ d ∷ []) ≡ filter p among
-filter_other p among d f = filter-append p among (d ∷ []) ∙ rw f (append-nil (filter p among))
 
 -- a home dart is put
 pub home_put : (C : DartLinks) (among : List ℕ) (h : Followings) (dart next : TileDart) → dart.edge < 2 ^ 32 → next.edge < 2 ^ 32
@@ -114,12 +117,6 @@ home_put C among h dart next few few' home is kept =
           ∙ ap (λ x. map (follower C) (filter (is_home C) among) ++ x ∷ []) (sym named)
           ∙ sym (map-append (follower C) (filter (is_home C) among) (tile_dart_code dart ∷ [])) ∙ ap (map (follower C)) (sym more);
     }
-
--- a dart that isn't one is passed
-pub home_passed : (C : DartLinks) (among : List ℕ) (h : Followings) (d : ℕ) → is_home C d ≡ false → AreHomes C among h → AreHomes C (among ++ d ∷ []) h
-home_passed C among h d not_home kept =
-    let same : filter (is_home C) (among ++ d ∷ []) ≡ filter (is_home C) among = filter_other (is_home C) among d not_home in
-    record { homes = kept.homes ∙ ap (map dart_numbered) (sym same); followers = kept.followers ∙ ap (map (follower C)) (sym same) }
 
 -- no dart is passed yet
 pub home_none : (C : DartLinks) → AreHomes C [] (record { darts = []; nexts = [] })

@@ -1,5 +1,6 @@
 -- The darts of a coverage, of which those before a dart are passed.
-use Rattle.std.proofs.Common.{◌≡◌, ℕ, zero, suc, ◌+◌, ◌-◌, ◌*◌, ◌^◌, ◌<◌, ◌≤◌, Bool, true, Option, Some, None, List, [], ◌∷◌, ◌++◌, length, refl, ap, sym, ◌∙◌, arith, inl, inr, append-nil, append_assoc, eq-eqb, ne_eqb, length-append}
+use Rattle.std.proofs.Common.{◌≡◌, ℕ, zero, suc, ◌+◌, ◌-◌, ◌*◌, ◌^◌, ◌<◌, ◌≤◌, Bool, true, Option, Some, None, List, [], ◌∷◌, ◌++◌, length, refl, ap, sym}
+use Rattle.std.proofs.Common.{◌∙◌, arith, inl, inr, append-nil, append_assoc, eq-eqb, ne_eqb, length-append}
 use Rattle.std.proofs.lemmas.Bool.{cases_Bool, cases_eq}
 use Rattle.std.specs.Prelude.{All, find}
 use Rattle.std.specs.Option.{option_or}
@@ -43,11 +44,13 @@ begins_tiles edges t (suc last) h = elim (cases_eq t (suc last)) [
 
 begins_tile : (edges : ℕ → ℕ) (t k : ℕ) → k ≤ edges t → Begins (darts_to edges t k) (tile_darts edges t)
 begins_tile edges zero k h = begins_rows 0 k (edges 0) h
-begins_tile edges (suc t) k h = begins_both (tile_darts edges t) (row_darts (suc t) k) (row_darts (suc t) (edges (suc t))) (begins_rows (suc t) k (edges (suc t)) h)
+begins_tile edges (suc t) k h = begins_both (tile_darts edges t) (row_darts (suc t) k) (row_darts (suc t) (edges (suc t)))
+    (begins_rows (suc t) k (edges (suc t)) h)
 
 -- the darts that were passed are the first of all
 pub begins_all : (edges : ℕ → ℕ) (t k last : ℕ) → k ≤ edges t → t ≤ last → Begins (darts_to edges t k) (tile_darts edges last)
-begins_all edges t k last h low = begins_trans (darts_to edges t k) (tile_darts edges t) (tile_darts edges last) (begins_tile edges t k h) (begins_tiles edges t last low)
+begins_all edges t k last h low = begins_trans (darts_to edges t k) (tile_darts edges t) (tile_darts edges last) (begins_tile edges t k h)
+    (begins_tiles edges t last low)
 
 -- both darts of an edge come next
 pub to_next : (edges : ℕ → ℕ) (t k : ℕ) → darts_to edges t (suc k) ≡ (darts_to edges t k ++ code t (suc k) 0 ∷ []) ++ code t (suc k) 1 ∷ []
@@ -81,7 +84,8 @@ All-two n x y low high (suc (suc i)) d h = absurd (omega arith)
 rows_below : (t k : ℕ) → All (λ x. x < code t (suc k) 0) (row_darts t k)
 unfolding code
 rows_below t zero = λ i d h. absurd (omega arith)
-rows_below t (suc k) = All-append (λ x. x < 2 * (2 ^ 32 * t + suc (suc k)) + 0) (row_darts t k) ((2 * (2 ^ 32 * t + suc k) + 0) ∷ (2 * (2 ^ 32 * t + suc k) + 1) ∷ [])
+rows_below t (suc k) = All-append (λ x. x < 2 * (2 ^ 32 * t + suc (suc k)) + 0) (row_darts t k)
+    ((2 * (2 ^ 32 * t + suc k) + 0) ∷ (2 * (2 ^ 32 * t + suc k) + 1) ∷ [])
     (All-widen (2 * (2 ^ 32 * t + suc k) + 0) (2 * (2 ^ 32 * t + suc (suc k)) + 0) (row_darts t k) (omega arith) (rows_below t k))
     (All-two (2 * (2 ^ 32 * t + suc (suc k)) + 0) (2 * (2 ^ 32 * t + suc k) + 0) (2 * (2 ^ 32 * t + suc k) + 1) (omega arith) (omega arith))
 
@@ -94,7 +98,8 @@ tiles_below edges (suc t) few =
     let last : edges (suc t) < 2 ^ 24 = few (suc t) in
     All-append (λ x. x < 2 * (2 ^ 32 * suc (suc t) + 0) + 0) (tile_darts edges t) (row_darts (suc t) (edges (suc t)))
     (All-widen (2 * (2 ^ 32 * suc t + 0) + 0) (2 * (2 ^ 32 * suc (suc t) + 0) + 0) (tile_darts edges t) (omega arith) (tiles_below edges t few))
-    (All-widen (2 * (2 ^ 32 * suc t + suc (edges (suc t))) + 0) (2 * (2 ^ 32 * suc (suc t) + 0) + 0) (row_darts (suc t) (edges (suc t))) (omega arith) (rows_below (suc t) (edges (suc t))))
+    (All-widen (2 * (2 ^ 32 * suc t + suc (edges (suc t))) + 0) (2 * (2 ^ 32 * suc (suc t) + 0) + 0) (row_darts (suc t) (edges (suc t))) (omega arith)
+    (rows_below (suc t) (edges (suc t))))
 
 -- the darts that were passed have lower numbers
 pub to_below : (edges : ℕ → ℕ) (t k : ℕ) → ((s : ℕ) → edges s < 2 ^ 24) → All (λ x. x < code t (suc k) 0) (darts_to edges t k)

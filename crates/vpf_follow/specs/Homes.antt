@@ -10,15 +10,11 @@ use Rattle.vpf_wing.specs.Links.{DartLinks, links_of, row_darts, tile_darts}
 use Rattle.vpf_follow.specs.Libraries.{library_of}
 use Rattle.vpf_follow.specs.Following.{dart_numbered, follow, is_home}
 
--- what the rows of a coverage say of its darts
-abbrev pub coverage_links : CoverageTables → DartLinks
-coverage_links c = links_of (library_of c)
-
 -- a dart of a tile is one of the coverage
 abbrev pub IsDartIn : CoverageTables → TileDart → Type 0
-IsDartIn c d = (coverage_links c).has (tile_dart_code d) ≡ true
+IsDartIn c d = (links_of (library_of c)).has (tile_dart_code d) ≡ true
 
--- each tile has fewer edges than that their numbers would take more than 24 bits
+-- no tile has many edges: their numbers take 24 bits
 abbrev pub HasFewEdges : Library → Type 0
 HasFewEdges L = (t : ℕ) → edge_count L t < 2 ^ 24
 
@@ -52,3 +48,16 @@ follower C d = option_map dart_numbered (follow C d)
 pub record AreHomes (C : DartLinks) (among : List ℕ) (h : Followings) : Type 0 where
   pub homes : h.darts ≡ map dart_numbered (filter (is_home C) among)
   pub followers : map Some h.nexts ≡ map (follower C) (filter (is_home C) among)
+
+-- they are those of the tiles before t, and of its edges 1 to k
+abbrev pub AreKeptTo : CoverageTables → ℕ → ℕ → Followings → Type 0
+AreKeptTo c t k h = AreHomes (links_of (library_of c)) (darts_to (edge_count (library_of c)) t k) h
+
+-- they are those before a dart
+abbrev pub AreKeptBefore : CoverageTables → TileDart → Followings → Type 0
+AreKeptBefore c d h = AreHomes (links_of (library_of c)) (darts_before (edge_count (library_of c)) d.tile d.edge d.minus) h
+
+-- they are those before a dart, and maybe it
+abbrev pub AreKeptWith : CoverageTables → TileDart → Followings → Type 0
+AreKeptWith c d h =
+    AreHomes (links_of (library_of c)) (darts_before (edge_count (library_of c)) d.tile d.edge d.minus ++ tile_dart_code d ∷ []) h

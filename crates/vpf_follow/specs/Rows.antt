@@ -10,8 +10,8 @@ use Rattle.vpf_wing.specs.Links.{Beyond, link_of}
 use Rattle.vpf_follow.specs.Following.{face_beyond, is_far_face, same_beyond}
 
 -- the row of an edge, where its tile has it
-abbrev pub row_in : Library → ℕ → ℕ → Option EdgeRow
-row_in L t k = if nat_le 1 k && nat_le k (edge_count L t) then Some (edge_row_of (kth (tile_edges L t) k absent_edge)) else None
+abbrev pub edge_row_in : Library → ℕ → ℕ → Option EdgeRow
+edge_row_in L t k = if nat_le 1 k && nat_le k (edge_count L t) then Some (edge_row_of (kth (tile_edges L t) k absent_edge)) else None
 
 -- the wing of the + or - dart of a row
 abbrev pub row_wing : Bool → EdgeRow → Triplet

@@ -1,16 +1,14 @@
 //! What follows the darts of a tile, dart by dart.
 
-ghost use Rattle.std.specs.Prelude.{◌≡◌, ◌+◌, ◌-◌, ◌∷◌, ◌++◌, [], length, OnOk, Some};
-ghost use Rattle.vpf_darts.specs.Darts.{tile_dart_code};
+ghost use Rattle.std.specs.Prelude.{◌≡◌, ◌+◌, ◌-◌, length, OnOk, Some};
 ghost use Rattle.vpf_findings.specs.Findings.{disagreement_of, sight_of};
 ghost use Rattle.vpf_findings.specs.Firsts.{Tells};
 ghost use Rattle.vpf_prims.specs.Coverages.{tile_at};
 ghost use Rattle.vpf_prims.specs.Numbering.{IsRowOf};
-ghost use Rattle.vpf_prims.specs.Primitives.{edge_count};
 ghost use Rattle.vpf_prims.specs.Reading.{primitives_of};
 ghost use Rattle.vpf_wing.specs.Links.{links_of};
 ghost use Rattle.vpf_follow.specs.FollowLines.{at_wing_of, follow_line, follow_lines, follows_finding};
-ghost use Rattle.vpf_follow.specs.Homes.{AreHomes, HasFewEdges, darts_before, darts_to};
+ghost use Rattle.vpf_follow.specs.Homes.{AreKeptBefore, AreKeptTo, AreKeptWith, HasFewEdges};
 ghost use Rattle.vpf_follow.specs.Libraries.{in_tile, library_of};
 
 use crate::following::{follow, is_home};
@@ -38,9 +36,9 @@ fn check_dart<'a>(
     requires tile { tile_at coverage.now dart.tile ≡ Some tile.now }
     requires edge { IsRowOf (length (primitives_of tile.now.tables).edges) dart.edge }
     requires few { HasFewEdges (library_of coverage.now) }
-    requires homes { AreHomes (links_of (library_of coverage.now)) (darts_before (edge_count (library_of coverage.now)) dart.tile dart.edge dart.minus) homes.old }
+    requires homes { AreKeptBefore coverage.now dart homes.old }
     ensures first { Tells result (follow_line (links_of (library_of coverage.now)) dart.tile tile.now dart.edge dart.minus) }
-    ensures homes { OnOk result (AreHomes (links_of (library_of coverage.now)) (darts_before (edge_count (library_of coverage.now)) dart.tile dart.edge dart.minus ++ tile_dart_code dart ∷ []) homes.new) }
+    ensures homes { OnOk result (AreKeptWith coverage.now dart homes.new) }
 {
     let Some(next) = follow(coverage, dart) else {
         let found = tile.seen(wing_citation(dart.minus), dart.edge);
@@ -66,9 +64,9 @@ fn check_edge<'a>(
     requires tile { tile_at coverage.now number ≡ Some tile.now }
     requires edge { IsRowOf (length (primitives_of tile.now.tables).edges) k }
     requires few { HasFewEdges (library_of coverage.now) }
-    requires homes { AreHomes (links_of (library_of coverage.now)) (darts_to (edge_count (library_of coverage.now)) number (k - 1)) homes.old }
+    requires homes { AreKeptTo coverage.now number (k - 1) homes.old }
     ensures first { Tells result (follow_lines (links_of (library_of coverage.now)) number tile.now k) }
-    ensures homes { OnOk result (AreHomes (links_of (library_of coverage.now)) (darts_to (edge_count (library_of coverage.now)) number k) homes.new) }
+    ensures homes { OnOk result (AreKeptTo coverage.now number k homes.new) }
 {
     let plus = TileDart {
         tile: number,
@@ -88,9 +86,9 @@ fn check_edges<'a>(
 ) -> Result<(), FindError<'a>>
     requires tile { tile_at coverage.now number ≡ Some tile.now }
     requires few { HasFewEdges (library_of coverage.now) }
-    requires homes { AreHomes (links_of (library_of coverage.now)) (darts_to (edge_count (library_of coverage.now)) number 0) homes.old }
+    requires homes { AreKeptTo coverage.now number 0 homes.old }
     ensures first { Tells result (follows_finding (links_of (library_of coverage.now)) number tile.now) }
-    ensures homes { OnOk result (AreHomes (links_of (library_of coverage.now)) (darts_to (edge_count (library_of coverage.now)) (number + 1) 0) homes.new) }
+    ensures homes { OnOk result (AreKeptTo coverage.now (number + 1) 0 homes.new) }
 {
     for k in 0..tile.edges() {
         check_edge(coverage, tile, number, k + 1, homes)?;
@@ -105,9 +103,9 @@ pub(crate) fn check_tile<'a>(
     homes: &mut Homes,
 ) -> Result<(), FindError<'a>>
     requires few { HasFewEdges (library_of coverage.now) }
-    requires homes { AreHomes (links_of (library_of coverage.now)) (darts_to (edge_count (library_of coverage.now)) number 0) homes.old }
+    requires homes { AreKeptTo coverage.now number 0 homes.old }
     ensures first { Tells result (in_tile (follows_finding (links_of (library_of coverage.now)) number) (tile_at coverage.now number)) }
-    ensures homes { OnOk result (AreHomes (links_of (library_of coverage.now)) (darts_to (edge_count (library_of coverage.now)) (number + 1) 0) homes.new) }
+    ensures homes { OnOk result (AreKeptTo coverage.now (number + 1) 0 homes.new) }
 {
     match coverage.tile(number) {
         Some(tile) => check_edges(coverage, tile, number, homes),

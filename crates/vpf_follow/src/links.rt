@@ -4,7 +4,7 @@ ghost use Rattle.std.specs.Prelude.{◌≡◌};
 ghost use Rattle.vpf_wing.specs.Links.{link_of};
 ghost use Rattle.vpf_follow.specs.Following.{beyond_tile, face_beyond, is_far_face, is_own_face};
 ghost use Rattle.vpf_follow.specs.Libraries.{library_of};
-ghost use Rattle.vpf_follow.specs.Rows.{row_face, row_in, row_is_named, row_node, row_wing};
+ghost use Rattle.vpf_follow.specs.Rows.{row_face, edge_row_in, row_is_named, row_node, row_wing};
 
 use std::marker::Model;
 use vpf_prims::{Coverage, EdgeRow, id_of};
@@ -117,7 +117,7 @@ pub(crate) fn begins_at(row: &EdgeRow, tile: u32, minus: bool, start: &Start) ->
 
 /// The row of an edge, where its tile has it.
 pub(crate) fn edge_row(coverage: &Coverage<'_>, tile: u32, edge: u32) -> Option<EdgeRow>
-    ensures { result ≡ row_in (library_of coverage.now) tile edge }
+    ensures { result ≡ edge_row_in (library_of coverage.now) tile edge }
 {
     let tile = coverage.tile(tile)?;
     if edge == 0 || edge > tile.edges() {

@@ -42,5 +42,6 @@ returns-clause-homes c =
     ap length (edges_are c.args.coverage.now c.args.number c.args.tile.now c.requires.tile) in
     let all : c.loop-k.k ≡ edge_count (library_of c.args.coverage.now) c.args.number = omega (arith, count, c.edges-k-end.ensures.value) in
     let next : c.args.number + 1 ≡ suc c.args.number = omega arith in
-    let same = ap (darts_to (edge_count (library_of c.args.coverage.now)) c.args.number) all ∙ sym (to_tile (edge_count (library_of c.args.coverage.now)) c.args.number) in
+    let same = ap (darts_to (edge_count (library_of c.args.coverage.now)) c.args.number) all
+    ∙ sym (to_tile (edge_count (library_of c.args.coverage.now)) c.args.number) in
     rw next (subst (λ (v : List ℕ). AreHomes (links_of (library_of c.args.coverage.now)) v c.loop-k.homes) same c.loop-k.invariant.homes)

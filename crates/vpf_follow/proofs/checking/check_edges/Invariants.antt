@@ -9,6 +9,7 @@ use Rattle.vpf_follow.proofs.checking.check_edges.Given as goal
 
 abbrev pub invariant-loop-k : goal.invariant-loop-k
 invariant-loop-k l = record {
-  left : from_edge (follow_lines (links_of (library_of l.coverage)) l.number l.tile) l.tile l.k ≡ follows_finding (links_of (library_of l.coverage)) l.number l.tile;
+  left : from_edge (follow_lines (links_of (library_of l.coverage)) l.number l.tile) l.tile l.k
+      ≡ follows_finding (links_of (library_of l.coverage)) l.number l.tile;
   homes : AreHomes (links_of (library_of l.coverage)) (darts_to (edge_count (library_of l.coverage)) l.number l.k) l.homes;
 }

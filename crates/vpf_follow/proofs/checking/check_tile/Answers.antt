@@ -11,6 +11,8 @@ pub returns-in-None-clause-homes : goal.returns-in-None-clause-homes
 returns-in-None-clause-homes c =
     let next : c.args.number + 1 ≡ suc c.args.number = omega arith in
     let none = no_edges c.args.coverage.now c.args.number (sym c.in-None.ensures) in
-    let same : darts_to (edge_count (library_of c.args.coverage.now)) c.args.number 0 ≡ darts_to (edge_count (library_of c.args.coverage.now)) (suc c.args.number) 0 =
-    ap (darts_to (edge_count (library_of c.args.coverage.now)) c.args.number) (sym none) ∙ sym (to_tile (edge_count (library_of c.args.coverage.now)) c.args.number) in
+    let same : darts_to (edge_count (library_of c.args.coverage.now)) c.args.number 0
+    ≡ darts_to (edge_count (library_of c.args.coverage.now)) (suc c.args.number) 0 =
+    ap (darts_to (edge_count (library_of c.args.coverage.now)) c.args.number) (sym none)
+    ∙ sym (to_tile (edge_count (library_of c.args.coverage.now)) c.args.number) in
     rw next (subst (λ (v : List ℕ). AreHomes (links_of (library_of c.args.coverage.now)) v c.args.homes.now) same c.requires.homes)

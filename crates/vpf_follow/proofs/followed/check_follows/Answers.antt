@@ -44,12 +44,14 @@ invariant_of-result c =
           (let last : c.loop-t.t ≡ last_tile c.args.coverage.now = omega (arith, c.tiles-t-end.ensures) in
           let next : c.loop-t.t + 1 ≡ suc c.loop-t.t = omega arith in
           let left = tiles_pass rule c.args.coverage.now c.loop-t.t (omega arith) w.in_ok-check_tile.ensures.first c.loop-t.invariant.left in
-          let all : darts_to (edge_count (library_of c.args.coverage.now)) (c.loop-t.t + 1) 0 ≡ tile_darts (edge_count (library_of c.args.coverage.now)) (last_tile c.args.coverage.now) =
+          let all : darts_to (edge_count (library_of c.args.coverage.now)) (c.loop-t.t + 1) 0
+          ≡ tile_darts (edge_count (library_of c.args.coverage.now)) (last_tile c.args.coverage.now) =
           ap (λ t. darts_to (edge_count (library_of c.args.coverage.now)) t 0) next ∙ to_tile (edge_count (library_of c.args.coverage.now)) c.loop-t.t
           ∙ to_end (edge_count (library_of c.args.coverage.now)) c.loop-t.t ∙ ap (tile_darts (edge_count (library_of c.args.coverage.now))) last in
           record {
             agrees = tiles_end rule c.args.coverage.now (c.loop-t.t + 1) (omega arith) left;
-            kept = rw w.homes-is (subst (λ (v : List ℕ). AreHomes (links_of (library_of c.args.coverage.now)) v w.check_tile.new.homes) all w.in_ok-check_tile.ensures.homes);
+            kept = rw w.homes-is (subst (λ (v : List ℕ). AreHomes
+                (links_of (library_of c.args.coverage.now)) v w.check_tile.new.homes) all w.in_ok-check_tile.ensures.homes);
             count = c.count_darts-darts.ensures.count;
           })
     ]

@@ -9,6 +9,7 @@ use Rattle.vpf_follow.proofs.followed.check_follows.Given as goal
 
 abbrev pub invariant-loop-t : goal.invariant-loop-t
 invariant-loop-t l = record {
-  left : from_tile (follows_finding (links_of (library_of l.coverage))) l.coverage l.t ≡ in_tiles (follows_finding (links_of (library_of l.coverage))) l.coverage;
+  left : from_tile (follows_finding (links_of (library_of l.coverage))) l.coverage l.t
+      ≡ in_tiles (follows_finding (links_of (library_of l.coverage))) l.coverage;
   homes : AreHomes (links_of (library_of l.coverage)) (darts_to (edge_count (library_of l.coverage)) l.t 0) l.homes;
 }

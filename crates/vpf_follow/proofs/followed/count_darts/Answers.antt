@@ -34,4 +34,5 @@ pub returns-2-clause-few : goal.returns-2-clause-few
 returns-2-clause-few c =
     let here : edge_count (library_of c.args.coverage.now) c.loop-t.t < 2 ^ 24 = rw (← c.edge_count.ensures.value) c.edge_count.ensures.few in
     let last : c.loop-t.t ≡ last_tile c.args.coverage.now = omega (arith, c.tiles-t-end.ensures) in
-    few_to_last c.args.coverage.now (λ s low. below_more (λ s. edge_count (library_of c.args.coverage.now) s < 2 ^ 24) c.loop-t.t c.loop-t.invariant.few here s (omega arith))
+    few_to_last c.args.coverage.now (λ s low. below_more
+    (λ s. edge_count (library_of c.args.coverage.now) s < 2 ^ 24) c.loop-t.t c.loop-t.invariant.few here s (omega arith))

@@ -26,5 +26,6 @@ returns c =
     c.linked_dart.ensures
     ∙ ap (λ w. follow_links (links_of L) t (link_of w) (link_of c.head_node-node.result) c.face_name-name.result) c.wing-wing.ensures
     ∙ ap (λ v. follow_links (links_of L) t (link_of (row_wing m c.in_ok-row.row)) (link_of v) c.face_name-name.result) c.head_node-node.ensures
-    ∙ ap (follow_links (links_of L) t (link_of (row_wing m c.in_ok-row.row)) (link_of (row_node m c.in_ok-row.row))) (c.face_name-name.ensures ∙ ap (λ f. face_beyond t (link_of f)) c.face.ensures)
+    ∙ ap (follow_links (links_of L) t (link_of (row_wing m c.in_ok-row.row)) (link_of (row_node m c.in_ok-row.row)))
+    (c.face_name-name.ensures ∙ ap (λ f. face_beyond t (link_of f)) c.face.ensures)
     ∙ sym is

@@ -18,7 +18,8 @@ returns-then-plus-minus c =
     let few : c.args.edge < 2 ^ 32 = omega arith in
     let start = c.args.start.now in
     let same = sym c.begins_at-plus.ensures ∙ beq_same c.begins_at-plus.result c.begins_at-minus.result c.if-plus-minus.true ∙ c.begins_at-minus.ensures in
-    sym (only_both (library_of c.args.coverage.now) c.args.tile c.args.edge c.in_ok-row.row start.node start.face (ends_at_last c.args.coverage.now) few (sym c.in_ok-row.ensures) same)
+    sym (only_both (library_of c.args.coverage.now) c.args.tile c.args.edge c.in_ok-row.row start.node start.face (ends_at_last c.args.coverage.now) few
+    (sym c.in_ok-row.ensures) same)
 
 pub returns : goal.returns
 returns c =
@@ -27,5 +28,6 @@ returns c =
     let plus = c.begins_at-plus.ensures in
     let minus = c.begins_at-minus.ensures in
     ap (λ m. Some (code c.args.tile c.args.edge (sign_of m))) minus
-    ∙ sym (only_one (library_of c.args.coverage.now) c.args.tile c.args.edge c.in_ok-row.row start.node start.face (ends_at_last c.args.coverage.now) few (sym c.in_ok-row.ensures)
+    ∙ sym (only_one (library_of c.args.coverage.now) c.args.tile c.args.edge c.in_ok-row.row start.node start.face (ends_at_last c.args.coverage.now) few
+    (sym c.in_ok-row.ensures)
     (λ same. beq_differ c.begins_at-plus.result c.begins_at-minus.result c.if-plus-minus.false (plus ∙ same ∙ sym minus)))

@@ -12,12 +12,14 @@ returns-then-is_home-clause-copy c =
     let same : c.self.inside.coverage.now ≡ c.args.self.now = c.self.view_is in
     rw (← same) (sym (own_copy (links_of (library_of c.self.inside.coverage.now)) (tile_dart_code c.args.dart) (sym c.if-is_home.ensures)))
 
-copied : (c : goal.After-unwrap_or) → tile_dart_code c.unwrap_or.result ≡ home_copy (links_of (library_of c.self.inside.coverage.now)) (tile_dart_code c.args.dart)
+copied : (c : goal.After-unwrap_or) → tile_dart_code c.unwrap_or.result
+    ≡ home_copy (links_of (library_of c.self.inside.coverage.now)) (tile_dart_code c.args.dart)
 copied c =
     let few : c.next.result.edge < 2 ^ 32 = omega arith in
     let same : c.self.inside.coverage.now ≡ c.args.self.now = c.self.view_is in
     ap tile_dart_code (c.unwrap_or.ensures ∙ ap (λ o. unwrap_or o c.args.dart) c.first.ensures)
-    ∙ kept_copy (links_of (library_of c.self.inside.coverage.now)) c.self.inside.homes c.args.dart c.next.result few c.self.invariant.kept (sym c.if-is_home.ensures) (rw (← same) at c.next.ensures.next)
+    ∙ kept_copy (links_of (library_of c.self.inside.coverage.now)) c.self.inside.homes c.args.dart c.next.result few c.self.invariant.kept
+    (sym c.if-is_home.ensures) (rw (← same) at c.next.ensures.next)
 
 pub returns-clause-copy : goal.returns-clause-copy
 returns-clause-copy c =

@@ -14,10 +14,12 @@ unreachable-requires c =
 pub returns-clause-home : goal.returns-clause-home
 returns-clause-home c =
     let same : c.self.inside.coverage.now ≡ c.args.self.now = c.self.view_is in
-    rw (← same) (follower_home (links_of (library_of c.self.inside.coverage.now)) (tile_dart_code c.args.dart) (tile_dart_code c.in-Some.next) (sym c.in-Some.ensures))
+    rw (← same) (follower_home (links_of (library_of c.self.inside.coverage.now)) (tile_dart_code c.args.dart) (tile_dart_code c.in-Some.next)
+    (sym c.in-Some.ensures))
 
 pub returns-clause-dart : goal.returns-clause-dart
 returns-clause-dart c =
     let same : c.self.inside.coverage.now ≡ c.args.self.now = c.self.view_is in
     let C = links_of (library_of c.self.inside.coverage.now) in
-    rw (← same) (home_has C (tile_dart_code c.in-Some.next) (follower_home C (tile_dart_code c.args.dart) (tile_dart_code c.in-Some.next) (sym c.in-Some.ensures)))
+    rw (← same) (home_has C (tile_dart_code c.in-Some.next)
+    (follower_home C (tile_dart_code c.args.dart) (tile_dart_code c.in-Some.next) (sym c.in-Some.ensures)))
