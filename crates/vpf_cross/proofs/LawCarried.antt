@@ -20,7 +20,7 @@ use Rattle.vpf_prims.specs.Coverages.{CoverageTables, tile_at}
 use Rattle.vpf_wing.specs.Links.{Beyond, links_of, edge_of_dart, is_minus, node_by}
 use Rattle.vpf_follow.specs.Libraries.{primitives_in, library_of, in_tiles, over_edges}
 use Rattle.vpf_follow.specs.SideLines.{node_citation}
-use Rattle.vpf_follow.specs.Laws.{HasFewEdges}
+use Rattle.vpf_follow.specs.Homes.{HasFewEdges}
 use Rattle.vpf_follow.specs.DartLaws.{some-or-none, none_is_some, same_some, code-minus}
 use Rattle.vpf_follow.specs.TileLaws.{TileOfDart, dart-tile, DartOfEdge, edge-dart, tile-below, both_lines, or-silent, tiles-none, tiles-silent, darts-none, darts-silent}
 use Rattle.vpf_cross.specs.Carrying.{Difference, first_difference}

@@ -9,7 +9,8 @@ use Rattle.vpf_prims.specs.Coverages.{CoverageTables}
 use Rattle.vpf_wing.specs.Links.{DartLinks, links_of, is_minus, local_next}
 use Rattle.vpf_follow.specs.Libraries.{library_of}
 use Rattle.vpf_follow.specs.Following.{is_home, follow, home_copy}
-use Rattle.vpf_follow.specs.Laws.{HasFewEdges, HomesExist}
+use Rattle.vpf_follow.specs.Homes.{HasFewEdges}
+use Rattle.vpf_follow.specs.Laws.{HomesExist}
 use Rattle.vpf_follow.specs.DartLaws.{some-or-none, none_is_some, same_some, code-minus, darts-stand, stands-has, found-passes, found-some}
 use Rattle.vpf_follow.specs.TileLaws.{TileOfDart, dart-tile, DartOfEdge, edge-dart, unless-none, unless-true, darts-none, darts-silent}
 use Rattle.vpf_follow.specs.FollowLaws.{follow_home}

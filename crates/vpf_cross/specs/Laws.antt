@@ -15,7 +15,7 @@ use Rattle.vpf_wing.specs.WellFormed.{HasCycles}
 use Rattle.vpf_follow.specs.Libraries.{IsLibrary, library_of, in_tiles}
 use Rattle.vpf_follow.specs.Following.{is_home, is_outside, home_copy, library_map}
 use Rattle.vpf_follow.specs.Sided.{HasSides, HasFollowers}
-use Rattle.vpf_follow.specs.Laws.{HasFewEdges}
+use Rattle.vpf_follow.specs.Homes.{HasFewEdges}
 use Rattle.vpf_cross.specs.HomeLines.{coverage_links, homes_finding}
 use Rattle.vpf_cross.specs.RoundLines.{copy_in_tile, rounds_finding}
 use Rattle.vpf_cross.specs.CarriedLines.{carried_finding, inhabited_finding}

@@ -1,6 +1,6 @@
 -- Following: the dart that comes next across the tiles of a coverage, by the external parts of its references, and the copies of an edge
 -- in several tiles (MIL-STD-2407, 5.2.3, cross-tile topology). A dart is its number.
-use Rattle.std.specs.Prelude.{ℕ, Bool, not, ◌&&◌, if◌then◌else◌, ◌==◌, is_some, nat_eq, Option, None, Some, find, filter, List}
+use Rattle.std.specs.Prelude.{ℕ, Bool, not, ◌&&◌, if◌then◌else◌, ◌==◌, is_some, nat_eq, Option, None, Some, find}
 use Rattle.std.specs.Option.{unwrap_or, option_eq, option_map}
 use Rattle.vpf_darts.specs.declared.darts.TileDart.{TileDart}
 use Rattle.vpf_darts.specs.Darts.{code, tile_in, edge_in, flip}

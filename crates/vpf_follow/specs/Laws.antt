@@ -1,19 +1,16 @@
 -- What is so of the tiles of every coverage: nothing is found exactly where they agree.
-use Rattle.std.specs.Prelude.{◌≡◌, ◌↔◌, ℕ, ◌<◌, ◌^◌, true, Some, None}
-use Rattle.vpf_prims.specs.Primitives.{Library, edge_count}
+use Rattle.std.specs.Prelude.{◌≡◌, ◌↔◌, ℕ, true, Some, None}
+use Rattle.vpf_prims.specs.Primitives.{Library}
 use Rattle.vpf_prims.specs.Coverages.{CoverageTables}
 use Rattle.vpf_wing.specs.Links.{DartLinks, links_of}
 use Rattle.vpf_wing.specs.WellFormed.{HasLoops}
 use Rattle.vpf_wing.specs.CycleLines.{loops_finding}
 use Rattle.vpf_follow.specs.Libraries.{library_of, in_tiles}
+use Rattle.vpf_follow.specs.Homes.{HasFewEdges}
 use Rattle.vpf_follow.specs.Following.{is_home, follow, home_copy}
 use Rattle.vpf_follow.specs.Sided.{HasSides, HasFollowers}
 use Rattle.vpf_follow.specs.SideLines.{sides_finding}
 use Rattle.vpf_follow.specs.FollowLines.{follows_finding}
-
--- no tile has many edges
-abbrev pub HasFewEdges : Library → Type 0
-HasFewEdges L = (t : ℕ) → edge_count L t < 2 ^ 24
 
 -- there is no finding on the sides of edges exactly where they name tiles as they should
 abbrev pub SidesDecide : Type 0

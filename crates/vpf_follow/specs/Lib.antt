@@ -3,6 +3,9 @@ pub mod Following
 pub mod Sided
 pub mod SideLines
 pub mod FollowLines
+pub mod Rows
+pub mod Homes
+pub mod Followed
 pub mod DartLaws
 pub mod TileLaws
 pub mod FollowLaws

@@ -46,7 +46,8 @@ inside_wing_line t T k minus e =
 -- a dart of another tile's face doesn't go on in that tile
 abbrev pub outside_wing_line : ℕ → TileTables → ℕ → Bool → EdgePrimitive → Option Disagreement
 outside_wing_line t T k minus e =
-    unless (not (is_far_face (link_of (face_by minus e))) || option_eq nat_eq (beyond_tile (link_of (wing_by minus e)).out) (beyond_tile (link_of (face_by minus e)).out))
+    unless (not (is_far_face (link_of (face_by minus e))) || option_eq nat_eq (beyond_tile (link_of (wing_by minus e)).out)
+    (beyond_tile (link_of (face_by minus e)).out))
     (at_citation t T (wing_citation minus) 2 k (cited_cell T.tables (wing_citation minus) k) (WordSeen words.Tile))
 
 -- the lines on the wing of a dart

@@ -1,5 +1,5 @@
 -- The sides of the edges of a tiled coverage, and what follows its darts (MIL-STD-2407, 5.2.3, cross-tile topology).
-use Rattle.std.specs.Prelude.{◌≡◌, ℕ, true, false, Option, Some, None}
+use Rattle.std.specs.Prelude.{◌≡◌, ℕ, true, false, Some, None}
 use Rattle.vpf_darts.specs.Darts.{flip}
 use Rattle.vpf_wing.specs.Links.{DartLinks}
 use Rattle.vpf_wing.specs.WellFormed.{HasLoops}
