@@ -9,7 +9,7 @@ use Rattle.vpf_wing.specs.Links.{DartLinks, links_of}
 use Rattle.vpf_follow.specs.Following.{is_home, follow, home_copy, library_map}
 use Rattle.vpf_follow.specs.Sided.{HasFollowers}
 use Rattle.vpf_follow.specs.Laws.{HomesExist}
-use Rattle.vpf_follow.specs.DartLaws.{same_some, never_both, dart_bound, darts-below, stands, darts-stand, flip-has, flip-tile}
+use Rattle.vpf_follow.specs.DartLaws.{same_some, never_both, dart_bound, darts-below, stands_in, darts-stand, flip-has, flip-tile}
 use Rattle.vpf_follow.specs.FollowLaws.{home_has, home_self, away_outside, home_moves, away_stays}
 use Rattle.vpf_cross.specs.Agreeing.{HasHomes, IsCopy}
 use Rattle.vpf_cross.proofs.LawMap.{flip_is, is_map}
@@ -131,6 +131,6 @@ walk_round law L a d y hy last =
     let r : StepBefore (turning L) y y = round (turning L) cycle.0 y cycle.1 cycle.2 in
     let same : after (turning L) r.steps y ≡ last_turn L d = t.next_apart (after (turning L) r.steps y) (last_turn L d) (r.goes ∙ sym last.turns) in
     let s : FirstStep (turning L) y (last_turn L d) = first_step (turning L) r.steps y (last_turn L d) same in
-    let among : (i : ℕ) → i ≤ s.steps → stands (after (turning L) i y) (links_of L).darts ≡ true = λ i le.
+    let among : (i : ℕ) → i ≤ s.steps → stands_in (after (turning L) i y) (links_of L).darts ≡ true = λ i le.
     darts-stand L (after (turning L) i y) (home_has C (after (turning L) i y) (turns_home L m i y hy)) in
     record { steps = s.steps; few = steps_below (turning L) s.steps y (last_turn L d) C.darts s.comes s.before among; comes = s.comes }

@@ -2,7 +2,7 @@
 use Rattle.std.proofs.Common.{◌≡◌, ℕ, zero, suc, ◌+◌, ◌-◌, ◌<◌, ◌≤◌, true, false, cond, eqb, refl, sym, ap, ◌∙◌, subst, inl, inr, arith, List, [], ◌∷◌, ◌++◌, length, map}
 use Rattle.std.proofs.lemmas.Bool.{cases_Bool, cases_eq, or_cases, or_left, or_right, eqb-true}
 use Rattle.vpf_darts.specs.Cycles.{IsCycle, first_of}
-use Rattle.vpf_follow.specs.DartLaws.{never_both, stands}
+use Rattle.vpf_follow.specs.DartLaws.{never_both, stands_in}
 
 -- what comes k steps after x
 unfoldable pub after : (ℕ → ℕ) → ℕ → ℕ → ℕ
@@ -37,40 +37,40 @@ leaving : ℕ → List ℕ → List ℕ
 leaving x [] = []
 leaving x (y ∷ ys) = cond (eqb x y) ys (y ∷ leaving x ys)
 
-leaving_length : (x : ℕ) (xs : List ℕ) → stands x xs ≡ true → length xs ≡ suc (length (leaving x xs))
+leaving_length : (x : ℕ) (xs : List ℕ) → stands_in x xs ≡ true → length xs ≡ suc (length (leaving x xs))
 unfolding leaving
 leaving_length x [] h = absurd (never_both false h refl)
 leaving_length x (y ∷ ys) h = elim (cases_Bool (eqb x y)) [
   | inl t ↦ rw t refl
-  | inr f ↦ (elim (or_cases (eqb x y) (stands x ys) h) [
+  | inr f ↦ (elim (or_cases (eqb x y) (stands_in x ys) h) [
     | inl t ↦ absurd (never_both (eqb x y) t f)
     | inr s ↦ rw f (ap suc (leaving_length x ys s))
   ])
 ]
 
-leaving_stands : (x w : ℕ) (xs : List ℕ) → (w ≡ x → ⊥) → stands w xs ≡ true → stands w (leaving x xs) ≡ true
+leaving_stands : (x w : ℕ) (xs : List ℕ) → (w ≡ x → ⊥) → stands_in w xs ≡ true → stands_in w (leaving x xs) ≡ true
 unfolding leaving
 leaving_stands x w [] ne h = h
 leaving_stands x w (y ∷ ys) ne h = elim (cases_Bool (eqb x y)) [
-  | inl t ↦ (elim (or_cases (eqb w y) (stands w ys) h) [
+  | inl t ↦ (elim (or_cases (eqb w y) (stands_in w ys) h) [
     | inl e ↦ absurd (ne (eqb-true w y e ∙ sym (eqb-true x y t)))
     | inr s ↦ rw t s
   ])
-  | inr f ↦ (elim (or_cases (eqb w y) (stands w ys) h) [
-    | inl e ↦ rw f (or_left (eqb w y) (stands w (leaving x ys)) e)
-    | inr s ↦ rw f (or_right (eqb w y) (stands w (leaving x ys)) (leaving_stands x w ys ne s))
+  | inr f ↦ (elim (or_cases (eqb w y) (stands_in w ys) h) [
+    | inl e ↦ rw f (or_left (eqb w y) (stands_in w (leaving x ys)) e)
+    | inr s ↦ rw f (or_right (eqb w y) (stands_in w (leaving x ys)) (leaving_stands x w ys ne s))
   ])
 ]
 
 -- the first walk to z passes no number twice, so it has fewer steps than a list that has all that it passes
 pub steps_below : (f : ℕ → ℕ) (j x z : ℕ) (xs : List ℕ) → after f j x ≡ z → ((i : ℕ) → i < j → after f i x ≡ z → ⊥)
-    → ((i : ℕ) → i ≤ j → stands (after f i x) xs ≡ true) → j < length xs
+    → ((i : ℕ) → i ≤ j → stands_in (after f i x) xs ≡ true) → j < length xs
 unfolding after
 steps_below f zero x z [] e before all = absurd (never_both false (all zero (omega arith)) refl)
 steps_below f zero x z (y ∷ ys) e before all = omega arith
 steps_below f (suc j) x z xs e before all =
     let here : length xs ≡ suc (length (leaving x xs)) = leaving_length x xs (all zero (omega arith)) in
-    let left : (i : ℕ) → i ≤ j → stands (after f i (f x)) (leaving x xs) ≡ true = λ i le.
+    let left : (i : ℕ) → i ≤ j → stands_in (after f i (f x)) (leaving x xs) ≡ true = λ i le.
     leaving_stands x (after f i (f x)) xs (λ back. (
     let n : suc j ≡ (j - i) + suc i = omega arith in
     let same : after f (suc j) x ≡ after f (j - i) x = ap (λ m. after f m x) n ∙ after_add f (j - i) (suc i) x ∙ ap (after f (j - i)) back in

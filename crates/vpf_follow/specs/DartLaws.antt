@@ -129,29 +129,29 @@ pub darts-below : (L : Library) (x : ℕ) → (links_of L).has x ≡ true → x 
 darts-below L x h = number_below x L.last (has-there L x h).to_last
 
 -- x stands in the list
-abbrev pub stands : ℕ → List ℕ → Bool
-stands x [] = false
-stands x (y ∷ ys) = eqb x y || stands x ys
+abbrev pub stands_in : ℕ → List ℕ → Bool
+stands_in x [] = false
+stands_in x (y ∷ ys) = eqb x y || stands_in x ys
 
-pub stands-left : (x : ℕ) (xs ys : List ℕ) → stands x xs ≡ true → stands x (xs ++ ys) ≡ true
+pub stands-left : (x : ℕ) (xs ys : List ℕ) → stands_in x xs ≡ true → stands_in x (xs ++ ys) ≡ true
 stands-left x [] ys h = absurd (never_both false h refl)
-stands-left x (z ∷ xs) ys h = elim (or_cases (eqb x z) (stands x xs) h) [
-  | inl e ↦ or_left (eqb x z) (stands x (xs ++ ys)) e
-  | inr i ↦ or_right (eqb x z) (stands x (xs ++ ys)) (stands-left x xs ys i)
+stands-left x (z ∷ xs) ys h = elim (or_cases (eqb x z) (stands_in x xs) h) [
+  | inl e ↦ or_left (eqb x z) (stands_in x (xs ++ ys)) e
+  | inr i ↦ or_right (eqb x z) (stands_in x (xs ++ ys)) (stands-left x xs ys i)
 ]
 
-pub stands-right : (x : ℕ) (xs ys : List ℕ) → stands x ys ≡ true → stands x (xs ++ ys) ≡ true
+pub stands-right : (x : ℕ) (xs ys : List ℕ) → stands_in x ys ≡ true → stands_in x (xs ++ ys) ≡ true
 stands-right x [] ys h = h
-stands-right x (z ∷ xs) ys h = or_right (eqb x z) (stands x (xs ++ ys)) (stands-right x xs ys h)
+stands-right x (z ∷ xs) ys h = or_right (eqb x z) (stands_in x (xs ++ ys)) (stands-right x xs ys h)
 
-pub stands-either : (x : ℕ) (xs ys : List ℕ) → stands x (xs ++ ys) ≡ true → (stands x xs ≡ true) ⊎ (stands x ys ≡ true)
+pub stands-either : (x : ℕ) (xs ys : List ℕ) → stands_in x (xs ++ ys) ≡ true → (stands_in x xs ≡ true) ⊎ (stands_in x ys ≡ true)
 stands-either x [] ys h = inr h
-stands-either x (z ∷ xs) ys h = elim (or_cases (eqb x z) (stands x (xs ++ ys)) h) [
-  | inl e ↦ inl (or_left (eqb x z) (stands x xs) e)
-  | inr i ↦ (elim (stands-either x xs ys i) [ inl a ↦ inl (or_right (eqb x z) (stands x xs) a) | inr b ↦ inr b ])
+stands-either x (z ∷ xs) ys h = elim (or_cases (eqb x z) (stands_in x (xs ++ ys)) h) [
+  | inl e ↦ inl (or_left (eqb x z) (stands_in x xs) e)
+  | inr i ↦ (elim (stands-either x xs ys i) [ inl a ↦ inl (or_right (eqb x z) (stands_in x xs) a) | inr b ↦ inr b ])
 ]
 
-row_stands : (t k e s : ℕ) → 1 ≤ e → e ≤ k → (s ≡ 0) ⊎ (s ≡ 1) → stands (code t e s) (row_darts t k) ≡ true
+row_stands : (t k e s : ℕ) → 1 ≤ e → e ≤ k → (s ≡ 0) ⊎ (s ≡ 1) → stands_in (code t e s) (row_darts t k) ≡ true
 row_stands t zero e s a b i = absurd (omega arith)
 row_stands t (suc k) e s a b i = elim (cases_eq e (suc k)) [
   | inr ne ↦ stands-left (code t e s) (row_darts t k) (code t (suc k) 0 ∷ code t (suc k) 1 ∷ []) (row_stands t k e s a (omega arith) i)
@@ -162,21 +162,21 @@ row_stands t (suc k) e s a b i = elim (cases_eq e (suc k)) [
   ])
 ]
 
-tile_stands : (edges : ℕ → ℕ) (last t e s : ℕ) → t ≤ last → 1 ≤ e → e ≤ edges t → (s ≡ 0) ⊎ (s ≡ 1) → stands (code t e s) (tile_darts edges last) ≡ true
+tile_stands : (edges : ℕ → ℕ) (last t e s : ℕ) → t ≤ last → 1 ≤ e → e ≤ edges t → (s ≡ 0) ⊎ (s ≡ 1) → stands_in (code t e s) (tile_darts edges last) ≡ true
 tile_stands edges zero t e s h a b i =
     let z : t ≡ 0 = omega arith in
-    subst (λ w. stands (code w e s) (row_darts 0 (edges 0)) ≡ true) (sym z) (row_stands 0 (edges 0) e s a (subst (λ w. e ≤ edges w) z b) i)
+    subst (λ w. stands_in (code w e s) (row_darts 0 (edges 0)) ≡ true) (sym z) (row_stands 0 (edges 0) e s a (subst (λ w. e ≤ edges w) z b) i)
 tile_stands edges (suc last) t e s h a b i = elim (cases_eq t (suc last)) [
   | inl same ↦ stands-right (code t e s) (tile_darts edges last) (row_darts (suc last) (edges (suc last)))
-      (subst (λ z. stands (code t e s) (row_darts z (edges z)) ≡ true) same (row_stands t (edges t) e s a b i))
+      (subst (λ z. stands_in (code t e s) (row_darts z (edges z)) ≡ true) same (row_stands t (edges t) e s a b i))
   | inr ne ↦ stands-left (code t e s) (tile_darts edges last) (row_darts (suc last) (edges (suc last))) (tile_stands edges last t e s (omega arith) a b i)
 ]
 
 -- each dart stands in the list of darts
-pub darts-stand : (L : Library) (d : ℕ) → (links_of L).has d ≡ true → stands d (links_of L).darts ≡ true
+pub darts-stand : (L : Library) (d : ℕ) → (links_of L).has d ≡ true → stands_in d (links_of L).darts ≡ true
 darts-stand L d h =
     let i : IsThere L d = has-there L d h in
-    subst (λ z. stands z (links_of L).darts ≡ true) (code-parts d)
+    subst (λ z. stands_in z (links_of L).darts ≡ true) (code-parts d)
     (tile_stands (edge_count L) L.last (tile_in d) (edge_in d) (sign_in d) i.to_last i.from_one i.to_count (sign-cases d))
 
 -- what stands in the list of a tile's darts is a dart of the tile
@@ -194,7 +194,7 @@ row_code t n e s d same a b few hs =
 row_more : (t n d : ℕ) → IsInRow t n d → IsInRow t (suc n) d
 row_more t n d r = let b = r.to_all in record { tile = r.tile; from_one = r.from_one; to_all = omega arith }
 
-row_only : (t n d : ℕ) → n < 2 ^ 24 → stands d (row_darts t n) ≡ true → IsInRow t n d
+row_only : (t n d : ℕ) → n < 2 ^ 24 → stands_in d (row_darts t n) ≡ true → IsInRow t n d
 row_only t zero d few h = absurd (never_both false h refl)
 row_only t (suc n) d few h = elim (stands-either d (row_darts t n) (code t (suc n) 0 ∷ code t (suc n) 1 ∷ []) h) [
   | inl a ↦ row_more t n d (row_only t n d (omega arith) a)
@@ -207,7 +207,7 @@ row_only t (suc n) d few h = elim (stands-either d (row_darts t n) (code t (suc 
   ])
 ]
 
-tile_only : (edges : ℕ → ℕ) (last d : ℕ) → ((t : ℕ) → edges t < 2 ^ 24) → stands d (tile_darts edges last) ≡ true
+tile_only : (edges : ℕ → ℕ) (last d : ℕ) → ((t : ℕ) → edges t < 2 ^ 24) → stands_in d (tile_darts edges last) ≡ true
     → (tile_in d ≤ last) × IsInRow (tile_in d) (edges (tile_in d)) d
 tile_only edges zero d few h =
     let r : IsInRow 0 (edges 0) d = row_only 0 (edges 0) d (few 0) h in
@@ -222,31 +222,31 @@ tile_only edges (suc last) d few h = elim (stands-either d (tile_darts edges las
 ]
 
 -- what stands in the list of darts is one
-pub stands-has : (L : Library) → ((t : ℕ) → edge_count L t < 2 ^ 24) → (d : ℕ) → stands d (links_of L).darts ≡ true → (links_of L).has d ≡ true
+pub stands-has : (L : Library) → ((t : ℕ) → edge_count L t < 2 ^ 24) → (d : ℕ) → stands_in d (links_of L).darts ≡ true → (links_of L).has d ≡ true
 stands-has L few d h =
     let q = tile_only (edge_count L) L.last d few h in
     let r : IsInRow (tile_in d) (edge_count L (tile_in d)) d = q.1 in
     there-has L d (record { from_one = r.from_one; to_count = r.to_all; to_last = q.0 })
 
 -- what is found passes and stands in the list, and where one in it passes some is found
-pub found-passes : (p : ℕ → Bool) (xs : List ℕ) (w : ℕ) → find p xs ≡ Some w → (p w ≡ true) × (stands w xs ≡ true)
+pub found-passes : (p : ℕ → Bool) (xs : List ℕ) (w : ℕ) → find p xs ≡ Some w → (p w ≡ true) × (stands_in w xs ≡ true)
 found-passes p [] w h = absurd (none_is_some w h)
 found-passes p (x ∷ xs) w h = elim (cases_Bool (p x)) [
   | inl t ↦ (
       let h' = rw t at h in
       let e : x ≡ w = same_some x w h' in
-      (ap p (sym e) ∙ t, or_left (eqb w x) (stands w xs) (eq-eqb w x (sym e))))
+      (ap p (sym e) ∙ t, or_left (eqb w x) (stands_in w xs) (eq-eqb w x (sym e))))
   | inr f ↦ (
       let h' = rw f at h in
       let q = found-passes p xs w h' in
-      (q.0, or_right (eqb w x) (stands w xs) q.1))
+      (q.0, or_right (eqb w x) (stands_in w xs) q.1))
 ]
 
-pub found-some : (p : ℕ → Bool) (z : ℕ) → p z ≡ true → (xs : List ℕ) → stands z xs ≡ true → (w : ℕ) × (find p xs ≡ Some w)
+pub found-some : (p : ℕ → Bool) (z : ℕ) → p z ≡ true → (xs : List ℕ) → stands_in z xs ≡ true → (w : ℕ) × (find p xs ≡ Some w)
 found-some p z pz [] s = absurd (never_both false s refl)
 found-some p z pz (x ∷ xs) s = elim (cases_Bool (p x)) [
   | inl t ↦ rw t (x, refl)
-  | inr f ↦ (elim (or_cases (eqb z x) (stands z xs) s) [
+  | inr f ↦ (elim (or_cases (eqb z x) (stands_in z xs) s) [
     | inl e ↦ absurd (never_both (p x) (ap p (sym (eqb-true z x e)) ∙ pz) f)
     | inr r ↦ rw f (found-some p z pz xs r)
   ])

@@ -16,12 +16,12 @@ abbrev pub is_slash : ℕ → Bool
 is_slash b = b == slash || b == backslash
 
 -- a name that isn't empty
-abbrev pub is_named : List ℕ → Bool
-is_named name = not (length name == 0)
+abbrev pub is_some_name : List ℕ → Bool
+is_some_name name = not (length name == 0)
 
 -- the names between the slashes of a text, without those that are empty
 abbrev pub folders_in : List ℕ → TilePath
-folders_in text = filter is_named (slice_split is_slash text)
+folders_in text = filter is_some_name (slice_split is_slash text)
 
 -- the path that a text names: the padding around it is dropped, and its letters are made small
 abbrev pub path_of : List ℕ → TilePath
