@@ -1,1 +1,5 @@
+mod CarryLemmas
+mod CarriedLemmas
 mod Example
+mod LinkLemmas
+mod LoopLemmas

@@ -1,4 +1,5 @@
 pub mod Carrying
+pub mod Naming
 pub mod HomeLines
 pub mod RoundLines
 pub mod CarriedLines

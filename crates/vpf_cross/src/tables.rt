@@ -1,0 +1,81 @@
+//! The tables of a tile, and what rows of edges name.
+
+ghost use Rattle.std.specs.Prelude.{◌≡◌, IsSome, Some, length, option_map};
+ghost use Rattle.vpf_prims.specs.Lists.{kth};
+ghost use Rattle.vpf_prims.specs.Numbering.{IsRowOf};
+ghost use Rattle.vpf_prims.specs.Primitives.{absent_edge};
+ghost use Rattle.vpf_prims.specs.Reading.{primitives_of};
+ghost use Rattle.vpf_prims.specs.Tables.{table_at, table_named};
+ghost use Rattle.vpf_wing.specs.Links.{link_of, node_by};
+ghost use Rattle.vpf_follow.specs.SideLines.{node_citation};
+ghost use Rattle.vpf_cross.specs.Naming.{beyond_at};
+
+use vpf_findings::TableName;
+use vpf_prims::{Citation, TableAt, Tile};
+use vpf_table::TableView;
+use vpf_triplet::Triplet;
+
+/// The table of this name, which the tile has.
+pub fn table<'t, 'a>(tile: &'t Tile<'a>, name: TableName) -> &'t TableView<'a>
+    requires { IsSome (table_named tile.now name) }
+    ensures { table_named tile.now name ≡ Some result.now }
+{
+    match tile.table(name) {
+        Some(table) => table,
+        None => unreachable!(),
+    }
+}
+
+/// The same table, where its findings are in the tile of this number.
+pub fn table_at(tile: &Tile<'_>, number: u32, name: TableName) -> TableAt
+    requires { IsSome (table_named tile.now name) }
+    ensures { result ≡ table_at number tile.now name }
+{
+    match tile.file(name) {
+        Some(file) => TableAt {
+            tile: number,
+            table: name,
+            file,
+        },
+        None => unreachable!(),
+    }
+}
+
+/// The column that has the head node of the `+` or `-` dart of an edge.
+pub fn node_citation(minus: bool) -> Citation
+    ensures { result ≡ node_citation minus }
+{
+    if minus {
+        Citation::StartNode
+    } else {
+        Citation::EndNode
+    }
+}
+
+/// The head node of the `+` or `-` dart of edge `k`.
+pub fn head_node(tile: &Tile<'_>, k: u32, minus: bool) -> Triplet
+    requires { IsRowOf (length (primitives_of tile.now.tables).edges) k }
+    ensures { result ≡ node_by minus (kth (primitives_of tile.now.tables).edges k absent_edge) }
+{
+    let edge = tile.edge(k);
+    if minus { edge.start_node } else { edge.end_node }
+}
+
+/// A thing of another tile: the tile, and the thing's number there.
+#[derive(Clone, Copy, Debug, PartialEq, Eq)]
+pub struct BeyondAt {
+    /// The tile.
+    pub tile: u32,
+    /// The number.
+    pub id: u32,
+}
+
+/// The external part of a reference, where both its tile and its number there are.
+pub fn beyond(reference: Triplet) -> Option<BeyondAt>
+    ensures { option_map beyond_at result ≡ (link_of reference).out }
+{
+    match (reference.tile, reference.ext) {
+        (Some(tile), Some(id)) => Some(BeyondAt { tile, id }),
+        _ => None,
+    }
+}
