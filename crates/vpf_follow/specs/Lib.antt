@@ -3,3 +3,6 @@ pub mod Following
 pub mod Sided
 pub mod SideLines
 pub mod FollowLines
+pub mod Rows
+pub mod Homes
+pub mod Followed

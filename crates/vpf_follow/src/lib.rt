@@ -1,2 +1,14 @@
-//! What follows a dart across the tiles of a coverage.
+//! What follows a dart across the tiles of a coverage: the sides of edges, the dart that comes next by the external parts of references,
+//! and home copies (MIL-STD-2407, 5.2.3, cross-tile topology).
 #![tactic(auto)]
+
+mod checking;
+mod followed;
+mod following;
+mod homes;
+mod links;
+mod sides;
+
+pub use followed::{Followed, check_follows};
+pub use following::{follow, is_home, is_outside};
+pub use sides::check_sides;

@@ -1,0 +1,2 @@
+pub mod DartLemmas
+pub mod HomeLemmas

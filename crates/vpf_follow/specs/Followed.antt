@@ -1,0 +1,17 @@
+-- A coverage in which nothing disagrees in what follows its darts, with its home darts.
+use Rattle.std.specs.Prelude.{◌≡◌, None, length}
+use Rattle.vpf_prims.specs.Coverages.{CoverageTables}
+use Rattle.vpf_follow.specs.declared.followed.Followed.TheInside.{Inside}
+use Rattle.vpf_follow.specs.Libraries.{in_tiles}
+use Rattle.vpf_follow.specs.FollowLines.{follows_finding}
+use Rattle.vpf_follow.specs.Homes.{AreHomes, coverage_links}
+
+-- the coverage
+abbrev pub coverage_of : Inside → CoverageTables
+coverage_of f = f.coverage.now
+
+-- nothing disagrees in what follows its darts, and these are its home darts, and how many darts there are
+pub record IsFollowed (f : Inside) : Type 0 where
+  pub agrees : in_tiles (follows_finding (coverage_links (coverage_of f))) (coverage_of f) ≡ None
+  pub kept : AreHomes (coverage_links (coverage_of f)) (coverage_links (coverage_of f)).darts f.homes
+  pub count : f.darts ≡ length (coverage_links (coverage_of f)).darts

@@ -1,0 +1,132 @@
+//! Coverages whose darts are followed as they should.
+
+ghost use Rattle.std.specs.Prelude.{◌≡◌, IfOk, length};
+ghost use Rattle.vpf_findings.specs.Firsts.{Tells};
+ghost use Rattle.vpf_wing.specs.Links.{links_of};
+ghost use Rattle.vpf_follow.specs.FollowLines.{follows_finding};
+ghost use Rattle.vpf_follow.specs.Homes.{HasFewEdges};
+ghost use Rattle.vpf_follow.specs.Libraries.{in_tiles, library_of};
+
+use crate::checking::check_tile;
+use crate::following::{follow, is_home};
+use crate::homes::Homes;
+use std::alloc::Global;
+use std::marker::Model;
+use vpf_darts::TileDart;
+use vpf_findings::FindError;
+use vpf_prims::Coverage;
+
+/// A coverage in which each dart is followed by a home dart, and no two home darts by the same, with its home darts. Contracts see it
+/// as the coverage.
+#[derive(Drop)]
+pub struct Followed<'c, 'a> {
+    coverage: &'c Coverage<'a>,
+    homes: Homes,
+    darts: u64,
+}
+
+impl<'c, 'a> Model for Followed<'c, 'a> {
+    ghost use Rattle.vpf_prims.specs.Coverages.{CoverageTables};
+
+    ghost Value = { CoverageTables };
+
+    ghost use Rattle.vpf_follow.specs.Followed.{coverage_of, IsFollowed};
+
+    ghost view = { coverage_of };
+
+    ghost invariant = { IsFollowed };
+}
+
+/// How many darts there are in the tiles of a coverage.
+fn count_darts(coverage: &Coverage<'_>) -> u64
+    ensures count { result ≡ length (links_of (library_of coverage.now)).darts }
+    ensures few { HasFewEdges (library_of coverage.now) }
+{
+    let mut darts: u64 = 0;
+    for t in 0..=coverage.tiles() {
+        if let Some(tile) = coverage.tile(t) {
+            darts += 2 * u64::from(tile.edges());
+        }
+    }
+    darts
+}
+
+/// Each dart of the coverage is followed by a home dart, and no two home darts are followed by the same (MIL-STD-2407, 5.2.3, cross-tile
+/// topology). The first dart that none follows, or that is a home dart which an earlier one is followed as, is the finding: tile by
+/// tile, edge by edge, `+` before `-`. The rows are passed once. Takes memory for each home dart, and nothing else.
+pub fn check_follows<'c, 'a>(
+    alloc: Global,
+    coverage: &'c Coverage<'a>,
+) -> Result<Followed<'c, 'a>, FindError<'a>>
+    ensures first { Tells result (in_tiles (follows_finding (links_of (library_of coverage.now))) coverage.now) }
+    ensures view { IfOk result (λ f. f ≡ coverage.now) }
+{
+    let darts = count_darts(coverage);
+    let mut homes = Homes::new(alloc);
+    for t in 0..=coverage.tiles() {
+        if let Some(tile) = coverage.tile(t) {
+            check_tile(coverage, tile, t, &mut homes)?;
+        }
+    }
+    Ok(Followed {
+        coverage,
+        homes,
+        darts,
+    })
+}
+
+impl<'c, 'a> Followed<'c, 'a> {
+    ghost use Rattle.std.specs.Prelude.{◌≡◌, Some, None, length, true};
+    ghost use Rattle.vpf_darts.specs.Darts.{tile_dart_code};
+    ghost use Rattle.vpf_wing.specs.Links.{links_of};
+    ghost use Rattle.vpf_follow.specs.Following.{follow, home_copy, is_home};
+    ghost use Rattle.vpf_follow.specs.FollowLines.{follows_finding};
+    ghost use Rattle.vpf_follow.specs.Homes.{IsDartIn};
+    ghost use Rattle.vpf_follow.specs.Libraries.{in_tiles, library_of};
+
+    /// The coverage.
+    pub fn coverage(&self) -> &'c Coverage<'a>
+        ensures { result.now ≡ self.now }
+    {
+        self.coverage
+    }
+
+    /// What is so of each: nothing disagrees in what follows its darts.
+    pub fn agrees(&self)
+        ensures { in_tiles (follows_finding (links_of (library_of self.now))) self.now ≡ None }
+    {
+        let _darts = self.darts;
+    }
+
+    /// How many darts there are.
+    pub fn darts(&self) -> u64
+        ensures { result ≡ length (links_of (library_of self.now)).darts }
+    {
+        self.darts
+    }
+
+    /// The home dart that follows a dart.
+    pub fn next(&self, dart: TileDart) -> TileDart
+        requires { IsDartIn self.now dart }
+        ensures next { follow (links_of (library_of self.now)) (tile_dart_code dart) ≡ Some (tile_dart_code result) }
+        ensures home { is_home (links_of (library_of self.now)) (tile_dart_code result) ≡ true }
+        ensures dart { IsDartIn self.now result }
+    {
+        match follow(self.coverage, dart) {
+            Some(next) => next,
+            None => unreachable!(),
+        }
+    }
+
+    /// The home copy of a dart: itself where it is a home dart, and else the home dart that is followed by the same dart. Takes no memory.
+    pub fn home_copy(&self, dart: TileDart) -> TileDart
+        requires { IsDartIn self.now dart }
+        ensures copy { tile_dart_code result ≡ home_copy (links_of (library_of self.now)) (tile_dart_code dart) }
+        ensures dart { IsDartIn self.now result }
+    {
+        if is_home(self.coverage, dart) {
+            return dart;
+        }
+        self.homes.first(self.next(dart)).unwrap_or(dart)
+    }
+}
