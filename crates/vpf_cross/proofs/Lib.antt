@@ -1,5 +1,6 @@
-mod CarryLemmas
 mod CarriedLemmas
+mod CarryLemmas
+mod DartLists
 mod Example
 mod LinkLemmas
 mod LoopLemmas

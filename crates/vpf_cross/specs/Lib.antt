@@ -1,8 +1,8 @@
 pub mod Carrying
-pub mod Naming
 pub mod HomeLines
 pub mod RoundLines
 pub mod CarriedLines
+pub mod Copies
 pub mod Agreeing
 pub mod CrossFinding
 pub mod Example

@@ -12,7 +12,7 @@ ghost use Rattle.vpf_cross.specs.CarriedLines.{carried_finding, first_tile, head
 ghost use Rattle.vpf_cross.specs.Carrying.{carried_at, difference_of, first_difference};
 
 use crate::carrying::{Difference, first_difference};
-use crate::tables::{beyond, head_node, node_citation, table, table_at};
+use crate::tables::{external_part, head_node, node_citation, table, table_at};
 use vpf_findings::{Finding, TableName};
 use vpf_prims::{Coverage, Tile, face_roles, id_of, node_roles};
 
@@ -49,7 +49,7 @@ fn check_head_node<'a>(
     ensures { Finds result (head_node_line (library_of coverage.now) number tile.now k minus) }
 {
     let node = head_node(tile, k, minus);
-    let Some(other) = beyond(node) else {
+    let Some(other) = external_part(node) else {
         return Ok(());
     };
     let Some(there) = coverage.tile(other.tile) else {

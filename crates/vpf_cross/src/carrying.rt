@@ -122,6 +122,8 @@ fn row_difference<'a>(
     ensures { option_map difference_of result ≡ first_difference (carried_columns (map role_of roles.now) header.now.columns)
         (carried_in (map role_of roles.now) header.now.columns row.now) (carried_in (map role_of roles.now) other_header.now.columns other_row.now) }
 {
+    // There are few enough columns to count them.
+    let _columns = other_header.len();
     let mut passed = 0;
     for c in 0..header.len() {
         let column = header.at(c);

@@ -1,6 +1,6 @@
 //! The tables of a tile, and what rows of edges name.
 
-ghost use Rattle.std.specs.Prelude.{◌≡◌, IsSome, Some, length, option_map};
+ghost use Rattle.std.specs.Prelude.{◌≡◌, IsSome, Some, length};
 ghost use Rattle.vpf_prims.specs.Lists.{kth};
 ghost use Rattle.vpf_prims.specs.Numbering.{IsRowOf};
 ghost use Rattle.vpf_prims.specs.Primitives.{absent_edge};
@@ -8,8 +8,8 @@ ghost use Rattle.vpf_prims.specs.Reading.{primitives_of};
 ghost use Rattle.vpf_prims.specs.Tables.{table_at, table_named};
 ghost use Rattle.vpf_wing.specs.Links.{link_of, node_by};
 ghost use Rattle.vpf_follow.specs.SideLines.{node_citation};
-ghost use Rattle.vpf_cross.specs.Naming.{beyond_at};
 
+use std::marker::Model;
 use vpf_findings::TableName;
 use vpf_prims::{Citation, TableAt, Tile};
 use vpf_table::TableView;
@@ -61,21 +61,31 @@ pub fn head_node(tile: &Tile<'_>, k: u32, minus: bool) -> Triplet
     if minus { edge.start_node } else { edge.end_node }
 }
 
-/// A thing of another tile: the tile, and the thing's number there.
-#[derive(Clone, Copy, Debug, PartialEq, Eq)]
-pub struct BeyondAt {
+/// A thing of another tile. Contracts see it as its tile and its number there.
+#[derive(Clone, Copy)]
+pub struct ExternalPart {
     /// The tile.
     pub tile: u32,
-    /// The number.
+    /// The thing's number there.
     pub id: u32,
 }
 
+impl Model for ExternalPart {
+    ghost use Rattle.vpf_wing.specs.Links.{Beyond};
+
+    ghost Value = { Beyond };
+
+    ghost view = { λ part. record { tile = part.tile; id = part.id } };
+
+    ghost inverse = { λ part. record { tile = part.tile; id = part.id } };
+}
+
 /// The external part of a reference, where both its tile and its number there are.
-pub fn beyond(reference: Triplet) -> Option<BeyondAt>
-    ensures { option_map beyond_at result ≡ (link_of reference).out }
+pub fn external_part(reference: Triplet) -> Option<ExternalPart>
+    ensures { result ≡ (link_of reference).out }
 {
     match (reference.tile, reference.ext) {
-        (Some(tile), Some(id)) => Some(BeyondAt { tile, id }),
+        (Some(tile), Some(id)) => Some(ExternalPart { tile, id }),
         _ => None,
     }
 }
