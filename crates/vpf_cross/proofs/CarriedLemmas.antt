@@ -30,7 +30,7 @@ at_row read part absent [] i same = same
 at_row read part absent (row ∷ rows) zero same = refl
 at_row read part absent (row ∷ rows) (suc i) same = at_row read part absent rows i same
 
-at_number : {R V : Type 0} (read : Row → R) (part : R → V) (absent : R) (rows : List Row) (n : ℕ) → part absent ≡ part (read [])
+pub at_number : {R V : Type 0} (read : Row → R) (part : R → V) (absent : R) (rows : List Row) (n : ℕ) → part absent ≡ part (read [])
     → part (kth (map read rows) n absent) ≡ part (read (kth rows n []))
 at_number read part absent rows zero same = same
 at_number read part absent rows (suc i) same = at_row read part absent rows i same

@@ -1,6 +1,12 @@
+mod AgreeLemmas
 mod CarriedLemmas
 mod CarryLemmas
+mod CopyLemmas
+mod DartLemmas
 mod DartLists
 mod Example
+mod HomeLemmas
 mod LinkLemmas
 mod LoopLemmas
+mod NextLemmas
+mod NumberLemmas

@@ -6,7 +6,7 @@ use Rattle.vpf_prims.specs.Lists.{kth}
 use Rattle.vpf_prims.specs.Primitives.{EdgePrimitive, absent_edge, edges_in, tile_edges}
 use Rattle.vpf_prims.specs.Reading.{primitives_of}
 use Rattle.vpf_prims.specs.Tables.{TileTables}
-use Rattle.vpf_wing.specs.Links.{links_of, link_of, edge_of_dart, is_minus, node_by}
+use Rattle.vpf_wing.specs.Links.{links_of, link_of, edge_of_dart, face_by, is_minus, node_by, wing_by}
 use Rattle.vpf_follow.specs.Libraries.{library_of, primitives_in}
 
 pub tile-code : (t k : ℕ) (m : Bool) → k < 2 ^ 32 → tile_in (code t k (sign_of m)) ≡ t
@@ -46,3 +46,16 @@ pub node_at : (c : CoverageTables) (t : ℕ) (T : TileTables) (k : ℕ) (m : Boo
 node_at c t T k m e h =
     ap (λ b. link_of (node_by b (edge_of_dart (library_of c) (code t k (sign_of m))))) (minus-code t k m)
     ∙ ap (λ (x : EdgePrimitive). link_of (node_by m x)) (edge_at c t T k m e h)
+
+-- its face, and its wing
+pub face_at : (c : CoverageTables) (t : ℕ) (T : TileTables) (k : ℕ) (m : Bool) → tile_at c t ≡ Some T → k < 2 ^ 32
+    → (links_of (library_of c)).face (code t k (sign_of m)) ≡ link_of (face_by m (kth (primitives_of T.tables).edges k absent_edge))
+face_at c t T k m e h =
+    ap (λ b. link_of (face_by b (edge_of_dart (library_of c) (code t k (sign_of m))))) (minus-code t k m)
+    ∙ ap (λ (x : EdgePrimitive). link_of (face_by m x)) (edge_at c t T k m e h)
+
+pub wing_at : (c : CoverageTables) (t : ℕ) (T : TileTables) (k : ℕ) (m : Bool) → tile_at c t ≡ Some T → k < 2 ^ 32
+    → (links_of (library_of c)).wing (code t k (sign_of m)) ≡ link_of (wing_by m (kth (primitives_of T.tables).edges k absent_edge))
+wing_at c t T k m e h =
+    ap (λ b. link_of (wing_by b (edge_of_dart (library_of c) (code t k (sign_of m))))) (minus-code t k m)
+    ∙ ap (λ (x : EdgePrimitive). link_of (wing_by m x)) (edge_at c t T k m e h)

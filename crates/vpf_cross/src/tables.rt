@@ -7,7 +7,7 @@ ghost use Rattle.vpf_prims.specs.Primitives.{absent_edge};
 ghost use Rattle.vpf_prims.specs.Reading.{primitives_of};
 ghost use Rattle.vpf_prims.specs.Tables.{table_at, table_named};
 ghost use Rattle.vpf_wing.specs.Links.{link_of, node_by};
-ghost use Rattle.vpf_follow.specs.SideLines.{node_citation};
+ghost use Rattle.vpf_follow.specs.SideLines.{face_citation, node_citation, wing_citation};
 
 use std::marker::Model;
 use vpf_findings::TableName;
@@ -49,6 +49,28 @@ pub fn node_citation(minus: bool) -> Citation
         Citation::StartNode
     } else {
         Citation::EndNode
+    }
+}
+
+/// The column that has its face.
+pub fn face_citation(minus: bool) -> Citation
+    ensures { result ≡ face_citation minus }
+{
+    if minus {
+        Citation::LeftFace
+    } else {
+        Citation::RightFace
+    }
+}
+
+/// The column that has its wing.
+pub fn wing_citation(minus: bool) -> Citation
+    ensures { result ≡ wing_citation minus }
+{
+    if minus {
+        Citation::LeftEdge
+    } else {
+        Citation::RightEdge
     }
 }
 
