@@ -1,7 +1,7 @@
 -- What is so of each dart where nothing disagrees in what follows darts, and in home copies.
-use Rattle.std.proofs.Common.{◌≡◌, ◌≢◌, ℕ, zero, suc, ◌+◌, ◌-◌, ◌^◌, ◌<◌, ◌≤◌, Bool, true, false, not, eqb, ◌&&◌, Option, Some, None, is_some, List, [], ◌∷◌, length, get_or, refl, sym, ap, subst, ◌∙◌, arith}
+use Rattle.std.proofs.Common.{◌≡◌, ◌≢◌, ℕ, zero, suc, ◌+◌, ◌-◌, ◌^◌, ◌<◌, ◌≤◌, Bool, true, false, not, eqb, ◌&&◌, Option, Some, None, is_some, List, [], ◌∷◌, length, get_or, refl, sym, ap, subst, ◌∙◌, arith, inl, inr}
 use Rattle.std.specs.Prelude.{if◌then◌else◌}
-use Rattle.std.proofs.lemmas.Bool.{and_parts, eqb-true}
+use Rattle.std.proofs.lemmas.Bool.{and_parts, cases_eq, eqb-true}
 use Rattle.vpf_triplet.specs.declared.triplets.Triplet.{Triplet}
 use Rattle.vpf_darts.specs.Darts.{code, tile_in, edge_in, sign_in, sign_of, flip}
 use Rattle.vpf_findings.specs.Findings.{Disagreement}
@@ -149,3 +149,39 @@ faces_elsewhere c h d outside out =
     ∙ face_stays (is_minus d) (kth (primitives_of i.tables.tables).edges (edge_in d) absent_edge) stays.right_face stays.left_face in
     let clash : None ≡ Some (tile_in d) = ap beyond_tile (sym none) ∙ out in
     none_some (tile_in d) clash
+
+same_tables : (c : CoverageTables) (t : ℕ) (T U : TileTables) → Some T ≡ tile_at c t → tile_at c t ≡ Some U → T ≡ U
+same_tables c t T U e f = same (e ∙ f)
+  where
+    same : Some T ≡ Some U → T ≡ U
+    same h = cc
+
+-- one more tile
+pub numbers_more : (c : CoverageTables) (t : ℕ) (T : TileTables) → HaveNumbers c t → Some T ≡ tile_at c t → length (primitives_of T.tables).edges < 2 ^ 24 → numbers_finding 0 T ≡ None
+    → HaveNumbers c (t + 1)
+numbers_more c t T h is few numbers = record {
+  few = λ u U lt at. elim (cases_eq u t) [
+    | inl e ↦ subst (λ (V : TileTables). length (primitives_of V.tables).edges < 2 ^ 24) (same_tables c t T U is (ap (tile_at c) (sym e) ∙ at)) few
+    | inr ne ↦ h.few u U (omega arith) at
+  ];
+  numbers = λ u U lt at. elim (cases_eq u t) [
+    | inl e ↦ subst (λ (V : TileTables). numbers_finding 0 V ≡ None) (same_tables c t T U is (ap (tile_at c) (sym e) ∙ at)) numbers
+    | inr ne ↦ h.numbers u U (omega arith) at
+  ];
+}
+
+-- one that isn't there
+pub numbers_past : (c : CoverageTables) (t : ℕ) → HaveNumbers c t → None ≡ tile_at c t → HaveNumbers c (t + 1)
+numbers_past c t h is = record {
+  few = λ u U lt at. elim (cases_eq u t) [
+    | inl e ↦ absurd (none_tables U (is ∙ ap (tile_at c) (sym e) ∙ at))
+    | inr ne ↦ h.few u U (omega arith) at
+  ];
+  numbers = λ u U lt at. elim (cases_eq u t) [
+    | inl e ↦ absurd (none_tables U (is ∙ ap (tile_at c) (sym e) ∙ at))
+    | inr ne ↦ h.numbers u U (omega arith) at
+  ];
+}
+  where
+    none_tables : (U : TileTables) → None ≡ Some U → ⊥
+    none_tables U e = cc

@@ -1,10 +1,12 @@
 -- The lines on the home copy of a dart, by the rows of both edges.
-use Rattle.std.proofs.Common.{◌≡◌, ℕ, ◌^◌, ◌<◌, ◌≤◌, Bool, true, false, Option, Some, None, nat_eq, List, [], length, refl, sym, ap, ◌∙◌, subst, arith}
+use Rattle.std.proofs.Common.{◌≡◌, ℕ, ◌^◌, ◌<◌, ◌≤◌, Bool, true, false, eqb, Option, Some, None, nat_eq, List, [], length, refl, sym, ap, ◌∙◌, subst, arith}
 use Rattle.std.specs.Option.{option_eq, option_map}
 use Rattle.vpf_value.specs.Values.{Value}
 use Rattle.vpf_darts.specs.declared.darts.TileDart.{TileDart}
-use Rattle.vpf_darts.specs.Darts.{code, tile_in, edge_in, sign_of, tile_dart_code}
-use Rattle.vpf_findings.specs.Findings.{Sight}
+use Rattle.vpf_darts.specs.contracts.darts.TileDartPartialEq.TheImpl.{eq-value}
+use Rattle.vpf_darts.specs.Darts.{code, tile_in, edge_in, flip, sign_in, sign_of, tile_dart_code}
+use Rattle.vpf_findings.specs.declared.finding.SeenWord.TheVariants as words
+use Rattle.vpf_findings.specs.Findings.{DartSeen, Sight, WordSeen}
 use Rattle.vpf_findings.specs.Firsts.{unless}
 use Rattle.vpf_prims.specs.declared.citing.Citation.TheVariants as cites
 use Rattle.vpf_prims.specs.Columns.{in_table}
@@ -16,14 +18,18 @@ use Rattle.vpf_prims.specs.Reading.{edge_in_row, primitives_of}
 use Rattle.vpf_prims.specs.Roles.{edge_roles}
 use Rattle.vpf_prims.specs.Suiting.{carried_columns}
 use Rattle.vpf_prims.specs.Tables.{TileTables, at_citation, cited_cell, edg_at}
-use Rattle.vpf_follow.specs.Following.{home_copy}
+use Rattle.vpf_wing.specs.Links.{DartLinks}
+use Rattle.vpf_follow.specs.FollowLines.{at_wing_of}
+use Rattle.vpf_follow.specs.Following.{home_copy, number_seen}
 use Rattle.vpf_follow.specs.Homes.{IsDartIn}
+use Rattle.vpf_follow.specs.SideLines.{face_citation}
 use Rattle.vpf_cross.specs.Carrying.{Difference, carried_at, first_difference}
-use Rattle.vpf_cross.specs.HomeLines.{coverage_links, home_carried_line, home_mark_line, mark_seen}
+use Rattle.vpf_cross.specs.HomeLines.{coverage_links, home_carried_line, home_flip_line, home_mark_line, home_sign_line, mark_seen}
 use Rattle.vpf_cross.proofs.AgreeLemmas.{IsThere, is_there}
 use Rattle.vpf_cross.proofs.CarriedLemmas.{at_number}
 use Rattle.vpf_cross.proofs.CarryLemmas.{empty_carries}
-use Rattle.vpf_cross.proofs.LinkLemmas.{edge-code, edge_at, tile-code}
+use Rattle.vpf_cross.proofs.DartLemmas.{same_numbers, seen_so}
+use Rattle.vpf_cross.proofs.LinkLemmas.{edge-code, edge_at, sign-code, tile-code}
 
 -- the tile of a dart of a coverage, and its edge there
 pub record IsIn (c : CoverageTables) (d : TileDart) : Type 0 where
@@ -99,3 +105,24 @@ carried_line_is c d h T U small home_small is there copy =
     ap (λ x. option_map (λ (f : Difference). in_table (edg_at d.tile T) 5 d.edge f.column f.here f.there) (first_difference columns (C.carried (tile_dart_code d)) (C.carried x))) (sym copy)
     ∙ ap (λ (xs : List Value). option_map (λ (f : Difference). in_table (edg_at d.tile T) 5 d.edge f.column f.here f.there) (first_difference columns xs (C.carried (tile_dart_code h)))) (carried_cells c d T small is)
     ∙ ap (λ (ys : List Value). option_map (λ (f : Difference). in_table (edg_at d.tile T) 5 d.edge f.column f.here f.there) (first_difference columns (carried_at edge_roles T.tables.edg d.edge) ys)) (carried_cells c h U home_small there)
+
+-- the line on the other dart of a home copy
+pub flip_line_is : (C : DartLinks) (d h back other : TileDart) (T : TileTables) → back.edge < 2 ^ 32 → other.edge < 2 ^ 32 → tile_dart_code h ≡ home_copy C (tile_dart_code d)
+    → tile_dart_code back ≡ home_copy C (flip (tile_dart_code h)) → tile_dart_code other ≡ flip (tile_dart_code d)
+    → home_flip_line C d.tile T d.edge d.minus ≡ unless ((eq-value).it back other) (at_citation d.tile T (face_citation d.minus) 5 d.edge (DartSeen back) (DartSeen other))
+flip_line_is C d h back other T small other_small copy back_is other_is =
+    let x : home_copy C (flip (home_copy C (tile_dart_code d))) ≡ tile_dart_code back = sym (back_is ∙ ap (λ v. home_copy C (flip v)) copy) in
+    let y : flip (tile_dart_code d) ≡ tile_dart_code other = sym other_is in
+    ap (λ v. unless (eqb v (flip (tile_dart_code d))) (at_citation d.tile T (face_citation d.minus) 5 d.edge (number_seen v) (number_seen (flip (tile_dart_code d))))) x
+    ∙ ap (λ v. unless (eqb (tile_dart_code back) v) (at_citation d.tile T (face_citation d.minus) 5 d.edge (number_seen (tile_dart_code back)) (number_seen v))) y
+    ∙ ap (λ (s : Sight). unless (eqb (tile_dart_code back) (tile_dart_code other)) (at_citation d.tile T (face_citation d.minus) 5 d.edge s (number_seen (tile_dart_code other)))) (seen_so back (tile_dart_code back) small refl)
+    ∙ ap (λ (s : Sight). unless (eqb (tile_dart_code back) (tile_dart_code other)) (at_citation d.tile T (face_citation d.minus) 5 d.edge (DartSeen back) s)) (seen_so other (tile_dart_code other) other_small refl)
+    ∙ ap (λ b. unless b (at_citation d.tile T (face_citation d.minus) 5 d.edge (DartSeen back) (DartSeen other))) (same_numbers back other small other_small)
+
+-- the line on its sign
+pub sign_line_is : (C : DartLinks) (d h : TileDart) (T : TileTables) → h.edge < 2 ^ 32 → tile_dart_code h ≡ home_copy C (tile_dart_code d)
+    → home_sign_line C d.tile T d.edge d.minus ≡ unless (eqb (sign_of h.minus) (sign_of d.minus)) (at_wing_of d.tile T 5 d.edge d.minus (DartSeen h) (WordSeen words.Sign))
+sign_line_is C d h T small copy =
+    ap (λ x. unless (eqb (sign_in x) (sign_of d.minus)) (at_wing_of d.tile T 5 d.edge d.minus (number_seen x) (WordSeen words.Sign))) (sym copy)
+    ∙ ap (λ s. unless (eqb s (sign_of d.minus)) (at_wing_of d.tile T 5 d.edge d.minus (number_seen (tile_dart_code h)) (WordSeen words.Sign))) (sign-code h.tile h.edge h.minus)
+    ∙ ap (λ (s : Sight). unless (eqb (sign_of h.minus) (sign_of d.minus)) (at_wing_of d.tile T 5 d.edge d.minus s (WordSeen words.Sign))) (seen_so h (tile_dart_code h) small refl)

@@ -10,3 +10,4 @@ mod LinkLemmas
 mod LoopLemmas
 mod NextLemmas
 mod NumberLemmas
+mod RoundLemmas

@@ -1,6 +1,6 @@
 -- The darts of the tiles of a coverage, by their numbers.
-use Rattle.std.proofs.Common.{◌≡◌, ℕ, ◌^◌, ◌<◌, Bool, true, false, Some, List, refl, ap, ◌∙◌, arith}
-use Rattle.vpf_darts.specs.Darts.{code, tile_in, edge_in, sign_in, sign_of}
+use Rattle.std.proofs.Common.{◌≡◌, ℕ, ◌^◌, ◌<◌, Bool, true, false, not, Some, List, refl, ap, ◌∙◌, arith}
+use Rattle.vpf_darts.specs.Darts.{code, tile_in, edge_in, flip, sign_in, sign_of}
 use Rattle.vpf_prims.specs.Coverages.{CoverageTables, tile_at}
 use Rattle.vpf_prims.specs.Lists.{kth}
 use Rattle.vpf_prims.specs.Primitives.{EdgePrimitive, absent_edge, edges_in, tile_edges}
@@ -27,6 +27,19 @@ sign-code t k false = omega arith
 pub minus-code : (t k : ℕ) (m : Bool) → is_minus (code t k (sign_of m)) ≡ m
 minus-code t k true = rw (sign-code t k true) refl
 minus-code t k false = rw (sign-code t k false) refl
+
+-- the other dart of an edge
+pub flip-plus : (t k : ℕ) → flip (code t k 0) ≡ code t k 1
+unfolding flip code
+flip-plus t k = omega arith
+
+flip-minus : (t k : ℕ) → flip (code t k 1) ≡ code t k 0
+unfolding flip code
+flip-minus t k = omega arith
+
+pub flip-code : (t k : ℕ) (s : Bool) → flip (code t k (sign_of s)) ≡ code t k (sign_of (not s))
+flip-code t k false = flip-plus t k
+flip-code t k true = flip-minus t k
 
 -- the edges of a tile
 pub edges_at : (c : CoverageTables) (t : ℕ) (T : TileTables) → tile_at c t ≡ Some T → tile_edges (library_of c) t ≡ (primitives_of T.tables).edges

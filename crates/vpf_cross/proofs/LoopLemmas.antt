@@ -67,3 +67,17 @@ pub no_tile : (rule : ℕ → TileTables → Option Disagreement) (c : CoverageT
 unfolding in_tiles
 no_tile rule c none t T is last =
     sym (in_tile_at rule t c T is) ∙ over_none (λ t. in_tile (rule t) (tile_at c t)) 0 (last_tile c + 1) none t (omega arith) (omega arith)
+
+-- a tile that isn't there, or in which a rule finds nothing, is passed
+pub pass_at : (rule : ℕ → TileTables → Option Disagreement) (t : ℕ) (c : CoverageTables) (T : TileTables) → t < last_tile c + 1 → Some T ≡ tile_at c t → rule t T ≡ None
+    → tiles_left rule (t + 1) c ≡ tiles_left rule t c
+pass_at rule t c T h is none = pass_tile rule t c h (in_tile_at rule t c T (sym is) ∙ none)
+
+pub pass_absent : (rule : ℕ → TileTables → Option Disagreement) (t : ℕ) (c : CoverageTables) → t < last_tile c + 1 → None ≡ tile_at c t → tiles_left rule (t + 1) c ≡ tiles_left rule t c
+pass_absent rule t c h is = pass_tile rule t c h (in_tile_absent rule t c (sym is))
+
+pub stop_at : (rule : ℕ → TileTables → Option Disagreement) (t : ℕ) (c : CoverageTables) (T : TileTables) (f : Disagreement) → t < last_tile c + 1 → Some T ≡ tile_at c t → rule t T ≡ Some f
+    → tiles_left rule t c ≡ Some f
+stop_at rule t c T f h is some = stop_tile rule t c f h (in_tile_at rule t c T (sym is) ∙ some)
+
+pub ruleset tile_rules = (all_tiles, pass_at, pass_absent, end_tiles)

@@ -18,7 +18,7 @@ use Rattle.vpf_wing.specs.Nexts.{edge_at, face, flipped, follows, head, next_dar
 use Rattle.vpf_follow.specs.Libraries.{library_of}
 use Rattle.vpf_cross.specs.HomeLines.{coverage_links}
 use Rattle.vpf_cross.proofs.DartLists.{IsOfTiles, has_from}
-use Rattle.vpf_cross.proofs.LinkLemmas.{edge-code, edges_at, face_at, node_at, tile-code, wing_at}
+use Rattle.vpf_cross.proofs.LinkLemmas.{edge-code, edges_at, flip-code, flip-plus, face_at, node_at, tile-code, wing_at}
 use Rattle.vpf_cross.proofs.NumberLemmas.{StaysInTile, edges_stay}
 
 own_edge_at : (es : List EdgePrimitive) (i : ℕ) → get_or (map own_edge es) i no_edge ≡ own_edge (get_or es i absent_edge)
@@ -30,18 +30,6 @@ own_edge_at (e ∷ es) (suc i) = own_edge_at es i
 own_row : (es : List EdgePrimitive) (k : ℕ) → 1 ≤ k → edge_at (map own_edge es) k ≡ own_edge (kth es k absent_edge)
 own_row es zero h = absurd (omega arith)
 own_row es (suc i) h = let e : suc i - 1 ≡ i = omega arith in rw e (own_edge_at es i)
-
-pub flip-plus : (t k : ℕ) → flip (code t k 0) ≡ code t k 1
-unfolding flip code
-flip-plus t k = omega arith
-
-flip-minus : (t k : ℕ) → flip (code t k 1) ≡ code t k 0
-unfolding flip code
-flip-minus t k = omega arith
-
-pub flip-code : (t k : ℕ) (s : Bool) → flip (code t k (sign_of s)) ≡ code t k (sign_of (not s))
-flip-code t k false = flip-plus t k
-flip-code t k true = flip-minus t k
 
 -- the parts of a dart of a tile, by the row of its edge
 tail_by : (es : List EdgePrimitive) (k : ℕ) (s : Bool) → 1 ≤ k → tail (map own_edge es) (record { edge = k; minus = s }) ≡ id_of (node_by (not s) (kth es k absent_edge))
