@@ -11,7 +11,7 @@ ghost use Rattle.vpf_prims.specs.Reading.{primitives_of};
 ghost use Rattle.vpf_wing.specs.Links.{links_of};
 ghost use Rattle.vpf_follow.specs.FollowLines.{at_wing_of, follow_line, follow_lines, follows_finding};
 ghost use Rattle.vpf_follow.specs.Homes.{AreHomes, HasFewEdges, darts_before, darts_to};
-ghost use Rattle.vpf_follow.specs.Libraries.{library_of};
+ghost use Rattle.vpf_follow.specs.Libraries.{in_tile, library_of};
 
 use crate::following::{follow, is_home};
 use crate::homes::Homes;
@@ -80,7 +80,7 @@ fn check_edge<'a>(
 }
 
 /// The same of the darts of a tile, edge by edge.
-pub(crate) fn check_tile<'a>(
+fn check_edges<'a>(
     coverage: &Coverage<'a>,
     tile: &Tile<'a>,
     number: u32,
@@ -96,4 +96,21 @@ pub(crate) fn check_tile<'a>(
         check_edge(coverage, tile, number, k + 1, homes)?;
     }
     Ok(())
+}
+
+/// The same of the tile of this number, where it has tables.
+pub(crate) fn check_tile<'a>(
+    coverage: &Coverage<'a>,
+    number: u32,
+    homes: &mut Homes,
+) -> Result<(), FindError<'a>>
+    requires few { HasFewEdges (library_of coverage.now) }
+    requires homes { AreHomes (links_of (library_of coverage.now)) (darts_to (edge_count (library_of coverage.now)) number 0) homes.old }
+    ensures first { Tells result (in_tile (follows_finding (links_of (library_of coverage.now)) number) (tile_at coverage.now number)) }
+    ensures homes { OnOk result (AreHomes (links_of (library_of coverage.now)) (darts_to (edge_count (library_of coverage.now)) (number + 1) 0) homes.new) }
+{
+    match coverage.tile(number) {
+        Some(tile) => check_edges(coverage, tile, number, homes),
+        None => Ok(()),
+    }
 }

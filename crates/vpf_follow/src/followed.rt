@@ -1,7 +1,8 @@
 //! Coverages whose darts are followed as they should.
 
-ghost use Rattle.std.specs.Prelude.{◌≡◌, IfOk, length};
+ghost use Rattle.std.specs.Prelude.{◌≡◌, ◌<◌, ◌^◌, IfOk, length};
 ghost use Rattle.vpf_findings.specs.Firsts.{Tells};
+ghost use Rattle.vpf_prims.specs.Primitives.{edge_count};
 ghost use Rattle.vpf_wing.specs.Links.{links_of};
 ghost use Rattle.vpf_follow.specs.FollowLines.{follows_finding};
 ghost use Rattle.vpf_follow.specs.Homes.{HasFewEdges};
@@ -37,6 +38,17 @@ impl<'c, 'a> Model for Followed<'c, 'a> {
     ghost invariant = { IsFollowed };
 }
 
+/// How many edges a tile of the coverage has: none where it is empty.
+fn edge_count(coverage: &Coverage<'_>, t: u32) -> u32
+    ensures value { result ≡ edge_count (library_of coverage.now) t }
+    ensures few { result < 2 ^ 24 }
+{
+    match coverage.tile(t) {
+        Some(tile) => tile.edges(),
+        None => 0,
+    }
+}
+
 /// How many darts there are in the tiles of a coverage.
 fn count_darts(coverage: &Coverage<'_>) -> u64
     ensures count { result ≡ length (links_of (library_of coverage.now)).darts }
@@ -44,9 +56,7 @@ fn count_darts(coverage: &Coverage<'_>) -> u64
 {
     let mut darts: u64 = 0;
     for t in 0..=coverage.tiles() {
-        if let Some(tile) = coverage.tile(t) {
-            darts += 2 * u64::from(tile.edges());
-        }
+        darts += 2 * u64::from(edge_count(coverage, t));
     }
     darts
 }
@@ -64,9 +74,7 @@ pub fn check_follows<'c, 'a>(
     let darts = count_darts(coverage);
     let mut homes = Homes::new(alloc);
     for t in 0..=coverage.tiles() {
-        if let Some(tile) = coverage.tile(t) {
-            check_tile(coverage, tile, t, &mut homes)?;
-        }
+        check_tile(coverage, t, &mut homes)?;
     }
     Ok(Followed {
         coverage,

@@ -8,7 +8,7 @@ ghost use Rattle.vpf_follow.specs.Following.{follow, follow_links, is_home, is_n
 ghost use Rattle.vpf_follow.specs.Homes.{IsDartIn};
 ghost use Rattle.vpf_follow.specs.Libraries.{library_of};
 
-use crate::links::{ExternalPart, edge_row, external_part, face, face_name, head_node, is_far_face, is_named, wing};
+use crate::links::{ExternalPart, Start, begins_at, edge_row, external_part, face, face_name, head_node, is_far_face, wing};
 use vpf_darts::TileDart;
 use vpf_prims::{Coverage, id_of};
 use vpf_triplet::Triplet;
@@ -33,44 +33,39 @@ pub fn is_outside(coverage: &Coverage<'_>, dart: TileDart) -> bool
     }
 }
 
-/// Of the edge of this number in a tile, the home dart that begins at a node and has the face of a name: nothing where both darts do, or
-/// neither does.
-fn named_dart(
-    coverage: &Coverage<'_>,
-    tile: u32,
-    edge: u32,
-    node: u32,
-    name: Option<ExternalPart>,
-) -> Option<TileDart>
-    ensures { option_map tile_dart_code result ≡ only (is_named (links_of (library_of coverage.now)) node name) (code tile edge 0) }
+/// Of the edge of this number in a tile, the home dart that begins there: nothing where both darts do, or neither does.
+fn named_dart(coverage: &Coverage<'_>, tile: u32, edge: u32, start: &Start) -> Option<TileDart>
+    ensures { option_map tile_dart_code result ≡ only (is_named (links_of (library_of coverage.now)) start.now.node start.now.face) (code tile edge 0) }
 {
     let row = edge_row(coverage, tile, edge)?;
-    let plus = is_named(&row, tile, false, node, name);
-    let minus = is_named(&row, tile, true, node, name);
+    let plus = begins_at(&row, tile, false, start);
+    let minus = begins_at(&row, tile, true, start);
     if plus == minus {
         return None;
     }
     Some(TileDart { tile, edge, minus })
 }
 
-/// The home dart that a wing and the head node name, for a dart of this tile that has the face of a name.
+/// The home dart that a wing and the head node name, for a dart of this tile that has the face of this name.
 fn linked_dart(
     coverage: &Coverage<'_>,
     tile: u32,
     wing: Triplet,
     node: Triplet,
-    name: Option<ExternalPart>,
+    face: Option<ExternalPart>,
 ) -> Option<TileDart>
-    ensures { option_map tile_dart_code result ≡ follow_links (links_of (library_of coverage.now)) tile (link_of wing) (link_of node) name }
+    ensures { option_map tile_dart_code result ≡ follow_links (links_of (library_of coverage.now)) tile (link_of wing) (link_of node) face }
 {
     let Some(next) = external_part(wing) else {
-        return named_dart(coverage, tile, id_of(wing), id_of(node), name);
+        let node = id_of(node);
+        return named_dart(coverage, tile, id_of(wing), &Start { node, face });
     };
     let start = external_part(node)?;
     if next.tile != start.tile {
         return None;
     }
-    named_dart(coverage, next.tile, next.id, start.id, name)
+    let node = start.id;
+    named_dart(coverage, next.tile, next.id, &Start { node, face })
 }
 
 /// The home dart that follows a dart of the coverage across its tiles (MIL-STD-2407, 5.2.3, cross-tile topology).

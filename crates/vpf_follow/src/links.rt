@@ -29,6 +29,15 @@ impl Model for ExternalPart {
     ghost inverse = { λ part. record { tile = part.tile; id = part.id } };
 }
 
+/// Where a dart is to begin, in its own tile, and the name of the face that it is to have.
+#[derive(Drop)]
+pub(crate) struct Start {
+    /// The node.
+    pub(crate) node: u32,
+    /// The face.
+    pub(crate) face: Option<ExternalPart>,
+}
+
 /// The external part of a reference: there where both its tile and its number there are (MIL-STD-2407, 5.4, triplet id).
 pub(crate) fn external_part(reference: Triplet) -> Option<ExternalPart>
     ensures { result ≡ (link_of reference).out }
@@ -96,20 +105,14 @@ pub(crate) fn face(row: &EdgeRow, minus: bool) -> Triplet
     if minus { row.left_face } else { row.right_face }
 }
 
-/// Whether the `+` or `-` dart of a row of this tile is a home dart that begins at a node and has the face of a name.
-pub(crate) fn is_named(
-    row: &EdgeRow,
-    tile: u32,
-    minus: bool,
-    node: u32,
-    name: Option<ExternalPart>,
-) -> bool
-    ensures { result ≡ row_is_named tile row.now minus node name }
+/// Whether the `+` or `-` dart of a row of this tile is a home dart that begins there.
+pub(crate) fn begins_at(row: &EdgeRow, tile: u32, minus: bool, start: &Start) -> bool
+    ensures { result ≡ row_is_named tile row.now minus start.now.node start.now.face }
 {
     let side = face(row, minus);
     !is_far_face(side)
-        && id_of(head_node(row, !minus)) == node
-        && face_name(tile, side) == name
+        && id_of(head_node(row, !minus)) == start.node
+        && face_name(tile, side) == start.face
 }
 
 /// The row of an edge, where its tile has it.
