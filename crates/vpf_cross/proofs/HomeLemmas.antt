@@ -1,13 +1,14 @@
 -- The lines on the home copy of a dart, by the rows of both edges.
-use Rattle.std.proofs.Common.{◌≡◌, ℕ, ◌^◌, ◌<◌, ◌≤◌, Bool, true, false, eqb, Option, Some, None, nat_eq, List, [], length, refl, sym, ap, ◌∙◌, subst, arith}
+use Rattle.std.proofs.Common.{◌≡◌, ℕ, ◌^◌, ◌<◌, ◌≤◌, Bool, true, false, eqb, Option, Some, None, Result, nat_eq, List, [], length, refl, sym, ap, ◌∙◌, subst, arith}
 use Rattle.std.specs.Option.{option_eq, option_map}
 use Rattle.vpf_value.specs.Values.{Value}
 use Rattle.vpf_darts.specs.declared.darts.TileDart.{TileDart}
 use Rattle.vpf_darts.specs.contracts.darts.TileDartPartialEq.TheImpl.{eq-value}
 use Rattle.vpf_darts.specs.Darts.{code, tile_in, edge_in, flip, sign_in, sign_of, tile_dart_code}
 use Rattle.vpf_findings.specs.declared.finding.SeenWord.TheVariants as words
-use Rattle.vpf_findings.specs.Findings.{DartSeen, Sight, WordSeen}
-use Rattle.vpf_findings.specs.Firsts.{unless}
+use Rattle.vpf_findings.specs.Findings.{DartSeen, Disagreement, Sight, WordSeen}
+use Rattle.vpf_findings.specs.declared.finding.Finding.{Finding}
+use Rattle.vpf_findings.specs.Firsts.{Finds, unless}
 use Rattle.vpf_prims.specs.declared.citing.Citation.TheVariants as cites
 use Rattle.vpf_prims.specs.Columns.{in_table}
 use Rattle.vpf_prims.specs.Coverages.{CoverageTables, tile_at, last_tile}
@@ -24,7 +25,7 @@ use Rattle.vpf_follow.specs.Following.{home_copy, number_seen}
 use Rattle.vpf_follow.specs.Homes.{IsDartIn}
 use Rattle.vpf_follow.specs.SideLines.{face_citation}
 use Rattle.vpf_cross.specs.Carrying.{Difference, carried_at, first_difference}
-use Rattle.vpf_cross.specs.HomeLines.{coverage_links, home_carried_line, home_flip_line, home_mark_line, home_sign_line, mark_seen}
+use Rattle.vpf_cross.specs.HomeLines.{coverage_links, home_carried_line, home_flip_line, home_lines, home_mark_line, home_sign_line, mark_seen}
 use Rattle.vpf_cross.proofs.AgreeLemmas.{IsThere, is_there}
 use Rattle.vpf_cross.proofs.CarriedLemmas.{at_number}
 use Rattle.vpf_cross.proofs.CarryLemmas.{empty_carries}
@@ -126,3 +127,32 @@ sign_line_is C d h T small copy =
     ap (λ x. unless (eqb (sign_in x) (sign_of d.minus)) (at_wing_of d.tile T 5 d.edge d.minus (number_seen x) (WordSeen words.Sign))) (sym copy)
     ∙ ap (λ s. unless (eqb s (sign_of d.minus)) (at_wing_of d.tile T 5 d.edge d.minus (number_seen (tile_dart_code h)) (WordSeen words.Sign))) (sign-code h.tile h.edge h.minus)
     ∙ ap (λ (s : Sight). unless (eqb (sign_of h.minus) (sign_of d.minus)) (at_wing_of d.tile T 5 d.edge d.minus s (WordSeen words.Sign))) (seen_so h (tile_dart_code h) small refl)
+
+-- what the lines on a home copy say, one after another
+module _ (c : CoverageTables) (d : TileDart) (T : TileTables) where
+  abbrev pub flip_said : Option Disagreement
+  flip_said = home_flip_line (coverage_links c) d.tile T d.edge d.minus
+
+  abbrev pub sign_said : Option Disagreement
+  sign_said = home_sign_line (coverage_links c) d.tile T d.edge d.minus
+
+  abbrev pub mark_said : Option Disagreement
+  mark_said = home_mark_line c d.tile T d.edge d.minus
+
+  abbrev pub cells_said : Option Disagreement
+  cells_said = home_carried_line (coverage_links c) d.tile T d.edge d.minus
+
+  pub at_flip : (f : Disagreement) → flip_said ≡ Some f → home_lines c d.tile T d.edge d.minus ≡ Some f
+  at_flip f some = rw some refl
+
+  pub at_sign : (f : Disagreement) → flip_said ≡ None → sign_said ≡ Some f → home_lines c d.tile T d.edge d.minus ≡ Some f
+  at_sign f flip some = rw (flip, some) refl
+
+  pub at_mark : (f : Disagreement) → flip_said ≡ None → sign_said ≡ None → mark_said ≡ Some f → home_lines c d.tile T d.edge d.minus ≡ Some f
+  at_mark f flip sign some = rw (flip, sign, some) refl
+
+  pub at_cells : flip_said ≡ None → sign_said ≡ None → mark_said ≡ None → home_lines c d.tile T d.edge d.minus ≡ cells_said
+  at_cells flip sign mark = rw (flip, sign, mark) refl
+
+pub finds_same : {V : Type 0} (r : Result V Finding) (a b : Option Disagreement) → b ≡ a → Finds r a → Finds r b
+finds_same r a b same h = subst (λ (o : Option Disagreement). Finds r o) (sym same) h

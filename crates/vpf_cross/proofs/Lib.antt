@@ -4,7 +4,6 @@ mod CarryLemmas
 mod CopyLemmas
 mod DartLemmas
 mod DartLists
-mod Example
 mod HomeLemmas
 mod LinkLemmas
 mod LoopLemmas
