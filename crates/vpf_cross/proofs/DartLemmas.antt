@@ -67,3 +67,9 @@ flip_in c d f e has = rw (flip_number d f e) (flip-has (library_of c) (tile_dart
 -- a dart of a row of a tile is one of the coverage
 pub dart_in : (c : CoverageTables) (T : TileTables) (d : TileDart) → tile_at c d.tile ≡ Some T → d.edge < 2 ^ 32 → IsRowOf (length (primitives_of T.tables).edges) d.edge → IsDartIn c d
 dart_in c T d is small row = let last = tile_within c d.tile T is in has_code c d.tile T d.edge d.minus is (omega arith) small row
+
+-- darts that aren't the same have different numbers
+pub not_same : (a b : TileDart) → a.edge < 2 ^ 32 → b.edge < 2 ^ 32 → (eq-value).it a b ≡ false → tile_dart_code a ≡ tile_dart_code b → ⊥
+not_same a b x y out e =
+    let t : true ≡ false = sym (eq-eqb (tile_dart_code a) (tile_dart_code b) e) ∙ same_numbers a b x y ∙ out in
+    cc

@@ -4,6 +4,7 @@ mod CarryLemmas
 mod CopyLemmas
 mod DartLemmas
 mod DartLists
+mod Example
 mod HomeLemmas
 mod LinkLemmas
 mod LoopLemmas

@@ -29,6 +29,8 @@ fn copy_in(followed: &Followed<'_, '_>, number: u32, home: TileDart) -> Option<T
     ensures { option_map tile_dart_code result ≡ copy_in_tile (coverage_links followed.now) number (tile_dart_code home) }
 {
     followed.agrees();
+    // The number of its edge has 32 bits.
+    let _edge = home.edge;
     if home.tile == number {
         return Some(home);
     }
