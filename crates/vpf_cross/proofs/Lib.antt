@@ -1,3 +1,9 @@
+mod AgreeLemmas
+mod CarriedLemmas
+mod CarryLemmas
+mod CopyLemmas
+mod DartLemmas
+mod DartLists
 mod Example
 mod LawMap
 mod LawCells
@@ -11,3 +17,9 @@ mod LawUnique
 mod LawRounds
 mod LawCopies
 mod LawAgreement
+mod HomeLemmas
+mod LinkLemmas
+mod LoopLemmas
+mod NextLemmas
+mod NumberLemmas
+mod RoundLemmas

@@ -1,5 +1,5 @@
 -- What disagrees in the carried cells of nodes that tiles share, in those of the universe, and in the faces of entity nodes.
-use Rattle.std.specs.Prelude.{ℕ, pos, ◌+◌, Bool, true, false, not, ◌==◌, length, List, Option, Some, None, find, codes}
+use Rattle.std.specs.Prelude.{ℕ, pos, ◌+◌, Bool, true, false, not, ◌==◌, length, List, Option, Some, None, codes}
 use Rattle.std.specs.Option.{option_map, unwrap_or}
 use Rattle.vpf_value.specs.Values.{Value}
 use Rattle.vpf_table.specs.Grid.{Grid}

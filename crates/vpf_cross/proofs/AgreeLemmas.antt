@@ -1,0 +1,187 @@
+-- What is so of each dart where nothing disagrees in what follows darts, and in home copies.
+use Rattle.std.proofs.Common.{◌≡◌, ◌≢◌, ℕ, zero, suc, ◌+◌, ◌-◌, ◌^◌, ◌<◌, ◌≤◌, Bool, true, false, not, eqb, ◌&&◌, Option, Some, None, is_some, List, [], ◌∷◌, length, get_or, refl, sym, ap, subst, ◌∙◌, arith, inl, inr}
+use Rattle.std.specs.Prelude.{if◌then◌else◌}
+use Rattle.std.proofs.lemmas.Bool.{and_parts, cases_eq, eqb-true}
+use Rattle.vpf_triplet.specs.declared.triplets.Triplet.{Triplet}
+use Rattle.vpf_darts.specs.Darts.{code, tile_in, edge_in, sign_in, sign_of, flip}
+use Rattle.vpf_findings.specs.Findings.{Disagreement}
+use Rattle.vpf_findings.specs.FirstLaws.{or-none_both}
+use Rattle.vpf_prims.specs.Coverages.{CoverageTables, tile_at, last_tile}
+use Rattle.vpf_prims.specs.Lists.{kth}
+use Rattle.vpf_prims.specs.Numbering.{IsRowOf}
+use Rattle.vpf_prims.specs.Primitives.{EdgePrimitive, absent_edge, edge_count, edges_in}
+use Rattle.vpf_prims.specs.Reading.{primitives_of}
+use Rattle.vpf_prims.specs.TableLines.{numbers_finding}
+use Rattle.vpf_prims.specs.Tables.{TileTables}
+use Rattle.vpf_wing.specs.Links.{DartLinks, Link, beyond_of, face_by, is_minus, link_of, links_of}
+use Rattle.vpf_follow.specs.FollowLines.{follow_line, follow_line_at, follow_lines, follows_finding}
+use Rattle.vpf_follow.specs.Following.{beyond_tile, follow, home_copy, is_far_face, is_outside}
+use Rattle.vpf_follow.specs.Homes.{HasFewEdges}
+use Rattle.vpf_follow.specs.Libraries.{in_tiles, library_of, primitives_in}
+use Rattle.vpf_cross.specs.Copies.{FacesAreElsewhere}
+use Rattle.vpf_cross.specs.HomeLines.{copies_lines, coverage_links, home_flip_line, home_lines, homes_finding, outside_lines}
+use Rattle.vpf_cross.proofs.CopyLemmas.{HaveCopies}
+use Rattle.vpf_cross.proofs.DartLists.{IsOfTiles, parts-code, sign-small}
+use Rattle.vpf_cross.proofs.DartLists as darts
+use Rattle.vpf_cross.proofs.LinkLemmas.{face_at}
+use Rattle.vpf_cross.proofs.LoopLemmas.{no_edge, no_tile}
+use Rattle.vpf_cross.proofs.NumberLemmas.{edges_stay, unless_none}
+
+-- the tile of a dart, and its edge there
+pub record IsThere (c : CoverageTables) (d : ℕ) : Type 0 where
+  pub tables : TileTables
+  pub tile : tile_at c (tile_in d) ≡ Some tables
+  pub row : IsRowOf (length (primitives_of tables.tables).edges) (edge_in d)
+  pub last : tile_in d ≤ last_tile c
+
+rows_in : (o : Option TileTables) (k : ℕ) → 1 ≤ k → k ≤ length (edges_in (primitives_in o)) → (T : TileTables) × (o ≡ Some T) × (k ≤ length (primitives_of T.tables).edges)
+rows_in None k low high = absurd (omega arith)
+rows_in (Some T) k low high = (T, refl, high)
+
+pub is_there : (c : CoverageTables) (d : ℕ) → (coverage_links c).has d ≡ true → IsThere c d
+is_there c d has =
+    let i : IsOfTiles (edge_count (library_of c)) (library_of c).last d = darts.there (library_of c) d has in
+    let r = rows_in (tile_at c (tile_in d)) (edge_in d) i.from_one i.to_count in
+    record { tables = r.0; tile = r.1; row = (i.from_one, r.2); last = i.to_last }
+
+sign_at : (s : ℕ) → s < 2 → sign_of (eqb s 1) ≡ s
+sign_at zero h = refl
+sign_at (suc zero) h = refl
+sign_at (suc (suc s)) h = absurd (omega arith)
+
+-- a dart by its tile, its edge and its sign
+pub dart-code : (d : ℕ) → code (tile_in d) (edge_in d) (sign_of (is_minus d)) ≡ d
+dart-code d = ap (code (tile_in d) (edge_in d)) (sign_at (sign_in d) (sign-small d)) ∙ parts-code d
+
+if_none : {F : Type 0} (b : Bool) (o : Option F) → b ≡ true → (if b then o else None) ≡ None → o ≡ None
+if_none true o t h = h
+if_none false o t h = absurd cc
+
+outside_has : (C : DartLinks) (d : ℕ) → is_outside C d ≡ true → C.has d ≡ true
+outside_has C d h = (and_parts (C.has d) (is_far_face (C.face d)) h).0
+
+outside_line : (c : CoverageTables) (t : ℕ) (T : TileTables) (k : ℕ) (m : Bool) → copies_lines c t T k ≡ None → outside_lines c t T k m ≡ None
+outside_line c t T k false h = (or-none_both (outside_lines c t T k false) (outside_lines c t T k true) h).0
+outside_line c t T k true h = (or-none_both (outside_lines c t T k false) (outside_lines c t T k true) h).1
+
+flips_at : (c : CoverageTables) (t : ℕ) (T : TileTables) (k : ℕ) (m : Bool) → copies_lines c t T k ≡ None → is_outside (coverage_links c) (code t k (sign_of m)) ≡ true
+    → home_copy (coverage_links c) (flip (home_copy (coverage_links c) (code t k (sign_of m)))) ≡ flip (code t k (sign_of m))
+flips_at c t T k m h outside =
+    let C = coverage_links c in
+    let d = code t k (sign_of m) in
+    let lines : home_lines c t T k m ≡ None = if_none (is_outside C d) (home_lines c t T k m) outside (outside_line c t T k m h) in
+    let line : home_flip_line C t T k m ≡ None = (or-none_both (home_flip_line C t T k m) _ lines).0 in
+    eqb-true _ _ (unless_none (eqb (home_copy C (flip (home_copy C d))) (flip d)) _ line)
+
+-- the home copy of the other dart of a home copy
+pub flips_hold : (c : CoverageTables) → in_tiles (homes_finding c) c ≡ None → (d : ℕ) → is_outside (coverage_links c) d ≡ true
+    → home_copy (coverage_links c) (flip (home_copy (coverage_links c) d)) ≡ flip d
+flips_hold c none d outside =
+    let C = coverage_links c in
+    let i = is_there c d (outside_has C d outside) in
+    let tile = no_tile (homes_finding c) c none (tile_in d) i.tables i.tile i.last in
+    let line = no_edge (copies_lines c (tile_in d) i.tables) i.tables tile (edge_in d) i.row.0 i.row.1 in
+    subst (λ x. home_copy C (flip (home_copy C x)) ≡ flip x) (dart-code d)
+    (flips_at c (tile_in d) i.tables (edge_in d) (is_minus d) line (subst (λ x. is_outside C x ≡ true) (sym (dart-code d)) outside))
+
+line_of : (C : DartLinks) (t : ℕ) (T : TileTables) (k : ℕ) (m : Bool) → follow_lines C t T k ≡ None → follow_line C t T k m ≡ None
+line_of C t T k false h = (or-none_both (follow_line C t T k false) (follow_line C t T k true) h).0
+line_of C t T k true h = (or-none_both (follow_line C t T k false) (follow_line C t T k true) h).1
+
+followed_at : (C : DartLinks) (t : ℕ) (T : TileTables) (k : ℕ) (m : Bool) (o : Option ℕ) → follow_line_at C t T k m o ≡ None → (e : ℕ) × (o ≡ Some e)
+followed_at C t T k m None h = absurd cc
+followed_at C t T k m (Some e) h = (e, refl)
+
+-- each dart is followed
+pub follows_hold : (c : CoverageTables) → in_tiles (follows_finding (coverage_links c)) c ≡ None → (d : ℕ) → (coverage_links c).has d ≡ true
+    → (e : ℕ) × (follow (coverage_links c) d ≡ Some e)
+follows_hold c none d has =
+    let C = coverage_links c in
+    let i = is_there c d has in
+    let tile = no_tile (follows_finding C) c none (tile_in d) i.tables i.tile i.last in
+    let line = no_edge (follow_lines C (tile_in d) i.tables) i.tables tile (edge_in d) i.row.0 i.row.1 in
+    let at = followed_at C (tile_in d) i.tables (edge_in d) (is_minus d) _ (line_of C (tile_in d) i.tables (edge_in d) (is_minus d) line) in
+    (at.0, ap (follow C) (sym (dart-code d)) ∙ at.1)
+
+pub have_copies : (c : CoverageTables) → HasFewEdges (library_of c) → FacesAreElsewhere (coverage_links c) → in_tiles (follows_finding (coverage_links c)) c ≡ None
+    → in_tiles (homes_finding c) c ≡ None → HaveCopies (library_of c)
+have_copies c few elsewhere follows homes = record { few = few; follows = follows_hold c follows; flips = flips_hold c homes; elsewhere = elsewhere }
+
+-- what is so of the tiles of a coverage before tile t
+pub record HaveNumbers (c : CoverageTables) (t : ℕ) : Type 0 where
+  pub few : (u : ℕ) (T : TileTables) → u < t → tile_at c u ≡ Some T → length (primitives_of T.tables).edges < 2 ^ 24
+  pub numbers : (u : ℕ) (T : TileTables) → u < t → tile_at c u ≡ Some T → numbers_finding 0 T ≡ None
+
+past_end : {X : Type 0} (xs : List (Option X)) (u : ℕ) (x : X) → get_or xs u None ≡ Some x → u < length xs
+past_end [] u x h = absurd cc
+past_end (o ∷ xs) zero x h = omega arith
+past_end (o ∷ xs) (suc u) x h = let r = past_end xs u x h in omega (arith, r)
+
+-- a tile with tables is one of the tiles
+pub tile_within : (c : CoverageTables) (u : ℕ) (T : TileTables) → tile_at c u ≡ Some T → u < last_tile c + 1
+tile_within c u T h = let r = past_end c.tiles u T h in omega (arith, r)
+
+few_at : (c : CoverageTables) (u : ℕ) (o : Option TileTables) → tile_at c u ≡ o → HaveNumbers c (last_tile c + 1) → length (edges_in (primitives_in o)) < 2 ^ 24
+few_at c u None e h = omega arith
+few_at c u (Some T) e h = h.few u T (tile_within c u T e) e
+
+pub few_edges : (c : CoverageTables) → HaveNumbers c (last_tile c + 1) → HasFewEdges (library_of c)
+few_edges c h u = few_at c u (tile_at c u) refl h
+
+face_stays : (m : Bool) (e : EdgePrimitive) → beyond_of e.right_face.tile e.right_face.ext ≡ None → beyond_of e.left_face.tile e.left_face.ext ≡ None
+    → (link_of (face_by m e)).out ≡ None
+face_stays false e right left = right
+face_stays true e right left = left
+
+none_some : (s : ℕ) → None ≡ Some s → ⊥
+none_some s e = cc
+
+-- where the faces of tiles are their own, none is of another tile
+pub faces_elsewhere : (c : CoverageTables) → HaveNumbers c (last_tile c + 1) → FacesAreElsewhere (coverage_links c)
+faces_elsewhere c h d outside out =
+    let C = coverage_links c in
+    let i = is_there c d (outside_has C d outside) in
+    let stays = edges_stay i.tables (h.numbers (tile_in d) i.tables (tile_within c (tile_in d) i.tables i.tile) i.tile) (edge_in d) i.row in
+    let small : edge_in d < 2 ^ 32 = omega (arith, i.row.1, h.few (tile_in d) i.tables (tile_within c (tile_in d) i.tables i.tile) i.tile) in
+    let face = face_at c (tile_in d) i.tables (edge_in d) (is_minus d) i.tile small in
+    let none : (C.face d).out ≡ None =
+    ap (λ x. (C.face x).out) (sym (dart-code d)) ∙ ap (λ (l : Link). l.out) face
+    ∙ face_stays (is_minus d) (kth (primitives_of i.tables.tables).edges (edge_in d) absent_edge) stays.right_face stays.left_face in
+    let clash : None ≡ Some (tile_in d) = ap beyond_tile (sym none) ∙ out in
+    none_some (tile_in d) clash
+
+same_tables : (c : CoverageTables) (t : ℕ) (T U : TileTables) → Some T ≡ tile_at c t → tile_at c t ≡ Some U → T ≡ U
+same_tables c t T U e f = same (e ∙ f)
+  where
+    same : Some T ≡ Some U → T ≡ U
+    same h = cc
+
+-- one more tile
+pub numbers_more : (c : CoverageTables) (t : ℕ) (T : TileTables) → HaveNumbers c t → Some T ≡ tile_at c t → length (primitives_of T.tables).edges < 2 ^ 24 → numbers_finding 0 T ≡ None
+    → HaveNumbers c (t + 1)
+numbers_more c t T h is few numbers = record {
+  few = λ u U lt at. elim (cases_eq u t) [
+    | inl e ↦ subst (λ (V : TileTables). length (primitives_of V.tables).edges < 2 ^ 24) (same_tables c t T U is (ap (tile_at c) (sym e) ∙ at)) few
+    | inr ne ↦ h.few u U (omega arith) at
+  ];
+  numbers = λ u U lt at. elim (cases_eq u t) [
+    | inl e ↦ subst (λ (V : TileTables). numbers_finding 0 V ≡ None) (same_tables c t T U is (ap (tile_at c) (sym e) ∙ at)) numbers
+    | inr ne ↦ h.numbers u U (omega arith) at
+  ];
+}
+
+-- one that isn't there
+pub numbers_past : (c : CoverageTables) (t : ℕ) → HaveNumbers c t → None ≡ tile_at c t → HaveNumbers c (t + 1)
+numbers_past c t h is = record {
+  few = λ u U lt at. elim (cases_eq u t) [
+    | inl e ↦ absurd (none_tables U (is ∙ ap (tile_at c) (sym e) ∙ at))
+    | inr ne ↦ h.few u U (omega arith) at
+  ];
+  numbers = λ u U lt at. elim (cases_eq u t) [
+    | inl e ↦ absurd (none_tables U (is ∙ ap (tile_at c) (sym e) ∙ at))
+    | inr ne ↦ h.numbers u U (omega arith) at
+  ];
+}
+  where
+    none_tables : (U : TileTables) → None ≡ Some U → ⊥
+    none_tables U e = cc

@@ -1,0 +1,8 @@
+use Rattle.std.proofs.Common.{◌≡◌}
+use Rattle.vpf_wing.specs.CycleLines.{cycles_finding}
+use Rattle.vpf_follow.specs.Libraries.{in_tiles}
+use Rattle.vpf_cross.proofs.LoopLemmas.{tiles_left}
+use Rattle.vpf_cross.proofs.tiles.check_all_cycles.Given as goal
+
+abbrev pub invariant-loop-t : goal.invariant-loop-t
+invariant-loop-t l = tiles_left cycles_finding l.t l.coverage ≡ in_tiles cycles_finding l.coverage

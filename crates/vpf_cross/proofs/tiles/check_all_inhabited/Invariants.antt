@@ -1,0 +1,8 @@
+use Rattle.std.proofs.Common.{◌≡◌}
+use Rattle.vpf_follow.specs.Libraries.{in_tiles}
+use Rattle.vpf_cross.specs.CarriedLines.{inhabited_finding}
+use Rattle.vpf_cross.proofs.LoopLemmas.{tiles_left}
+use Rattle.vpf_cross.proofs.tiles.check_all_inhabited.Given as goal
+
+abbrev pub invariant-loop-t : goal.invariant-loop-t
+invariant-loop-t l = tiles_left inhabited_finding l.t l.coverage ≡ in_tiles inhabited_finding l.coverage
