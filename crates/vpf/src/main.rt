@@ -4,8 +4,6 @@
 #[cfg(test)]
 mod changes_of_rows;
 mod command;
-#[cfg(test)]
-mod coverages_of_checks;
 mod laws;
 mod running;
 mod status;

@@ -1,309 +1,65 @@
-//! `check` over coverages in memory.
+//! `check` through `run`, over a coverage in memory.
 
-use crate::coverages_of_checks::{AGREEING, Change, FINDINGS, Rows, THREE};
 use crate::running::run;
 use crate::status::Status;
 use crate::testing::words_of;
-use std::alloc::{AllocError, Global};
 use std::test::Fail;
 use vpf_source::{MemSink, MemTree};
 
-/// The columns of the four tables, each before its absent files.
-const EDG: &str =
-    "id=I,1,P,Id start_node=I,1,N,Start end_node=I,1,N,End right_face=I,1,N,Right left_face=I,1,N,Left right_edge=I,1,N,Right left_edge=I,1,N,Left tile_line=S,1,N,Line";
+/// The edges of the coverage of the examples.
+const EDG: &[u8] =
+    b"\xe6\0\0\0L;Edges;-;id=I,1,P,Id,-,-,-,:start_node=I,1,N,Start,-,-,-,:end_node=I,1,N,End,-,-,-,:right_face=I,1,N,Right,-,-,-,:left_\
+    face=I,1,N,Left,-,-,-,:right_edge=I,1,N,Right,-,-,-,:left_edge=I,1,N,Left,-,-,-,:tile_line=S,1,N,Line,-,-,-,:;\x01\0\0\0\x01\0\0\0\
+    \x02\0\0\0\x02\0\0\0\x01\0\0\0\x03\0\0\0\x02\0\0\0\0\0\x02\0\0\0\x02\0\0\0\x01\0\0\0\x03\0\0\0\x01\0\0\0\x03\0\0\0\x01\0\0\0\0\0\
+    \x03\0\0\0\x01\0\0\0\x02\0\0\0\x03\0\0\0\x02\0\0\0\x02\0\0\0\x01\0\0\0\x01\0";
 
-const FAC: &str = "id=I,1,P,Id ring_ptr=I,1,N,Ring";
+/// Its faces.
+const FAC: &[u8] =
+    b"9\0\0\0L;Faces;-;id=I,1,P,Id,-,-,-,:ring_ptr=I,1,N,Ring,-,-,-,:;\x01\0\0\0\x01\0\0\0\x02\0\0\0\x02\0\0\0\x03\0\0\0\x03\0\0\0";
 
-const RNG: &str = "id=I,1,P,Id face_id=I,1,N,Face start_edge=I,1,N,Edge";
+/// Its faces, where the second names the third ring.
+const WRONG_FAC: &[u8] =
+    b"9\0\0\0L;Faces;-;id=I,1,P,Id,-,-,-,:ring_ptr=I,1,N,Ring,-,-,-,:;\x01\0\0\0\x01\0\0\0\x02\0\0\0\x03\0\0\0\x03\0\0\0\x03\0\0\0";
 
-const CND: &str = "id=I,1,P,Id first_edge=I,1,N,Edge";
+/// Its rings.
+const RNG: &[u8] =
+    b"U\0\0\0L;Rings;-;id=I,1,P,Id,-,-,-,:face_id=I,1,N,Face,-,-,-,:start_edge=I,1,N,Edge,-,-,-,:;\x01\0\0\0\x01\0\0\0\x01\0\0\0\x02\0\0\
+    \0\x02\0\0\0\x01\0\0\0\x03\0\0\0\x03\0\0\0\x02\0\0\0";
 
-const END: &str = "id=I,1,P,Id containing_face=I,1,N,Face";
+/// Its nodes.
+const CND: &[u8] =
+    b";\0\0\0L;Nodes;-;id=I,1,P,Id,-,-,-,:first_edge=I,1,N,Edge,-,-,-,:;\x01\0\0\0\x01\0\0\0\x02\0\0\0\x01\0\0\0";
 
-/// Tables without rows by their columns, of `edg`, `fac`, `rng`, `cnd` and `end`, and the first finding. `fac` has the universe alone, where its
-/// columns are its own.
-const COLUMN_FINDINGS: [([&str; 5], &str); 12] = [
-    (["", FAC, RNG, CND, END], "edg row 0 id: none, number"),
+/// The faces, if they are there, what is printed, and the status.
+const CASES: [(Option<&[u8]>, &str, Status); 3] = [
     (
-        [EDG, "id=I,1,P,i ring_ptr=T,4,N,r", RNG, CND, END],
-        "fac row 0 ring_ptr: T,4, reference",
-    ),
-    (
-        [EDG, "ring_ptr=I,1,N,r id=T,4,P,i", RNG, CND, END],
-        "fac row 0 id: T,4, number",
-    ),
-    (
-        [EDG, FAC, "id=I,1,P,i Face_ID=F,1,N,f", CND, END],
-        "rng row 0 Face_ID: F,1, reference",
-    ),
-    (
-        [EDG, FAC, "id=I,1,P,i face_id=I,1,N,f", CND, END],
-        "rng row 0 start_edge: none, reference",
-    ),
-    (
-        [
-            EDG,
-            FAC,
-            "x=X,1,N,x id=I,1,P,i face_id=I,1,N,f start_edge=I,1,N,e y=X,1,N,y",
-            CND,
-            END,
-        ],
-        "rng row 0 x: X,1, none",
-    ),
-    (
-        [
-            EDG,
-            FAC,
-            "x=X,1,N,x id=I,1,P,i start_edge=I,1,N,e",
-            CND,
-            END,
-        ],
-        "rng row 0 face_id: none, reference",
-    ),
-    (
-        [EDG, FAC, RNG, "id=I,1,P,i first=I,1,N,f", END],
-        "cnd row 0 first_edge: none, reference",
-    ),
-    (
-        [EDG, FAC, RNG, "first_edge=I,1,N,f ID=R,1,N,f", ""],
-        "cnd row 0 ID: R,1, number",
-    ),
-    (
-        [EDG, FAC, RNG, CND, "id=I,1,P,i"],
-        "end row 0 containing_face: none, reference",
-    ),
-    (
-        [EDG, FAC, RNG, CND, "id=D,1,P,i"],
-        "end row 0 id: D,1, number",
-    ),
-    (
-        ["id=I,1,P,i", "", "", "", ""],
-        "edg row 0 start_node: none, reference",
-    ),
-];
-
-/// The bytes of a table with these columns and rows.
-fn table_of(alloc: Global, columns: &str, rows: &[u8]) -> Result<Vec<u8>, AllocError> {
-    let mut text = format!(in alloc; "L;Table;-;")?;
-    for column in columns.split(' ') {
-        text.push_str(if column.is_empty() {
-            "none=I,1,N,n"
-        } else {
-            column
-        })?;
-        text.push_str(",-,-,-,:")?;
-    }
-    text.push(';')?;
-    let len = u32::try_from(text.len()).unwrap_or(0);
-    let mut bytes = len.to_le_bytes().to_vec(alloc)?;
-    bytes.extend_from_slice(text.as_bytes())?;
-    bytes.extend_from_slice(rows)?;
-    Ok(bytes)
-}
-
-/// The numbers of a row, of which the eighth has two bytes.
-fn put_row(bytes: &mut Vec<u8>, row: &[i32]) -> Result<(), AllocError> {
-    for (place, number) in row.iter().enumerate() {
-        let width = if place == 7 { 2 } else { 4 };
-        bytes.extend_from_slice(&number.to_le_bytes()[..width])?;
-    }
-    Ok(())
-}
-
-/// A row with the numbers that are changed in it.
-fn changed<const N: usize>(
-    mut row: [i32; N],
-    table: usize,
-    at: usize,
-    changes: &[Change],
-) -> [i32; N] {
-    for (changed, line, place, number) in changes {
-        if *changed == table && *line == at {
-            if let Some(old) = row.get_mut(*place) {
-                *old = *number;
-            }
-        }
-    }
-    row
-}
-
-/// The rows of a table, some of their numbers changed.
-fn rows_of<const N: usize>(
-    alloc: Global,
-    rows: &[[i32; N]],
-    table: usize,
-    changes: &[Change],
-) -> Result<Vec<u8>, AllocError> {
-    let mut bytes = Vec::new(alloc);
-    for (at, row) in rows.iter().enumerate() {
-        put_row(&mut bytes, &changed(*row, table, at, changes))?;
-    }
-    Ok(bytes)
-}
-
-/// A tree with the tables of a coverage.
-fn tree_of(alloc: Global, rows: &Rows, changes: &[Change]) -> Result<MemTree, AllocError> {
-    let mut tree = MemTree::new(alloc, 4096, Vec::new(alloc));
-    let edg = rows_of(alloc, rows.edg, 0, changes)?;
-    let fac = rows_of(alloc, rows.fac, 1, changes)?;
-    let rng = rows_of(alloc, rows.rng, 2, changes)?;
-    let cnd = rows_of(alloc, rows.cnd, 3, changes)?;
-    tree.put("lib/cov/edg", &table_of(alloc, EDG, &edg)?)?;
-    tree.put("lib/cov/fac", &table_of(alloc, FAC, &fac)?)?;
-    tree.put("lib/cov/rng", &table_of(alloc, RNG, &rng)?)?;
-    tree.put("lib/cov/cnd", &table_of(alloc, CND, &cnd)?)?;
-    Ok(tree)
-}
-
-/// What `check lib cov` prints over a tree, and its status.
-fn check_of(alloc: Global, tree: &mut MemTree) -> Result<(Status, MemSink), AllocError> {
-    let mut out = MemSink::new(alloc, 4096, Vec::new(alloc));
-    let words = words_of(alloc, &["check", "lib", "cov"])?;
-    let status = run(alloc, &words, tree, &mut out);
-    Ok((status, out))
-}
-
-#[test]
-fn counts_what_agrees(rt: HostRuntime) -> Result<(), Fail> {
-    let alloc = rt.alloc();
-    for (rows, text) in AGREEING {
-        let mut tree = tree_of(alloc, &rows, &[])?;
-        let (status, out) = check_of(alloc, &mut tree)?;
-        assert_eq!(rt; out.bytes(), text.as_bytes());
-        assert_eq!(rt; status, Status::Done, "{text}");
-    }
-    Ok(())
-}
-
-#[test]
-fn tells_the_first_finding_of_numbers(rt: HostRuntime) -> Result<(), Fail> {
-    let alloc = rt.alloc();
-    for (rows, changes, finding) in FINDINGS {
-        let mut tree = tree_of(alloc, &rows, changes)?;
-        let (status, out) = check_of(alloc, &mut tree)?;
-        let text = format!(in alloc; "disagree {finding}\n")?;
-        assert_eq!(rt; out.bytes(), text.as_bytes(), "{finding}");
-        assert_eq!(rt; status, Status::Refused, "{finding}");
-    }
-    Ok(())
-}
-
-#[test]
-fn tells_the_first_finding_of_columns(rt: HostRuntime) -> Result<(), Fail> {
-    let alloc = rt.alloc();
-    for ([edg, fac, rng, cnd, end], finding) in COLUMN_FINDINGS {
-        let mut tree = MemTree::new(alloc, 4096, Vec::new(alloc));
-        tree.put("lib/cov/edg", &table_of(alloc, edg, &[])?)?;
-        tree.put("lib/cov/fac", &table_of(alloc, fac, b"\x01\0\0\0\0\0\0\0")?)?;
-        tree.put("lib/cov/rng", &table_of(alloc, rng, &[])?)?;
-        tree.put("lib/cov/cnd", &table_of(alloc, cnd, &[])?)?;
-        tree.put("lib/cov/end", &table_of(alloc, end, &[])?)?;
-        let (status, out) = check_of(alloc, &mut tree)?;
-        let text = format!(in alloc; "disagree 1 lib/cov/{finding}\n")?;
-        assert_eq!(rt; out.bytes(), text.as_bytes(), "{finding}");
-        assert_eq!(rt; status, Status::Refused, "{finding}");
-    }
-    Ok(())
-}
-
-/// Faces whose first rings are triplet ids, with the bytes of the second, whether they have their index, and what is printed.
-const TRIPLETS: [(&[u8], bool, &str); 6] = [
-    (
-        b"\x40\x02",
-        true,
+        Some(FAC),
         "agrees untiled edges 3 faces 3 nodes 2 entities 0\n",
+        Status::Done,
     ),
     (
-        b"\x54\x02\x01\x01",
-        true,
-        "disagree 1 lib/cov/fac row 2 ring_ptr: (2,1,1), plain\n",
-    ),
-    (
-        b"\x44\x02\x05",
-        true,
-        "disagree 1 lib/cov/fac row 2 ring_ptr: (2,-,5), plain\n",
-    ),
-    (
-        b"\x04\x05",
-        true,
-        "disagree 1 lib/cov/fac row 2 ring_ptr: (-,-,5), 1 to 3\n",
-    ),
-    (
-        b"\x40\x03",
-        true,
+        Some(WRONG_FAC),
         "disagree 3 lib/cov/fac row 2 ring_ptr: 3, 2\n",
+        Status::Refused,
     ),
-    (b"\x40\x02", false, "refused missing lib/cov/fax\n"),
-];
-
-/// Faces 1 to 3 with triplet ids, and the index of their rows.
-fn faces_of(alloc: Global, second: &[u8]) -> Result<(Vec<u8>, Vec<u8>), AllocError> {
-    let mut rows = Vec::new(alloc);
-    let mut table = table_of(alloc, "id=I,1,P,Id ring_ptr=K,1,N,Ring", &[])?;
-    let mut index = b"\x03\0\0\0\0\0\0\0".to_vec(alloc)?;
-    for (k, triplet) in [
-        (1u32, b"\x40\x01".as_slice()),
-        (2, second),
-        (3, b"\x40\x03"),
-    ] {
-        let start = table.len().saturating_add(rows.len());
-        rows.extend_from_slice(&k.to_le_bytes())?;
-        rows.extend_from_slice(triplet)?;
-        let entry = [start, triplet.len().saturating_add(4)];
-        for number in entry {
-            let number = u32::try_from(number).unwrap_or(0);
-            index.extend_from_slice(&number.to_le_bytes())?;
-        }
-    }
-    table.extend_from_slice(&rows)?;
-    Ok((table, index))
-}
-
-#[test]
-fn takes_triplet_ids(rt: HostRuntime) -> Result<(), Fail> {
-    let alloc = rt.alloc();
-    for (second, has_index, text) in TRIPLETS {
-        let mut tree = tree_of(alloc, &THREE, &[])?;
-        let (table, index) = faces_of(alloc, second)?;
-        tree.put("lib/cov/fac", &table)?;
-        if has_index {
-            tree.put("lib/cov/fax", &index)?;
-        }
-        let (_, out) = check_of(alloc, &mut tree)?;
-        assert_eq!(rt; out.bytes(), text.as_bytes(), "{text}");
-    }
-    Ok(())
-}
-
-/// The files that are there, in reading order, of which the last is cut to its length number; and what is printed.
-const FILES: [(&[&str], &str); 5] = [
-    (&[], "refused missing lib/cov/edg\n"),
-    (&["edg"], "refused header-cut lib/cov/edg at 4\n"),
-    (&["edg", "fac"], "refused header-cut lib/cov/fac at 4\n"),
-    (
-        &["edg", "fac", "rng"],
-        "refused header-cut lib/cov/rng at 4\n",
-    ),
-    (
-        &["edg", "fac", "rng", "cnd", "end"],
-        "refused header-cut lib/cov/end at 4\n",
-    ),
+    (None, "refused missing lib/cov/fac\n", Status::Refused),
 ];
 
 #[test]
-fn tells_the_first_file_that_is_not_taken(rt: HostRuntime) -> Result<(), Fail> {
+fn checks_a_coverage(rt: HostRuntime) -> Result<(), Fail> {
     let alloc = rt.alloc();
-    let whole = table_of(alloc, FAC, &[])?;
-    for (names, text) in FILES {
+    let words = words_of(alloc, &["check", "lib", "cov"])?;
+    for (faces, text, status) in CASES {
         let mut tree = MemTree::new(alloc, 4096, Vec::new(alloc));
-        for (k, name) in names.iter().enumerate() {
-            let name = format!(in alloc; "lib/cov/{name}")?;
-            let len = if k + 1 == names.len() { 4 } else { whole.len() };
-            tree.put(&name, whole.get(..len).unwrap_or(b""))?;
+        tree.put("lib/cov/edg", EDG)?;
+        tree.put("lib/cov/rng", RNG)?;
+        tree.put("lib/cov/cnd", CND)?;
+        if let Some(bytes) = faces {
+            tree.put("lib/cov/fac", bytes)?;
         }
-        let (status, out) = check_of(alloc, &mut tree)?;
+        let mut out = MemSink::new(alloc, 4096, Vec::new(alloc));
+        assert_eq!(rt; run(alloc, &words, &mut tree, &mut out), status, "{text}");
         assert_eq!(rt; out.bytes(), text.as_bytes(), "{text}");
-        assert_eq!(rt; status, Status::Refused, "{text}");
     }
     Ok(())
 }
