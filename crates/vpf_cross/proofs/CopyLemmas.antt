@@ -1,12 +1,12 @@
 -- The copies of a dart in a tile: there is at most one, and where it isn't the dart itself it is found by the other dart of the edge.
-use Rattle.std.proofs.Common.{◌≡◌, ◌≢◌, ◌⊎◌, ℕ, ◌^◌, ◌<◌, Bool, true, false, not, eqb, ◌&&◌, Option, Some, None, is_some, nat_eq, List, refl, sym, subst, ap, ◌∙◌, inl, inr}
+use Rattle.std.proofs.Common.{◌≡◌, ◌⊎◌, ℕ, ◌^◌, ◌<◌, Bool, true, false, not, eqb, ◌&&◌, Option, Some, None, is_some, nat_eq, List, refl, sym, subst, ap, ◌∙◌, inl, inr}
 use Rattle.std.specs.Prelude.{find, if◌then◌else◌}
-use Rattle.std.specs.Option.{option_eq, option_map, unwrap_or}
+use Rattle.std.specs.Option.{option_eq, unwrap_or}
 use Rattle.std.proofs.lemmas.Bool.{and_parts, and_from, cases_Bool, cases_eq, eqb-true, eq-eqb}
 use Rattle.vpf_darts.specs.Darts.{code, tile_in, flip}
 use Rattle.vpf_prims.specs.Primitives.{Library, edge_count}
-use Rattle.vpf_wing.specs.Links.{Beyond, Link, DartLinks, links_of, only}
-use Rattle.vpf_follow.specs.Following.{beyond_tile, is_far_face, is_home, is_outside, is_named, face_beyond, face_name, same_beyond, follow, follow_to, follows_to, first_home, home_copy}
+use Rattle.vpf_wing.specs.Links.{Beyond, DartLinks, links_of, only}
+use Rattle.vpf_follow.specs.Following.{beyond_tile, is_far_face, is_home, is_outside, is_named, face_name, same_beyond, follow, follow_to, follows_to, first_home, home_copy}
 use Rattle.vpf_cross.specs.Copies.{FacesAreElsewhere}
 use Rattle.vpf_cross.specs.RoundLines.{copy_in_tile}
 use Rattle.vpf_cross.proofs.DartLists.{Among, find_found, find_missed, darts_are, darts_hold, flip-flip}

@@ -5,4 +5,5 @@ pub mod CarriedLines
 pub mod Copies
 pub mod Agreeing
 pub mod CrossFinding
+pub mod Checked
 pub mod Example
