@@ -1,12 +1,12 @@
 -- The copies of a dart in a tile: there is at most one, and where it isn't the dart itself it is found by the other dart of the edge.
-use Rattle.std.proofs.Common.{◌≡◌, ◌≢◌, ◌⊎◌, ℕ, ◌^◌, ◌<◌, Bool, true, false, not, eqb, ◌&&◌, Option, Some, None, is_some, nat_eq, List, refl, sym, subst, ap, ◌∙◌, inl, inr}
+use Rattle.std.proofs.Common.{◌≡◌, ◌⊎◌, ℕ, ◌^◌, ◌<◌, Bool, true, false, not, eqb, ◌&&◌, Option, Some, None, is_some, nat_eq, List, refl, sym, subst, ap, ◌∙◌, inl, inr}
 use Rattle.std.specs.Prelude.{find, if◌then◌else◌}
-use Rattle.std.specs.Option.{option_eq, option_map, unwrap_or}
+use Rattle.std.specs.Option.{option_eq, unwrap_or}
 use Rattle.std.proofs.lemmas.Bool.{and_parts, and_from, cases_Bool, cases_eq, eqb-true, eq-eqb}
 use Rattle.vpf_darts.specs.Darts.{code, tile_in, flip}
 use Rattle.vpf_prims.specs.Primitives.{Library, edge_count}
-use Rattle.vpf_wing.specs.Links.{Beyond, Link, DartLinks, links_of, only}
-use Rattle.vpf_follow.specs.Following.{beyond_tile, is_far_face, is_home, is_outside, is_named, face_beyond, face_name, same_beyond, follow, follow_to, follows_to, first_home, home_copy}
+use Rattle.vpf_wing.specs.Links.{Beyond, DartLinks, links_of, only}
+use Rattle.vpf_follow.specs.Following.{beyond_tile, is_far_face, is_home, is_outside, is_named, face_name, same_beyond, follow, follow_to, follows_to, first_home, home_copy}
 use Rattle.vpf_cross.specs.Copies.{FacesAreElsewhere}
 use Rattle.vpf_cross.specs.RoundLines.{copy_in_tile}
 use Rattle.vpf_cross.proofs.DartLists.{Among, find_found, find_missed, darts_are, darts_hold, flip-flip}
@@ -207,7 +207,7 @@ unfolding copy_in_tile
 copy_here L t y h home tile =
     let C = links_of L in
     find_alone (is_copy C t y) C.darts y (copy_from C t y y home tile (copy_home C y home)) (darts_hold L y (home_has C y home)) (λ x passes among. (
-        let p = copy_parts C t y x home passes in here L t x y h (darts_are L h.few x among) p.0 tile p.1))
+    let p = copy_parts C t y x home passes in here L t x y h (darts_are L h.few x among) p.0 tile p.1))
 
 pub copy_there : (L : Library) (t y e : ℕ) → HaveCopies L → is_home (links_of L) y ≡ true → (tile_in y ≡ t → ⊥) → e ≡ flip (home_copy (links_of L) (flip y))
     → (links_of L).has e ≡ true → tile_in e ≡ t → home_copy (links_of L) e ≡ y → copy_in_tile (links_of L) t y ≡ Some e
@@ -215,7 +215,7 @@ unfolding copy_in_tile
 copy_there L t y e h home away is has tile copy =
     let C = links_of L in
     find_alone (is_copy C t y) C.darts e (copy_from C t y e home tile copy) (darts_hold L e has) (λ x passes among. (
-        let p = copy_parts C t y x home passes in there L t x y h (darts_are L h.few x among) p.0 away p.1 ∙ sym is))
+    let p = copy_parts C t y x home passes in there L t x y h (darts_are L h.few x among) p.0 away p.1 ∙ sym is))
 
 pub copy_absent : (L : Library) (t y e : ℕ) → HaveCopies L → is_home (links_of L) y ≡ true → (tile_in y ≡ t → ⊥) → e ≡ flip (home_copy (links_of L) (flip y))
     → (tile_in e ≡ t → home_copy (links_of L) e ≡ y → ⊥) → copy_in_tile (links_of L) t y ≡ None
@@ -223,6 +223,6 @@ unfolding copy_in_tile
 copy_absent L t y e h home away is none =
     let C = links_of L in
     find_nothing (is_copy C t y) C.darts (λ x passes among. (
-        let p = copy_parts C t y x home passes in
-        let same : x ≡ e = there L t x y h (darts_are L h.few x among) p.0 away p.1 ∙ sym is in
-        none (subst (λ v. tile_in v ≡ t) same p.0) (subst (λ v. home_copy C v ≡ y) same p.1)))
+    let p = copy_parts C t y x home passes in
+    let same : x ≡ e = there L t x y h (darts_are L h.few x among) p.0 away p.1 ∙ sym is in
+    none (subst (λ v. tile_in v ≡ t) same p.0) (subst (λ v. home_copy C v ≡ y) same p.1)))

@@ -64,14 +64,14 @@ pub record IsOfRow (t n x : ℕ) : Type 0 where
 of_code : (t k s n x : ℕ) → k < 2 ^ 32 → s < 2 → 1 ≤ k → k ≤ n → code t k s ≡ x → IsOfRow t n x
 of_code t k zero n x few small low high e =
     subst (IsOfRow t n) e (
-      let tile = tile-code t k false few in
-      let edge = edge-code t k false few in
-      record { tile = tile; from_one = subst (λ v. 1 ≤ v) (sym edge) low; to_count = subst (λ v. v ≤ n) (sym edge) high })
+    let tile = tile-code t k false few in
+    let edge = edge-code t k false few in
+    record { tile = tile; from_one = subst (λ v. 1 ≤ v) (sym edge) low; to_count = subst (λ v. v ≤ n) (sym edge) high })
 of_code t k (suc zero) n x few small low high e =
     subst (IsOfRow t n) e (
-      let tile = tile-code t k true few in
-      let edge = edge-code t k true few in
-      record { tile = tile; from_one = subst (λ v. 1 ≤ v) (sym edge) low; to_count = subst (λ v. v ≤ n) (sym edge) high })
+    let tile = tile-code t k true few in
+    let edge = edge-code t k true few in
+    record { tile = tile; from_one = subst (λ v. 1 ≤ v) (sym edge) low; to_count = subst (λ v. v ≤ n) (sym edge) high })
 of_code t k (suc (suc s)) n x few small low high e = absurd (omega arith)
 
 in_row : (t n x : ℕ) → n < 2 ^ 32 → Among (row_darts t n) x → IsOfRow t n x
@@ -79,12 +79,12 @@ in_row t zero x few h = absurd h
 in_row t (suc n) x few h = elim (in_either (row_darts t n) (code t (suc n) 0 ∷ code t (suc n) 1 ∷ []) x h) [
   | inl before ↦ (let r : IsOfRow t n x = in_row t n x (omega arith) before in record { tile = r.tile; from_one = r.from_one; to_count = omega (arith, r.to_count) })
   | inr here ↦ elim here [
-      | inl e ↦ of_code t (suc n) 0 (suc n) x few (omega arith) (omega arith) (omega arith) e
-      | inr last ↦ elim last [
-          | inl e ↦ of_code t (suc n) 1 (suc n) x few (omega arith) (omega arith) (omega arith) e
-          | inr none ↦ absurd none
-        ]
+    | inl e ↦ of_code t (suc n) 0 (suc n) x few (omega arith) (omega arith) (omega arith) e
+    | inr last ↦ elim last [
+      | inl e ↦ of_code t (suc n) 1 (suc n) x few (omega arith) (omega arith) (omega arith) e
+      | inr none ↦ absurd none
     ]
+  ]
 ]
 
 last_of_row : (t n x s : ℕ) → s < 2 → code t n s ≡ x → Among (code t n 0 ∷ code t n 1 ∷ []) x

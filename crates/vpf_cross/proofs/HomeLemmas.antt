@@ -1,10 +1,10 @@
 -- The lines on the home copy of a dart, by the rows of both edges.
-use Rattle.std.proofs.Common.{◌≡◌, ℕ, ◌^◌, ◌<◌, ◌≤◌, Bool, true, false, eqb, Option, Some, None, Result, nat_eq, List, [], length, refl, sym, ap, ◌∙◌, subst, arith}
+use Rattle.std.proofs.Common.{◌≡◌, ℕ, ◌^◌, ◌<◌, ◌≤◌, eqb, Option, Some, None, Result, nat_eq, List, length, refl, sym, ap, ◌∙◌, subst}
 use Rattle.std.specs.Option.{option_eq, option_map}
 use Rattle.vpf_value.specs.Values.{Value}
 use Rattle.vpf_darts.specs.declared.darts.TileDart.{TileDart}
 use Rattle.vpf_darts.specs.contracts.darts.TileDartPartialEq.TheImpl.{eq-value}
-use Rattle.vpf_darts.specs.Darts.{code, tile_in, edge_in, flip, sign_in, sign_of, tile_dart_code}
+use Rattle.vpf_darts.specs.Darts.{tile_in, edge_in, flip, sign_in, sign_of, tile_dart_code}
 use Rattle.vpf_findings.specs.declared.finding.SeenWord.TheVariants as words
 use Rattle.vpf_findings.specs.Findings.{DartSeen, Disagreement, Sight, WordSeen}
 use Rattle.vpf_findings.specs.declared.finding.Finding.{Finding}
@@ -26,7 +26,7 @@ use Rattle.vpf_follow.specs.Homes.{IsDartIn}
 use Rattle.vpf_follow.specs.SideLines.{face_citation}
 use Rattle.vpf_cross.specs.Carrying.{Difference, carried_at, first_difference}
 use Rattle.vpf_cross.specs.HomeLines.{coverage_links, home_carried_line, home_flip_line, home_lines, home_mark_line, home_sign_line, mark_seen}
-use Rattle.vpf_cross.proofs.AgreeLemmas.{IsThere, is_there}
+use Rattle.vpf_cross.proofs.AgreeLemmas.{is_there}
 use Rattle.vpf_cross.proofs.CarriedLemmas.{at_number}
 use Rattle.vpf_cross.proofs.CarryLemmas.{empty_carries}
 use Rattle.vpf_cross.proofs.DartLemmas.{same_numbers, seen_so}

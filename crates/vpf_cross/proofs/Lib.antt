@@ -1,6 +1,7 @@
 mod AgreeLemmas
 mod CarriedLemmas
 mod CarryLemmas
+mod CheckLemmas
 mod CopyLemmas
 mod DartLemmas
 mod DartLists

@@ -27,6 +27,8 @@ stop_edge lines k T f h some = over_stop (λ i. lines (i + 1)) k (length (primit
 pub end_edges : (lines : ℕ → Option Disagreement) (k : ℕ) (T : TileTables) → length (primitives_of T.tables).edges ≤ k → edges_left lines k T ≡ None
 end_edges lines k T h = over_end (λ i. lines (i + 1)) k (length (primitives_of T.tables).edges) h
 
+pub ruleset edge_rules = (all_edges, pass_edge, stop_edge, end_edges)
+
 -- no finding in the edges of a tile: none in any
 pub no_edge : (lines : ℕ → Option Disagreement) (T : TileTables) → over_edges lines T ≡ None → (k : ℕ) → 1 ≤ k → k ≤ length (primitives_of T.tables).edges → lines k ≡ None
 unfolding over_edges
@@ -75,9 +77,5 @@ pass_at rule t c T h is none = pass_tile rule t c h (in_tile_at rule t c T (sym 
 
 pub pass_absent : (rule : ℕ → TileTables → Option Disagreement) (t : ℕ) (c : CoverageTables) → t < last_tile c + 1 → None ≡ tile_at c t → tiles_left rule (t + 1) c ≡ tiles_left rule t c
 pass_absent rule t c h is = pass_tile rule t c h (in_tile_absent rule t c (sym is))
-
-pub stop_at : (rule : ℕ → TileTables → Option Disagreement) (t : ℕ) (c : CoverageTables) (T : TileTables) (f : Disagreement) → t < last_tile c + 1 → Some T ≡ tile_at c t → rule t T ≡ Some f
-    → tiles_left rule t c ≡ Some f
-stop_at rule t c T f h is some = stop_tile rule t c f h (in_tile_at rule t c T (sym is) ∙ some)
 
 pub ruleset tile_rules = (all_tiles, pass_at, pass_absent, end_tiles)

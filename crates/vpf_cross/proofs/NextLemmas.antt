@@ -1,20 +1,20 @@
 -- The next of a dart in its tile, by the rows of edges.
-use Rattle.std.proofs.Common.{◌≡◌, ℕ, zero, suc, ◌+◌, ◌-◌, ◌*◌, ◌/◌, ◌%◌, ◌^◌, ◌<◌, ◌≤◌, Bool, true, false, not, eqb, ◌&&◌, Option, Some, None, List, [], ◌∷◌, length, map, get_or, refl, sym, ap, ◌∙◌, arith}
+use Rattle.std.proofs.Common.{◌≡◌, ℕ, zero, suc, ◌-◌, ◌^◌, ◌<◌, ◌≤◌, Bool, true, false, not, Some, None, List, [], ◌∷◌, length, map, get_or, refl, sym, ap, ◌∙◌, arith}
 use Rattle.std.specs.Prelude.{if◌then◌else◌}
 use Rattle.std.specs.Option.{option_map}
 use Rattle.vpf_darts.specs.declared.darts.Dart.{Dart}
-use Rattle.vpf_darts.specs.Darts.{code, tile_in, edge_in, sign_of, flip}
+use Rattle.vpf_darts.specs.Darts.{code, tile_in, sign_of, flip}
 use Rattle.vpf_prims.specs.declared.rows.Edge.{Edge}
 use Rattle.vpf_prims.specs.Coverages.{CoverageTables, tile_at, last_tile}
 use Rattle.vpf_prims.specs.Lists.{kth}
 use Rattle.vpf_prims.specs.Numbering.{IsRowOf}
-use Rattle.vpf_prims.specs.Primitives.{EdgePrimitive, absent_edge, edge_count, edges_in, own_edge, own_edges}
+use Rattle.vpf_prims.specs.Primitives.{EdgePrimitive, absent_edge, edge_count, own_edge, own_edges}
 use Rattle.vpf_prims.specs.Reading.{primitives_of}
 use Rattle.vpf_prims.specs.References.{id_of}
 use Rattle.vpf_prims.specs.TableLines.{numbers_finding}
 use Rattle.vpf_prims.specs.Tables.{TileTables}
-use Rattle.vpf_wing.specs.Links.{DartLinks, Link, face_by, is_next, link_of, links_of, local_next, next_to, node_by, only, tail_node, wing_by}
-use Rattle.vpf_wing.specs.Nexts.{edge_at, face, flipped, follows, head, next_dart, no_edge, tail, the_one, wing}
+use Rattle.vpf_wing.specs.Links.{Link, face_by, is_next, local_next, next_to, node_by, only, tail_node, wing_by}
+use Rattle.vpf_wing.specs.Nexts.{edge_at, face, follows, head, next_dart, no_edge, tail, the_one, wing}
 use Rattle.vpf_follow.specs.Libraries.{library_of}
 use Rattle.vpf_cross.specs.HomeLines.{coverage_links}
 use Rattle.vpf_cross.proofs.DartLists.{IsOfTiles, has_from}

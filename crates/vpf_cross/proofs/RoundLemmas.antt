@@ -1,9 +1,9 @@
 -- The walk round a node to the first dart that has a copy in a tile, and the line on a dart by it.
-use Rattle.std.proofs.Common.{◌≡◌, ℕ, zero, suc, ◌+◌, ◌-◌, ◌^◌, ◌<◌, eqb, Option, Some, None, length, refl, sym, ap, ◌∙◌, arith}
+use Rattle.std.proofs.Common.{◌≡◌, ℕ, zero, suc, ◌+◌, ◌-◌, ◌^◌, ◌<◌, eqb, Option, Some, None, length, refl, ap, ◌∙◌, arith}
 use Rattle.vpf_darts.specs.declared.darts.TileDart.{TileDart}
 use Rattle.vpf_darts.specs.contracts.darts.TileDartPartialEq.TheImpl.{eq-value}
 use Rattle.vpf_darts.specs.Darts.{flip, tile_dart_code}
-use Rattle.vpf_findings.specs.Findings.{DartSeen, Disagreement, Sight}
+use Rattle.vpf_findings.specs.Findings.{DartSeen, Sight}
 use Rattle.vpf_findings.specs.Firsts.{unless}
 use Rattle.vpf_prims.specs.Tables.{TileTables}
 use Rattle.vpf_wing.specs.Links.{DartLinks, local_next}

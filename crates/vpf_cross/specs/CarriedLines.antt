@@ -67,7 +67,8 @@ carried_finding L t T = over_edges (nodes_lines L t T) T or universe_line L t T
 abbrev pub universe_entity_line : ℕ → TileTables → Grid → ℕ → EntityPrimitive → Option Disagreement
 universe_entity_line t T end n e =
     unless (not (id_of e.containing_face == 1))
-    (in_table (entities_at t T) 8 n (reference_column end.head.columns (codes "containing_face")).name (NumberSeen (pos 1)) (RangeSeen 2 (length (primitives_of T.tables).faces)))
+    (in_table (entities_at t T) 8 n (reference_column end.head.columns (codes "containing_face")).name (NumberSeen (pos 1))
+    (RangeSeen 2 (length (primitives_of T.tables).faces)))
 
 -- what disagrees first in the entity nodes of tile t, where they have a table
 abbrev pub inhabited_finding_in : ℕ → TileTables → Option Grid → Option Disagreement

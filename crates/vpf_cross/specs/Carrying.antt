@@ -38,7 +38,8 @@ carried_at roles grid k = carried_in roles grid.head.columns (kth grid.rows k []
 
 -- no row carries anything in the columns from one place to another
 abbrev pub CarryNone : List Role → List Col → (from to : ℕ) → Type 0
-CarryNone roles columns from to = (row : Row) → length row ≡ length columns → carried_in roles (drop to columns) (drop to row) ≡ carried_in roles (drop from columns) (drop from row)
+CarryNone roles columns from to = (row : Row) → length row ≡ length columns
+    → carried_in roles (drop to columns) (drop to row) ≡ carried_in roles (drop from columns) (drop from row)
 
 -- c is the place of the first column from one on that has no role
 pub record IsNextCarried (roles : List Role) (columns : List Col) (from c : ℕ) : Type 0 where

@@ -81,8 +81,8 @@ abbrev pub tiles_with : ℕ → CoverageTables
 tiles_with mark = record {
   is_tiled = true;
   tiles = None
-    ∷ Some (record { first = 1; tables = tile_with (first_edges mark) })
-    ∷ Some (record { first = 6; tables = tile_with second_edges }) ∷ [];
+      ∷ Some (record { first = 1; tables = tile_with (first_edges mark) })
+      ∷ Some (record { first = 6; tables = tile_with second_edges }) ∷ [];
 }
 
 -- nothing is found in it, and a line that isn't marked is

@@ -5,5 +5,6 @@ pub mod CarriedLines
 pub mod Copies
 pub mod Agreeing
 pub mod CrossFinding
+pub mod Checked
 pub mod Example
 pub mod Laws

@@ -57,7 +57,14 @@ fn check_head_node<'a>(
     };
     match node_difference(tile, id_of(node), there, other.id) {
         None => Ok(()),
-        Some(found) => Err(tile.finding(number, node_citation(minus), 7, k, found.here, found.there)),
+        Some(found) => Err(tile.finding(
+            number,
+            node_citation(minus),
+            7,
+            k,
+            found.here,
+            found.there,
+        )),
     }
 }
 
@@ -77,12 +84,8 @@ fn check_nodes_of<'a>(
 }
 
 /// The nodes of all edges do.
-#[tactic(auto, using(crate::proofs::LoopLemmas::all_edges, crate::proofs::LoopLemmas::pass_edge, crate::proofs::LoopLemmas::stop_edge, crate::proofs::LoopLemmas::end_edges))]
-fn check_nodes<'a>(
-    coverage: &Coverage<'a>,
-    number: u32,
-    tile: &Tile<'a>,
-) -> Result<(), Finding<'a>>
+#[tactic(auto, using(crate::proofs::LoopLemmas::edge_rules))]
+fn check_nodes<'a>(coverage: &Coverage<'a>, number: u32, tile: &Tile<'a>) -> Result<(), Finding<'a>>
     requires { tile_at coverage.now number ≡ Some tile.now }
     ensures { Finds result (over_edges (nodes_lines (library_of coverage.now) number tile.now) tile.now) }
 {

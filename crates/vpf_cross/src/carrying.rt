@@ -96,7 +96,11 @@ fn next_carried(roles: &[Role], header: &Header<'_>, from: usize) -> Option<usiz
 }
 
 /// The difference of two cells in a column, where they differ.
-fn cell_difference<'a>(column: &Column<'a>, here: Cell<'a>, there: Cell<'a>) -> Option<Difference<'a>>
+fn cell_difference<'a>(
+    column: &Column<'a>,
+    here: Cell<'a>,
+    there: Cell<'a>,
+) -> Option<Difference<'a>>
     ensures { option_map difference_of result ≡ cell_difference (col column.now) (view here.entry) (view there.entry) }
 {
     if same(&here, &there) {

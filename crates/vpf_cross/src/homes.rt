@@ -94,7 +94,14 @@ fn check_flip<'a>(
         return Ok(());
     }
     let citation = face_citation(dart.minus);
-    Err(tile.finding(dart.tile, citation, 5, dart.edge, Seen::Dart(back), Seen::Dart(other)))
+    Err(tile.finding(
+        dart.tile,
+        citation,
+        5,
+        dart.edge,
+        Seen::Dart(back),
+        Seen::Dart(other),
+    ))
 }
 
 /// The home copy has the sign of the dart.
@@ -215,7 +222,7 @@ fn check_copies<'a>(
 /// The home copy of each outside dart of the tile of this number is of one edge with it (MIL-STD-2407, 5.2.3, cross-tile topology): the home
 /// copy of the home copy's other dart is the other dart, and the home copy has the same sign, the same mark and the same cells in the columns
 /// without a role. The first that differs is the finding, edge by edge, `+` before `-`. It takes no memory.
-#[tactic(auto, using(crate::proofs::LoopLemmas::all_edges, crate::proofs::LoopLemmas::pass_edge, crate::proofs::LoopLemmas::stop_edge, crate::proofs::LoopLemmas::end_edges))]
+#[tactic(auto, using(crate::proofs::LoopLemmas::edge_rules))]
 pub fn check_homes<'a>(
     followed: &Followed<'_, 'a>,
     number: u32,

@@ -68,10 +68,13 @@ fn next_in(followed: &Followed<'_, '_>, tile: &Tile<'_>, dart: TileDart) -> Opti
 {
     tile.has_numbers();
     let _edges = tile.edges();
-    let next = next_local(tile, Dart {
-        edge: dart.edge,
-        minus: dart.minus,
-    })?;
+    let next = next_local(
+        tile,
+        Dart {
+            edge: dart.edge,
+            minus: dart.minus,
+        },
+    )?;
     Some(TileDart {
         tile: dart.tile,
         edge: next.edge,
@@ -101,7 +104,14 @@ fn check_round<'a>(
         return Ok(());
     }
     let citation = wing_citation(dart.minus);
-    Err(tile.finding(dart.tile, citation, 6, dart.edge, Seen::Dart(next), Seen::Dart(copy)))
+    Err(tile.finding(
+        dart.tile,
+        citation,
+        6,
+        dart.edge,
+        Seen::Dart(next),
+        Seen::Dart(copy),
+    ))
 }
 
 /// The same of both darts of edge `k`.
@@ -128,7 +138,7 @@ fn check_rounds_of<'a>(
 /// The tile of this number turns about its nodes as the whole coverage does (MIL-STD-2407, 5.2.3, cross-tile topology): the next of a dart in
 /// the tile is the copy there of the first dart that has one among the dart that follows it, the one that follows that one's other dart, and
 /// so on. The first dart where it isn't is the finding, edge by edge, `+` before `-`. It takes no memory.
-#[tactic(auto, using(crate::proofs::LoopLemmas::all_edges, crate::proofs::LoopLemmas::pass_edge, crate::proofs::LoopLemmas::stop_edge, crate::proofs::LoopLemmas::end_edges))]
+#[tactic(auto, using(crate::proofs::LoopLemmas::edge_rules))]
 pub fn check_rounds<'a>(
     followed: &Followed<'_, 'a>,
     number: u32,

@@ -80,7 +80,11 @@ pub fn head_node(tile: &Tile<'_>, k: u32, minus: bool) -> Triplet
     ensures { result ≡ node_by minus (kth (primitives_of tile.now.tables).edges k absent_edge) }
 {
     let edge = tile.edge(k);
-    if minus { edge.start_node } else { edge.end_node }
+    if minus {
+        edge.start_node
+    } else {
+        edge.end_node
+    }
 }
 
 /// A thing of another tile. Contracts see it as its tile and its number there.

@@ -1,6 +1,6 @@
 use Rattle.std.proofs.Common.{◌≡◌}
 use Rattle.vpf_follow.specs.Libraries.{over_edges}
-use Rattle.vpf_cross.specs.HomeLines.{copies_lines, homes_finding}
+use Rattle.vpf_cross.specs.HomeLines.{copies_lines}
 use Rattle.vpf_cross.proofs.LoopLemmas.{edges_left}
 use Rattle.vpf_cross.proofs.homes.check_homes.Given as goal
 

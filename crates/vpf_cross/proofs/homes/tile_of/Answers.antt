@@ -1,4 +1,4 @@
-use Rattle.std.proofs.Common.{◌≡◌, ◌<◌, ◌^◌, Option, None, Some, sym, ◌∙◌, arith}
+use Rattle.std.proofs.Common.{◌≡◌, ◌<◌, ◌^◌, Option, None, Some, sym, arith}
 use Rattle.vpf_cross.proofs.HomeLemmas.{is_in, row_in}
 use Rattle.vpf_cross.proofs.homes.tile_of.Goals as goal
 

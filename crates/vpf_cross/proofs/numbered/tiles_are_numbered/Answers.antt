@@ -1,4 +1,4 @@
-use Rattle.std.proofs.Common.{◌≡◌, ℕ, ◌+◌, arith, subst}
+use Rattle.std.proofs.Common.{◌≡◌, ◌+◌, arith, subst}
 use Rattle.vpf_prims.specs.Coverages.{last_tile}
 use Rattle.vpf_cross.proofs.AgreeLemmas.{HaveNumbers, faces_elsewhere, numbers_more, numbers_past}
 use Rattle.vpf_cross.proofs.numbered.tiles_are_numbered.Goals as goal

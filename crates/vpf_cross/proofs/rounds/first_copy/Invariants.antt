@@ -9,7 +9,7 @@ use Rattle.vpf_cross.proofs.rounds.first_copy.Given as goal
 abbrev pub invariant-loop-passed : goal.invariant-loop-passed
 invariant-loop-passed l = record {
   left : first_copy (coverage_links l.followed) l.number (length (coverage_links l.followed).darts + 1 - l._passed) (Some (tile_dart_code l.next))
-  ≡ first_copy (coverage_links l.followed) l.number (length (coverage_links l.followed).darts + 1) (follow (coverage_links l.followed) (tile_dart_code l.fn.dart));
+      ≡ first_copy (coverage_links l.followed) l.number (length (coverage_links l.followed).darts + 1) (follow (coverage_links l.followed) (tile_dart_code l.fn.dart));
   dart : IsDartIn l.followed l.next;
   home : is_home (coverage_links l.followed) (tile_dart_code l.next) ≡ true;
 }
