@@ -26,7 +26,7 @@ fn at_wing<'a>(tile: &Tile<'a>, dart: TileDart, found: Seen<'a>, wanted: Seen<'a
     tile.finding(dart.tile, citation, 4, dart.edge, found, wanted)
 }
 
-/// A home dart follows the dart, and where it is a home dart, no earlier one is followed by the same. Home darts are kept.
+/// A home dart follows the dart, and where the dart is a home dart, its next follows no earlier home dart. Home darts are kept.
 fn check_dart<'a>(
     coverage: &Coverage<'a>,
     tile: &Tile<'a>,

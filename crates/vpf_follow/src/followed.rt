@@ -17,8 +17,8 @@ use vpf_darts::TileDart;
 use vpf_findings::FindError;
 use vpf_prims::Coverage;
 
-/// A coverage in which each dart is followed by a home dart, and no two home darts by the same, with its home darts. Contracts see it
-/// as the coverage.
+/// A coverage in which a home dart follows each dart, and no dart follows two home darts, with its home darts. Contracts see it as the
+/// coverage.
 #[derive(Drop)]
 pub struct Followed<'c, 'a> {
     coverage: &'c Coverage<'a>,
@@ -61,9 +61,9 @@ fn count_darts(coverage: &Coverage<'_>) -> u64
     darts
 }
 
-/// Each dart of the coverage is followed by a home dart, and no two home darts are followed by the same (MIL-STD-2407, 5.2.3, cross-tile
-/// topology). The first dart that none follows, or that is a home dart which an earlier one is followed as, is the finding: tile by
-/// tile, edge by edge, `+` before `-`. The rows are passed once. Takes memory for each home dart, and nothing else.
+/// A home dart follows each dart of the coverage, and no dart follows two home darts (MIL-STD-2407, 5.2.3, cross-tile topology). The first
+/// dart that none follows, or home dart whose next follows an earlier home dart too, is the finding: tile by tile, edge by edge, `+`
+/// before `-`. It reads the rows of each dart's edge and of its wing. Takes memory for each home dart, and nothing else.
 pub fn check_follows<'c, 'a>(
     alloc: Global,
     coverage: &'c Coverage<'a>,
