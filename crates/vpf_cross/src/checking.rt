@@ -113,6 +113,8 @@ pub fn check_coverage<'c, 'a>(
 
 impl<'c, 'a> Checked<'c, 'a> {
     ghost use Rattle.std.specs.Prelude.{◌≡◌, None};
+    ghost use Rattle.std.specs.Option.{option_map};
+    ghost use Rattle.vpf_cross.specs.Checked.{KeepsFollowed};
     ghost use Rattle.vpf_cross.specs.CrossFinding.{topology_finding};
 
     /// The coverage.
@@ -127,5 +129,16 @@ impl<'c, 'a> Checked<'c, 'a> {
         ensures { topology_finding self.now ≡ None }
     {
         let _coverage = self.coverage;
+    }
+
+    /// What follows its darts, where it is tiled: with it `next` and `home_copy` are known for each dart. Nothing where it isn't tiled, since no
+    /// dart goes on in another tile there.
+    pub fn followed(&self) -> Option<&Followed<'c, 'a>>
+        ensures { KeepsFollowed self.now (option_map (λ f. f.now) result) }
+    {
+        match &self.followed {
+            Some(followed) => Some(followed),
+            None => None,
+        }
     }
 }
