@@ -1,7 +1,7 @@
 -- What `check` says of a coverage that agrees, and of which it is done.
 use Rattle.std.proofs.Common.{◌≡◌, ◌∙◌, ℕ, List, Option, Some, refl, sym, ap, subst}
 use Rattle.vpf_source.specs.Files.{Files}
-use Rattle.vpf_prims.specs.Holding.{HoldsBytes}
+use Rattle.vpf_loading.specs.Holding.{HoldsBytes}
 use Rattle.vpf_replies.specs.Answer.{Answer}
 use Rattle.vpf_library_commands.specs.declared.checking.CheckRequest.{CheckRequest}
 use Rattle.vpf_library_commands.specs.Agreeing.{Agrees, CheckCounts, CheckDecides}

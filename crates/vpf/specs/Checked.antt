@@ -1,9 +1,8 @@
 -- What `check` says of a coverage, by the grammar of its files and the field's words alone.
 use Rattle.std.specs.Prelude.{◌≡◌}
 use Rattle.vpf_source.specs.Files.{Files}
-use Rattle.vpf_prims.specs.Holding.{HoldsBytes}
-use Rattle.vpf_prims.specs.Loading.{LoadedCoverage}
-use Rattle.vpf_prims.specs.Reading.{primitives_of}
+use Rattle.vpf_loading.specs.Holding.{HoldsBytes}
+use Rattle.vpf_loading.specs.Loading.{LoadedCoverage}
 use Rattle.vpf_replies.specs.declared.verdict.Verdict.TheVariants.{Done}
 use Rattle.vpf_replies.specs.Answer.{Answer, done}
 use Rattle.vpf_library_commands.specs.declared.checking.CheckRequest.{CheckRequest}
@@ -12,10 +11,10 @@ use Rattle.vpf_library_commands.specs.Check.{agrees_text}
 use Rattle.vpf.specs.declared.command.Command.TheVariants.{Check}
 use Rattle.vpf.specs.Commands.{IsAnswerTo}
 
--- where the coverage agrees, its numbers of primitives are the answer
+-- where the coverage agrees, the numbers of primitives of its tiles are the answer
 abbrev pub AgreementIsSaid : Type 0
 AgreementIsSaid = (files : Files) (request : CheckRequest) (c : LoadedCoverage) → IsAgreeing files request c
-    → IsAnswerTo (Check request) files (done (agrees_text (primitives_of c.tables)))
+    → IsAnswerTo (Check request) files (done (agrees_text c.coverage))
 
 -- where the answer over files of bytes is that `check` is done, the coverage agrees
 abbrev pub OnlyAgreementIsDone : Type 0

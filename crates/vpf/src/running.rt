@@ -12,9 +12,8 @@ ghost use Rattle.vpf_table.specs.Spelling.{IsTable};
 ghost use Rattle.vpf_replies.specs.Answer.{Answer, done};
 ghost use Rattle.vpf_replies.specs.Tables.{fault_answer};
 ghost use Rattle.vpf_replies.specs.Halting.{ComesTo, TellsFault};
-ghost use Rattle.vpf_prims.specs.Holding.{HoldsBytes};
-ghost use Rattle.vpf_prims.specs.Loading.{LoadedCoverage};
-ghost use Rattle.vpf_prims.specs.Reading.{primitives_of};
+ghost use Rattle.vpf_loading.specs.Holding.{HoldsBytes};
+ghost use Rattle.vpf_loading.specs.Loading.{LoadedCoverage};
 ghost use Rattle.vpf_library_commands.specs.declared.checking.CheckRequest.{CheckRequest};
 ghost use Rattle.vpf_library_commands.specs.Agreeing.{Agrees, IsAgreeing};
 ghost use Rattle.vpf_library_commands.specs.Check.{agrees_text};
@@ -79,7 +78,7 @@ fn print_reply<O: Sink>(out: &mut O, reply: &Reply) -> Status
     ensures tells { TellsAsBefore (O.written out.old) (O.written out.new) }
     ensures later { O.faults out.old ≤ O.faults out.new }
 {
-    match put_all(out, reply.text().as_bytes()) {
+    match put_all(out, reply.text()) {
         Ok(()) => Status::from(reply.verdict()),
         Err(DeviceError::Failed) => Status::SinkFault,
         Err(DeviceError::NoMemory) => Status::NoMemory,
@@ -166,11 +165,12 @@ pub fn run<T: Tree, O: Sink>(alloc: Global, words: &[String], tree: &mut T, out:
         → T.files tree.old ≡ Some files → AsksForIndexed files request asked → result ≡ Status.Done
         → IfSome (T.files tree.new) (λ after. IndexAgrees after asked) }
 
-    // `check` is done exactly where the files hold the coverage in the grammar of tables, its columns are right and it is well formed:
-    // then it prints the numbers of its primitives. (The files of a tree that tells them are of bytes.)
+    // `check` is done exactly where the files hold the coverage in the grammar of tables, its columns are right and its rows agree, in each
+    // tile and across the tiles: then it prints the numbers of primitives of all its tiles. (The files of a tree that tells them are of
+    // bytes.)
     ensures checked { (files : Files) (request : CheckRequest) (c : LoadedCoverage) → command_of (map string_bytes words.now) ≡ Some (Check request)
         → T.files tree.old ≡ Some files → IsAgreeing files request c
-        → Carries (done (agrees_text (primitives_of c.tables))) result (record { files = T.files tree.old; written = O.written out.old })
+        → Carries (done (agrees_text c.coverage)) result (record { files = T.files tree.old; written = O.written out.old })
         (record { files = T.files tree.new; written = O.written out.new }) }
     ensures agrees { (files : Files) (request : CheckRequest) → HoldsBytes files → command_of (map string_bytes words.now) ≡ Some (Check request)
         → T.files tree.old ≡ Some files → result ≡ Status.Done → Agrees files request }

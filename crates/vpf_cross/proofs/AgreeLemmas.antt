@@ -9,13 +9,12 @@ use Rattle.vpf_prims.specs.Lists.{kth}
 use Rattle.vpf_prims.specs.Numbering.{IsRowOf}
 use Rattle.vpf_prims.specs.Primitives.{EdgePrimitive, absent_edge, edge_count, edges_in}
 use Rattle.vpf_prims.specs.Reading.{primitives_of}
-use Rattle.vpf_prims.specs.TableLines.{numbers_finding}
 use Rattle.vpf_prims.specs.Tables.{TileTables}
 use Rattle.vpf_wing.specs.Links.{DartLinks, Link, beyond_of, face_by, is_minus, link_of}
 use Rattle.vpf_follow.specs.FollowLines.{follow_line, follow_line_at, follow_lines, follows_finding}
 use Rattle.vpf_follow.specs.Following.{beyond_tile, follow, home_copy, is_far_face, is_outside}
 use Rattle.vpf_follow.specs.Homes.{HasFewEdges}
-use Rattle.vpf_follow.specs.Libraries.{in_tiles, library_of, primitives_in}
+use Rattle.vpf_prims.specs.Libraries.{in_tiles, library_of, primitives_in}
 use Rattle.vpf_cross.specs.Copies.{FacesAreElsewhere}
 use Rattle.vpf_cross.specs.HomeLines.{copies_lines, coverage_links, home_flip_line, home_lines, homes_finding, outside_lines}
 use Rattle.vpf_cross.proofs.CopyLemmas.{HaveCopies}
@@ -23,7 +22,7 @@ use Rattle.vpf_cross.proofs.DartLists.{IsOfTiles, parts-code, sign-small}
 use Rattle.vpf_cross.proofs.DartLists as darts
 use Rattle.vpf_cross.proofs.LinkLemmas.{face_at}
 use Rattle.vpf_cross.proofs.LoopLemmas.{no_edge, no_tile}
-use Rattle.vpf_cross.proofs.NumberLemmas.{edges_stay, unless_none}
+use Rattle.vpf_cross.proofs.NumberLemmas.{unless_none}
 
 -- the tile of a dart, and its edge there
 pub record IsThere (c : CoverageTables) (d : ℕ) : Type 0 where
@@ -55,7 +54,7 @@ if_none : {F : Type 0} (b : Bool) (o : Option F) → b ≡ true → (if b then o
 if_none true o t h = h
 if_none false o t h = absurd cc
 
-outside_has : (C : DartLinks) (d : ℕ) → is_outside C d ≡ true → C.has d ≡ true
+pub outside_has : (C : DartLinks) (d : ℕ) → is_outside C d ≡ true → C.has d ≡ true
 outside_has C d h = (and_parts (C.has d) (is_far_face (C.face d)) h).0
 
 outside_line : (c : CoverageTables) (t : ℕ) (T : TileTables) (k : ℕ) (m : Bool) → copies_lines c t T k ≡ None → outside_lines c t T k m ≡ None
@@ -105,11 +104,6 @@ pub have_copies : (c : CoverageTables) → HasFewEdges (library_of c) → FacesA
     → in_tiles (homes_finding c) c ≡ None → HaveCopies (library_of c)
 have_copies c few elsewhere follows homes = record { few = few; follows = follows_hold c follows; flips = flips_hold c homes; elsewhere = elsewhere }
 
--- what is so of the tiles of a coverage before tile t
-pub record HaveNumbers (c : CoverageTables) (t : ℕ) : Type 0 where
-  pub few : (u : ℕ) (T : TileTables) → u < t → tile_at c u ≡ Some T → length (primitives_of T.tables).edges < 2 ^ 24
-  pub numbers : (u : ℕ) (T : TileTables) → u < t → tile_at c u ≡ Some T → numbers_finding 0 T ≡ None
-
 past_end : {X : Type 0} (xs : List (Option X)) (u : ℕ) (x : X) → get_or xs u None ≡ Some x → u < length xs
 past_end [] u x h = absurd cc
 past_end (o ∷ xs) zero x h = omega arith
@@ -118,68 +112,3 @@ past_end (o ∷ xs) (suc u) x h = let r = past_end xs u x h in omega (arith, r)
 -- a tile with tables is one of the tiles
 pub tile_within : (c : CoverageTables) (u : ℕ) (T : TileTables) → tile_at c u ≡ Some T → u < last_tile c + 1
 tile_within c u T h = let r = past_end c.tiles u T h in omega (arith, r)
-
-few_at : (c : CoverageTables) (u : ℕ) (o : Option TileTables) → tile_at c u ≡ o → HaveNumbers c (last_tile c + 1) → length (edges_in (primitives_in o)) < 2 ^ 24
-few_at c u None e h = omega arith
-few_at c u (Some T) e h = h.few u T (tile_within c u T e) e
-
-pub few_edges : (c : CoverageTables) → HaveNumbers c (last_tile c + 1) → HasFewEdges (library_of c)
-few_edges c h u = few_at c u (tile_at c u) refl h
-
-face_stays : (m : Bool) (e : EdgePrimitive) → beyond_of e.right_face.tile e.right_face.ext ≡ None → beyond_of e.left_face.tile e.left_face.ext ≡ None
-    → (link_of (face_by m e)).out ≡ None
-face_stays false e right left = right
-face_stays true e right left = left
-
-none_some : (s : ℕ) → None ≡ Some s → ⊥
-none_some s e = cc
-
--- where the faces of tiles are their own, none is of another tile
-pub faces_elsewhere : (c : CoverageTables) → HaveNumbers c (last_tile c + 1) → FacesAreElsewhere (coverage_links c)
-faces_elsewhere c h d outside out =
-    let C = coverage_links c in
-    let i = is_there c d (outside_has C d outside) in
-    let stays = edges_stay i.tables (h.numbers (tile_in d) i.tables (tile_within c (tile_in d) i.tables i.tile) i.tile) (edge_in d) i.row in
-    let small : edge_in d < 2 ^ 32 = omega (arith, i.row.1, h.few (tile_in d) i.tables (tile_within c (tile_in d) i.tables i.tile) i.tile) in
-    let face = face_at c (tile_in d) i.tables (edge_in d) (is_minus d) i.tile small in
-    let none : (C.face d).out ≡ None =
-    ap (λ x. (C.face x).out) (sym (dart-code d)) ∙ ap (λ (l : Link). l.out) face
-    ∙ face_stays (is_minus d) (kth (primitives_of i.tables.tables).edges (edge_in d) absent_edge) stays.right_face stays.left_face in
-    let clash : None ≡ Some (tile_in d) = ap beyond_tile (sym none) ∙ out in
-    none_some (tile_in d) clash
-
-same_tables : (c : CoverageTables) (t : ℕ) (T U : TileTables) → Some T ≡ tile_at c t → tile_at c t ≡ Some U → T ≡ U
-same_tables c t T U e f = same (e ∙ f)
-  where
-    same : Some T ≡ Some U → T ≡ U
-    same h = cc
-
--- one more tile
-pub numbers_more : (c : CoverageTables) (t : ℕ) (T : TileTables) → HaveNumbers c t → Some T ≡ tile_at c t → length (primitives_of T.tables).edges < 2 ^ 24 → numbers_finding 0 T ≡ None
-    → HaveNumbers c (t + 1)
-numbers_more c t T h is few numbers = record {
-  few = λ u U lt at. elim (cases_eq u t) [
-    | inl e ↦ subst (λ (V : TileTables). length (primitives_of V.tables).edges < 2 ^ 24) (same_tables c t T U is (ap (tile_at c) (sym e) ∙ at)) few
-    | inr ne ↦ h.few u U (omega arith) at
-  ];
-  numbers = λ u U lt at. elim (cases_eq u t) [
-    | inl e ↦ subst (λ (V : TileTables). numbers_finding 0 V ≡ None) (same_tables c t T U is (ap (tile_at c) (sym e) ∙ at)) numbers
-    | inr ne ↦ h.numbers u U (omega arith) at
-  ];
-}
-
--- one that isn't there
-pub numbers_past : (c : CoverageTables) (t : ℕ) → HaveNumbers c t → None ≡ tile_at c t → HaveNumbers c (t + 1)
-numbers_past c t h is = record {
-  few = λ u U lt at. elim (cases_eq u t) [
-    | inl e ↦ absurd (none_tables U (is ∙ ap (tile_at c) (sym e) ∙ at))
-    | inr ne ↦ h.few u U (omega arith) at
-  ];
-  numbers = λ u U lt at. elim (cases_eq u t) [
-    | inl e ↦ absurd (none_tables U (is ∙ ap (tile_at c) (sym e) ∙ at))
-    | inr ne ↦ h.numbers u U (omega arith) at
-  ];
-}
-  where
-    none_tables : (U : TileTables) → None ≡ Some U → ⊥
-    none_tables U e = cc

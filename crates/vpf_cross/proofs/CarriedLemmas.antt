@@ -16,7 +16,7 @@ use Rattle.vpf_prims.specs.Roles.{face_roles, node_roles}
 use Rattle.vpf_prims.specs.Suiting.{carried_columns}
 use Rattle.vpf_prims.specs.Tables.{TileTables, at_citation, fac_at}
 use Rattle.vpf_wing.specs.Links.{Beyond, Link, beyond_of, node_by}
-use Rattle.vpf_follow.specs.Libraries.{library_of, primitives_in}
+use Rattle.vpf_prims.specs.Libraries.{library_of, primitives_in}
 use Rattle.vpf_follow.specs.SideLines.{node_citation}
 use Rattle.vpf_cross.specs.Carrying.{Difference, carried_at, first_difference}
 use Rattle.vpf_cross.specs.CarriedLines.{first_passing, first_tile, head_node_line, node_carried, shared_node_line, universe_carried, universe_line}

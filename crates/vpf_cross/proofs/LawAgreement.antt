@@ -11,7 +11,7 @@ use Rattle.vpf_prims.specs.Coverages.{CoverageTables, tile_at}
 use Rattle.vpf_wing.specs.CycleLines.{loops_finding, cycles_finding}
 use Rattle.vpf_wing.specs.WellFormed.{HasCycles}
 use Rattle.vpf_wing.specs.Laws.{CyclesDecide}
-use Rattle.vpf_follow.specs.Libraries.{IsLibrary, primitives_in, library_of, in_tiles}
+use Rattle.vpf_prims.specs.Libraries.{IsLibrary, primitives_in, library_of, in_tiles}
 use Rattle.vpf_follow.specs.SideLines.{sides_finding}
 use Rattle.vpf_follow.specs.FollowLines.{follows_finding}
 use Rattle.vpf_follow.specs.Sided.{HasSides, HasFollowers}

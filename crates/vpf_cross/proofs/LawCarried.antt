@@ -18,7 +18,8 @@ use Rattle.vpf_prims.specs.Suiting.{carried_columns}
 use Rattle.vpf_prims.specs.Tables.{TileTables, fac_at, at_citation}
 use Rattle.vpf_prims.specs.Coverages.{CoverageTables, tile_at}
 use Rattle.vpf_wing.specs.Links.{Beyond, links_of, edge_of_dart, is_minus, node_by}
-use Rattle.vpf_follow.specs.Libraries.{primitives_in, library_of, in_tiles, over_edges}
+use Rattle.vpf_prims.specs.Libraries.{primitives_in, library_of, in_tiles}
+use Rattle.vpf_follow.specs.Libraries.{over_edges}
 use Rattle.vpf_follow.specs.SideLines.{node_citation}
 use Rattle.vpf_follow.specs.Homes.{HasFewEdges}
 use Rattle.vpf_follow.specs.DartLaws.{some-or-none, none_is_some, same_some, code-minus}

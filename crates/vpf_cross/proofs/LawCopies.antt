@@ -5,7 +5,7 @@ use Rattle.vpf_darts.specs.Darts.{tile_in, flip}
 use Rattle.vpf_findings.specs.Firsts.{where_holds}
 use Rattle.vpf_prims.specs.Coverages.{CoverageTables}
 use Rattle.vpf_wing.specs.Links.{DartLinks}
-use Rattle.vpf_follow.specs.Libraries.{library_of}
+use Rattle.vpf_prims.specs.Libraries.{library_of}
 use Rattle.vpf_follow.specs.Following.{is_home, home_copy}
 use Rattle.vpf_follow.specs.Laws.{HomesExist}
 use Rattle.vpf_follow.specs.DartLaws.{some-or-none, never_both, flip-flip, flip-has, flip-tile}

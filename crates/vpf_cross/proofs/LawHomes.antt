@@ -17,7 +17,7 @@ use Rattle.vpf_prims.specs.Suiting.{carried_columns}
 use Rattle.vpf_prims.specs.Tables.{TileTables, edg_at}
 use Rattle.vpf_prims.specs.Coverages.{CoverageTables, tile_at}
 use Rattle.vpf_wing.specs.Links.{DartLinks, is_minus}
-use Rattle.vpf_follow.specs.Libraries.{library_of}
+use Rattle.vpf_prims.specs.Libraries.{library_of}
 use Rattle.vpf_follow.specs.Following.{is_outside, home_copy}
 use Rattle.vpf_follow.specs.Sided.{HasFollowers}
 use Rattle.vpf_follow.specs.Laws.{HomesExist}

@@ -12,7 +12,7 @@ use Rattle.vpf_prims.specs.Reading.{primitives_of, rows_said, entity_in_row}
 use Rattle.vpf_prims.specs.References.{id_of}
 use Rattle.vpf_prims.specs.Tables.{TileTables}
 use Rattle.vpf_prims.specs.Coverages.{tile_at}
-use Rattle.vpf_follow.specs.Libraries.{primitives_in, library_of}
+use Rattle.vpf_prims.specs.Libraries.{primitives_in, library_of}
 use Rattle.vpf_follow.specs.TileLaws.{unless-none, unless-true, tiles-none, tiles-silent}
 use Rattle.vpf_cross.specs.CarriedLines.{universe_entity_line, inhabited_finding_in, inhabited_finding}
 use Rattle.vpf_cross.specs.Laws.{InhabitedDecides}

@@ -7,7 +7,7 @@ use Rattle.vpf_prims.specs.Primitives.{Library}
 use Rattle.vpf_prims.specs.Tables.{TileTables}
 use Rattle.vpf_prims.specs.Coverages.{CoverageTables}
 use Rattle.vpf_wing.specs.Links.{DartLinks, links_of, is_minus, local_next}
-use Rattle.vpf_follow.specs.Libraries.{library_of}
+use Rattle.vpf_prims.specs.Libraries.{library_of}
 use Rattle.vpf_follow.specs.Following.{is_home, follow, home_copy}
 use Rattle.vpf_follow.specs.Homes.{HasFewEdges}
 use Rattle.vpf_follow.specs.Laws.{HomesExist}

@@ -7,7 +7,7 @@ use Rattle.vpf_prims.specs.Primitives.{Library, edge_count, face_count}
 use Rattle.vpf_prims.specs.Numbering.{IsRowOf}
 use Rattle.vpf_prims.specs.Coverages.{CoverageTables}
 use Rattle.vpf_wing.specs.Links.{links_of, Beyond, Link, DartLinks, edge_of_dart, is_minus, wing_by, face_by}
-use Rattle.vpf_follow.specs.Libraries.{library_of}
+use Rattle.vpf_prims.specs.Libraries.{library_of}
 use Rattle.vpf_follow.specs.Following.{beyond_tile, is_own_face, is_far_face, is_inside, is_outside, is_home, is_named, face_name, follow_to, follow, home_copy}
 use Rattle.vpf_follow.specs.Sided.{HasSides, HasFollowers}
 use Rattle.vpf_follow.specs.Homes.{HasFewEdges}

@@ -24,3 +24,6 @@ mod LoopLemmas
 mod NextLemmas
 mod NumberLemmas
 mod RoundLemmas
+pub mod ElsewhereLemmas
+pub mod LikeLemmas
+pub mod LikeTiles

@@ -7,7 +7,7 @@ use Rattle.vpf_prims.specs.Primitives.{EdgePrimitive, absent_edge, edges_in, til
 use Rattle.vpf_prims.specs.Reading.{primitives_of}
 use Rattle.vpf_prims.specs.Tables.{TileTables}
 use Rattle.vpf_wing.specs.Links.{links_of, link_of, edge_of_dart, face_by, is_minus, node_by, wing_by}
-use Rattle.vpf_follow.specs.Libraries.{library_of, primitives_in}
+use Rattle.vpf_prims.specs.Libraries.{library_of, primitives_in}
 
 pub tile-code : (t k : ℕ) (m : Bool) → k < 2 ^ 32 → tile_in (code t k (sign_of m)) ≡ t
 unfolding tile_in code

@@ -6,7 +6,8 @@ use Rattle.vpf_findings.specs.FirstLaws.{over_pass, over_stop, over_end, over_no
 use Rattle.vpf_prims.specs.Coverages.{CoverageTables, tile_at, last_tile}
 use Rattle.vpf_prims.specs.Reading.{primitives_of}
 use Rattle.vpf_prims.specs.Tables.{TileTables}
-use Rattle.vpf_follow.specs.Libraries.{in_tile, in_tiles, over_edges}
+use Rattle.vpf_prims.specs.Libraries.{in_tile, in_tiles}
+use Rattle.vpf_follow.specs.Libraries.{over_edges}
 
 -- what some lines say of the edges behind edge k
 abbrev pub edges_left : (ℕ → Option Disagreement) → ℕ → TileTables → Option Disagreement

@@ -8,18 +8,17 @@ use Rattle.vpf_prims.specs.declared.rows.Edge.{Edge}
 use Rattle.vpf_prims.specs.Coverages.{CoverageTables, tile_at, last_tile}
 use Rattle.vpf_prims.specs.Lists.{kth}
 use Rattle.vpf_prims.specs.Numbering.{IsRowOf}
-use Rattle.vpf_prims.specs.Primitives.{EdgePrimitive, absent_edge, edge_count, own_edge, own_edges}
+use Rattle.vpf_prims.specs.Primitives.{Primitives, EdgePrimitive, absent_edge, edge_count, own_edge, own_edges}
 use Rattle.vpf_prims.specs.Reading.{primitives_of}
 use Rattle.vpf_prims.specs.References.{id_of}
-use Rattle.vpf_prims.specs.TableLines.{numbers_finding}
+use Rattle.vpf_prims.specs.Owning.{NamesItsOwn, OwnsEdge}
 use Rattle.vpf_prims.specs.Tables.{TileTables}
 use Rattle.vpf_wing.specs.Links.{Link, face_by, is_next, local_next, next_to, node_by, only, tail_node, wing_by}
 use Rattle.vpf_wing.specs.Nexts.{edge_at, face, follows, head, next_dart, no_edge, tail, the_one, wing}
-use Rattle.vpf_follow.specs.Libraries.{library_of}
+use Rattle.vpf_prims.specs.Libraries.{library_of}
 use Rattle.vpf_cross.specs.HomeLines.{coverage_links}
 use Rattle.vpf_cross.proofs.DartLists.{IsOfTiles, has_from}
 use Rattle.vpf_cross.proofs.LinkLemmas.{edge-code, edges_at, flip-code, flip-plus, face_at, node_at, tile-code, wing_at}
-use Rattle.vpf_cross.proofs.NumberLemmas.{StaysInTile, edges_stay}
 
 own_edge_at : (es : List EdgePrimitive) (i : ℕ) → get_or (map own_edge es) i no_edge ≡ own_edge (get_or es i absent_edge)
 own_edge_at [] i = refl
@@ -97,9 +96,9 @@ only_is p d e a b plus minus number f x y u v = rw (f, x, y) (chosen a b d e plu
 abbrev pub number_in : ℕ → Dart → ℕ
 number_in t x = code t x.edge (sign_of x.minus)
 
-wing_in : (m : Bool) (n : ℕ) (e : EdgePrimitive) → StaysInTile n e → IsRowOf n (id_of (wing_by m e))
-wing_in false n e s = s.right
-wing_in true n e s = s.left
+wing_in : (m : Bool) (c : Primitives) (e : EdgePrimitive) → OwnsEdge c e → IsRowOf (length c.edges) (id_of (wing_by m e))
+wing_in false c e s = s.right_edge
+wing_in true c e s = s.left_edge
 
 next_by : (edges : List Edge) (d : Dart) (w : ℕ) → wing edges d ≡ w
     → next_dart edges d ≡ the_one (follows edges d (record { edge = w; minus = false })) (follows edges d (record { edge = w; minus = true })) (record { edge = w; minus = false }) (record { edge = w; minus = true })
@@ -108,7 +107,7 @@ next_by edges d w e = rw e refl
 
 -- the local next is the next by the edges of the tile
 pub local_next_is : (c : CoverageTables) (t : ℕ) (T : TileTables) (k : ℕ) (m : Bool) → tile_at c t ≡ Some T → t ≤ last_tile c → length (primitives_of T.tables).edges < 2 ^ 24
-    → numbers_finding 0 T ≡ None → IsRowOf (length (primitives_of T.tables).edges) k
+    → NamesItsOwn (primitives_of T.tables) → IsRowOf (length (primitives_of T.tables).edges) k
     → local_next (coverage_links c) (code t k (sign_of m)) ≡ option_map (number_in t) (next_dart (own_edges (primitives_of T.tables)) (record { edge = k; minus = m }))
 local_next_is c t T k m is last few numbers row =
     let C = coverage_links c in
@@ -118,7 +117,7 @@ local_next_is c t T k m is last few numbers row =
     let node : ℕ = id_of (node_by m (kth (primitives_of T.tables).edges k absent_edge)) in
     let side : ℕ = id_of (face_by m (kth (primitives_of T.tables).edges k absent_edge)) in
     let small : k < 2 ^ 32 = omega (arith, few, row.1) in
-    let wing_row = wing_in m (length es) (kth es k absent_edge) (edges_stay T numbers k row) in
+    let wing_row = wing_in m (primitives_of T.tables) (kth es k absent_edge) (numbers.edges k row) in
     let edges = own_edges (primitives_of T.tables) in
     let here : Dart = record { edge = k; minus = m } in
     ap (λ x. next_to C x (C.wing d).id (C.node d).id (C.face d).id) (tile-code t k m small)

@@ -7,7 +7,7 @@ use Rattle.vpf_prims.specs.Primitives.{Library, absent_entity, tile_entities, ha
 use Rattle.vpf_prims.specs.References.{id_of}
 use Rattle.vpf_wing.specs.Links.{Beyond, DartLinks, links_of, local_next}
 use Rattle.vpf_wing.specs.WellFormed.{HasLoops, HasCycles}
-use Rattle.vpf_follow.specs.Libraries.{IsLibrary}
+use Rattle.vpf_prims.specs.Libraries.{IsLibrary}
 use Rattle.vpf_follow.specs.Following.{is_home, is_outside, follow, home_copy}
 use Rattle.vpf_follow.specs.Sided.{HasSides, HasFollowers}
 use Rattle.vpf_cross.specs.CarriedLines.{first_tile, node_carried, universe_carried}

@@ -12,7 +12,7 @@ use Rattle.vpf_prims.specs.Primitives.{Library, EntityPrimitive, absent_face, ab
 use Rattle.vpf_prims.specs.Reading.{primitives_of}
 use Rattle.vpf_prims.specs.References.{id_of}
 use Rattle.vpf_prims.specs.Roles.{face_roles, node_roles}
-use Rattle.vpf_prims.specs.RowLines.{reference_column}
+use Rattle.vpf_prims.specs.Columns.{reference_column}
 use Rattle.vpf_prims.specs.Suiting.{carried_columns}
 use Rattle.vpf_prims.specs.Tables.{TileTables, fac_at, entities_at, at_citation}
 use Rattle.vpf_wing.specs.Links.{Beyond, Link, links_of}

@@ -5,7 +5,7 @@ use Rattle.vpf_prims.specs.Coverages.{CoverageTables}
 use Rattle.vpf_wing.specs.Links.{DartLinks}
 use Rattle.vpf_follow.specs.Following.{beyond_tile, is_outside}
 use Rattle.vpf_follow.specs.Homes.{HasFewEdges}
-use Rattle.vpf_follow.specs.Libraries.{in_tiles, library_of}
+use Rattle.vpf_prims.specs.Libraries.{in_tiles, library_of}
 use Rattle.vpf_cross.specs.HomeLines.{coverage_links, homes_finding}
 
 -- a face of another tile is in another tile

@@ -4,7 +4,7 @@ use Rattle.vpf_findings.specs.Findings.{Disagreement}
 use Rattle.vpf_findings.specs.Firsts.{◌or◌}
 use Rattle.vpf_prims.specs.Coverages.{CoverageTables}
 use Rattle.vpf_wing.specs.CycleLines.{loops_finding, cycles_finding}
-use Rattle.vpf_follow.specs.Libraries.{library_of, in_tiles}
+use Rattle.vpf_prims.specs.Libraries.{library_of, in_tiles}
 use Rattle.vpf_follow.specs.SideLines.{sides_finding}
 use Rattle.vpf_follow.specs.FollowLines.{follows_finding}
 use Rattle.vpf_cross.specs.HomeLines.{coverage_links, homes_finding}

@@ -80,6 +80,7 @@ second_edges = table_with tiled_edge_columns (
 abbrev pub tiles_with : ℕ → CoverageTables
 tiles_with mark = record {
   is_tiled = true;
+  paths = codes "t1" ∷ codes "t2" ∷ [];
   tiles = None
       ∷ Some (record { first = 1; tables = tile_with (first_edges mark) })
       ∷ Some (record { first = 6; tables = tile_with second_edges }) ∷ [];

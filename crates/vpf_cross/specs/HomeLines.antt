@@ -12,7 +12,8 @@ use Rattle.vpf_prims.specs.Roles.{edge_roles}
 use Rattle.vpf_prims.specs.Suiting.{carried_columns}
 use Rattle.vpf_prims.specs.Tables.{TileTables, edg_at, at_citation, cited_cell}
 use Rattle.vpf_wing.specs.Links.{DartLinks, links_of}
-use Rattle.vpf_follow.specs.Libraries.{library_of, over_edges}
+use Rattle.vpf_prims.specs.Libraries.{library_of}
+use Rattle.vpf_follow.specs.Libraries.{over_edges}
 use Rattle.vpf_follow.specs.Following.{is_outside, home_copy, number_seen}
 use Rattle.vpf_follow.specs.SideLines.{face_citation}
 use Rattle.vpf_follow.specs.FollowLines.{at_wing_of}

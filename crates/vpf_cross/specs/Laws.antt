@@ -9,10 +9,12 @@ use Rattle.vpf_prims.specs.Suiting.{carried_columns}
 use Rattle.vpf_prims.specs.Tables.{TileTables}
 use Rattle.vpf_prims.specs.Coverages.{CoverageTables, tile_at}
 use Rattle.vpf_prims.specs.Laws.{AreFilled}
+use Rattle.vpf_loading.specs.Laws.{AreNamedApart}
+use Rattle.vpf_numbers.specs.Matching.{HaveColumns}
 use Rattle.vpf_findings.specs.Firsts.{where_holds}
 use Rattle.vpf_wing.specs.Links.{DartLinks, links_of}
 use Rattle.vpf_wing.specs.WellFormed.{HasCycles}
-use Rattle.vpf_follow.specs.Libraries.{IsLibrary, library_of, in_tiles}
+use Rattle.vpf_prims.specs.Libraries.{IsLibrary, library_of, in_tiles}
 use Rattle.vpf_follow.specs.Following.{is_home, is_outside, home_copy, library_map}
 use Rattle.vpf_follow.specs.Sided.{HasSides, HasFollowers}
 use Rattle.vpf_follow.specs.Homes.{HasFewEdges}
@@ -31,6 +33,12 @@ pub record AreWhole (c : CoverageTables) : Type 0 where
       → length (carried_columns face_roles S.tables.fac.head.columns) ≡ length (carried_columns face_roles T.tables.fac.head.columns)
   pub nodes : (s t : ℕ) (S T : TileTables) → tile_at c s ≡ Some S → tile_at c t ≡ Some T
       → length (carried_columns node_roles S.tables.cnd.head.columns) ≡ length (carried_columns node_roles T.tables.cnd.head.columns)
+
+-- where the tiles of a library have the columns of the first, the rows of their tables are whole, and no column's name stands twice, they carry
+-- as many columns without a role
+abbrev pub LikeAreWhole : Type 0
+LikeAreWhole = (c : CoverageTables) → IsLibrary (library_of c) → HaveColumns c
+    → ((t : ℕ) (T : TileTables) → tile_at c t ≡ Some T → AreFilled T.tables × AreNamedApart T.tables) → AreWhole c
 
 -- the rows of each tile are numbered, and what they name is there
 abbrev pub AreNumbered : Library → Type 0

@@ -7,14 +7,16 @@ ghost use Rattle.vpf_prims.specs.Numbering.{IsRowOf};
 ghost use Rattle.vpf_prims.specs.Reading.{primitives_of};
 ghost use Rattle.vpf_prims.specs.Roles.{face_roles, node_roles};
 ghost use Rattle.vpf_prims.specs.Suiting.{carried_columns};
-ghost use Rattle.vpf_follow.specs.Libraries.{library_of, over_edges};
+ghost use Rattle.vpf_prims.specs.Libraries.{library_of};
+ghost use Rattle.vpf_follow.specs.Libraries.{over_edges};
 ghost use Rattle.vpf_cross.specs.CarriedLines.{carried_finding, first_tile, head_node_line, nodes_lines, universe_line};
 ghost use Rattle.vpf_cross.specs.Carrying.{carried_at, difference_of, first_difference};
 
 use crate::carrying::{Difference, first_difference};
 use crate::tables::{external_part, head_node, node_citation, table, table_at};
+use vpf_coverage::Coverage;
 use vpf_findings::{Finding, TableName};
-use vpf_prims::{Coverage, Tile, face_roles, id_of, node_roles};
+use vpf_prims::{Tile, face_roles, id_of, node_roles};
 
 /// The first difference of node `n` of a tile and node `m` of another in what they carry.
 fn node_difference<'a>(here: &Tile<'a>, n: u32, there: &Tile<'a>, m: u32) -> Option<Difference<'a>>

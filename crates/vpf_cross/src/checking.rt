@@ -2,7 +2,7 @@
 
 ghost use Rattle.std.specs.Prelude.{◌≡◌, false, true, IfOk};
 ghost use Rattle.vpf_findings.specs.Firsts.{◌or◌, Finds, Tells};
-ghost use Rattle.vpf_follow.specs.Libraries.{in_tiles, library_of};
+ghost use Rattle.vpf_prims.specs.Libraries.{in_tiles, library_of};
 ghost use Rattle.vpf_cross.specs.CarriedLines.{carried_finding, inhabited_finding};
 ghost use Rattle.vpf_cross.specs.CrossFinding.{topology_finding};
 ghost use Rattle.vpf_cross.specs.HomeLines.{coverage_links, homes_finding};
@@ -15,9 +15,9 @@ use crate::tiles::{
 };
 use std::alloc::Global;
 use std::marker::Model;
+use vpf_coverage::Coverage;
 use vpf_findings::{FindError, Finding};
 use vpf_follow::{Followed, check_follows};
-use vpf_prims::Coverage;
 
 /// A coverage in whose topology nothing disagrees, with what follows its darts where it is tiled. Contracts see it as the coverage.
 #[derive(Drop)]

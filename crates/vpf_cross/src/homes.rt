@@ -22,10 +22,11 @@ ghost use Rattle.vpf_cross.specs.HomeLines.{homes_finding, outside_lines};
 
 use crate::carrying::{Difference, first_difference, row_of};
 use crate::tables::{face_citation, table, table_at, wing_citation};
+use vpf_coverage::Coverage;
 use vpf_darts::TileDart;
 use vpf_findings::{Finding, Seen, SeenWord, TableName};
 use vpf_follow::{Followed, is_outside};
-use vpf_prims::{Citation, Coverage, Tile, edge_roles};
+use vpf_prims::{Citation, Tile, edge_roles};
 use vpf_value::Cell;
 
 /// The number of a cell, from 0 up.

@@ -7,7 +7,7 @@ ghost use Rattle.vpf_prims.specs.Lists.{kth};
 ghost use Rattle.vpf_prims.specs.Numbering.{IsRowOf};
 ghost use Rattle.vpf_prims.specs.Primitives.{absent_entity, entities_in};
 ghost use Rattle.vpf_prims.specs.Reading.{primitives_of};
-ghost use Rattle.vpf_prims.specs.RowLines.{reference_column};
+ghost use Rattle.vpf_prims.specs.Columns.{reference_column};
 ghost use Rattle.vpf_cross.specs.CarriedLines.{inhabited_finding, universe_entity_line};
 
 use crate::tables::table_at;

@@ -2,7 +2,7 @@
 
 ghost use Rattle.vpf_cross.specs.Example.{TilesAreFound};
 ghost use Rattle.vpf_cross.specs.Laws.{AgreeingHasMap, AgreementDecides, CarriedDecides, CopiesAreOne, FlipsGiveCopies};
-ghost use Rattle.vpf_cross.specs.Laws.{HomesDecide, HomesFlipBack, InhabitedDecides, RoundsDecide};
+ghost use Rattle.vpf_cross.specs.Laws.{HomesDecide, HomesFlipBack, InhabitedDecides, LikeAreWhole, RoundsDecide};
 
 use vpf_darts::laws::darts_lie_on_cycles;
 use vpf_follow::laws::{followers_decide, homes_exist, sides_decide, tile_loops_decide};
@@ -79,3 +79,8 @@ pub fn agreement_decides()
     homes_exist();
     darts_lie_on_cycles();
 }
+
+/// Tiles of a library that have the columns of the first carry as many columns without a role.
+pub fn like_tiles_are_whole()
+    ensures { LikeAreWhole }
+{}

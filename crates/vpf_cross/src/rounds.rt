@@ -66,7 +66,7 @@ fn next_in(followed: &Followed<'_, '_>, tile: &Tile<'_>, dart: TileDart) -> Opti
     requires row { IsRowOf (length (primitives_of tile.now.tables).edges) dart.edge }
     ensures { option_map tile_dart_code result ≡ local_next (coverage_links followed.now) (tile_dart_code dart) }
 {
-    tile.has_numbers();
+    tile.names_its_own();
     let _edges = tile.edges();
     let next = next_local(
         tile,

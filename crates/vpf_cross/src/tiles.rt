@@ -3,7 +3,7 @@
 ghost use Rattle.std.specs.Prelude.{◌≡◌};
 ghost use Rattle.vpf_findings.specs.Firsts.{Finds, Tells};
 ghost use Rattle.vpf_wing.specs.CycleLines.{cycles_finding, loops_finding};
-ghost use Rattle.vpf_follow.specs.Libraries.{in_tiles, library_of};
+ghost use Rattle.vpf_prims.specs.Libraries.{in_tiles, library_of};
 ghost use Rattle.vpf_follow.specs.SideLines.{sides_finding};
 ghost use Rattle.vpf_cross.specs.CarriedLines.{carried_finding, inhabited_finding};
 ghost use Rattle.vpf_cross.specs.Copies.{HomesAgree};
@@ -15,9 +15,9 @@ use crate::homes::check_homes;
 use crate::inhabited::check_inhabited;
 use crate::rounds::check_rounds;
 use std::alloc::Global;
+use vpf_coverage::Coverage;
 use vpf_findings::{FindError, Finding};
 use vpf_follow::{Followed, check_sides};
-use vpf_prims::Coverage;
 use vpf_wing::{check_loops, check_tile};
 
 /// Loops have two faces.

@@ -18,7 +18,7 @@ use Rattle.vpf_wing.specs.Links.{DartLinks, links_of, tile_darts}
 use Rattle.vpf_follow.specs.Following.{dart_numbered, first_home, follow, follows_to, is_home, number_seen}
 use Rattle.vpf_follow.specs.FollowLines.{at_wing_of, earlier_home, follow_line, follow_line_at}
 use Rattle.vpf_follow.specs.Homes.{AreHomes, Followings, HasFewEdges, darts_before, darts_to, first_followed}
-use Rattle.vpf_follow.specs.Libraries.{library_of}
+use Rattle.vpf_prims.specs.Libraries.{library_of}
 use Rattle.vpf_follow.proofs.CoverageLemmas.{edges_are, ends_at_last, tile_last}
 use Rattle.vpf_follow.proofs.DartLemmas.{code-numbered}
 use Rattle.vpf_follow.proofs.HomeLemmas.{first_is}

@@ -7,7 +7,7 @@ use Rattle.vpf_prims.specs.Coverages.{CoverageTables, last_tile, tile_at}
 use Rattle.vpf_prims.specs.Primitives.{edge_count, edges_in, tile_edges}
 use Rattle.vpf_prims.specs.Reading.{primitives_of}
 use Rattle.vpf_prims.specs.Tables.{TileTables}
-use Rattle.vpf_follow.specs.Libraries.{library_of, primitives_in}
+use Rattle.vpf_prims.specs.Libraries.{library_of, primitives_in}
 use Rattle.vpf_follow.specs.Homes.{HasFewEdges}
 use Rattle.vpf_follow.proofs.RowLemmas.{EndsAtLast}
 

@@ -15,7 +15,7 @@ use Rattle.vpf_wing.specs.Links.{Beyond, DartLinks, links_of, only, tail_node}
 use Rattle.vpf_follow.specs.Following.{dart_numbered, face_name, first_home, follow, follow_to, follows_to, home_copy, is_home, is_named, same_beyond}
 use Rattle.vpf_follow.specs.FollowLines.{follow_line, follow_line_at, follow_lines, follows_finding}
 use Rattle.vpf_follow.specs.Homes.{AreHomes, Followings, IsDartIn, first_followed}
-use Rattle.vpf_follow.specs.Libraries.{in_tiles, library_of, primitives_in}
+use Rattle.vpf_prims.specs.Libraries.{in_tiles, library_of, primitives_in}
 use Rattle.vpf_follow.proofs.CoverageLemmas.{edges_are}
 use Rattle.vpf_follow.proofs.DartLemmas.{numbered-code}
 use Rattle.vpf_follow.proofs.EdgeLines.{edges_none}

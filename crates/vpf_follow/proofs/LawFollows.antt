@@ -9,7 +9,7 @@ use Rattle.vpf_findings.specs.FirstLaws.{option_map-none}
 use Rattle.vpf_prims.specs.Primitives.{Library}
 use Rattle.vpf_prims.specs.Tables.{TileTables}
 use Rattle.vpf_wing.specs.Links.{DartLinks, links_of, is_minus}
-use Rattle.vpf_follow.specs.Libraries.{library_of}
+use Rattle.vpf_prims.specs.Libraries.{library_of}
 use Rattle.vpf_follow.specs.Following.{is_home, follow, follows_to, first_home, number_seen}
 use Rattle.vpf_follow.specs.FollowLines.{at_wing_of, earlier_home, follow_line, follow_line_at}
 use Rattle.vpf_follow.specs.Sided.{HasFollowers}

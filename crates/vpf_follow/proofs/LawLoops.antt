@@ -11,7 +11,7 @@ use Rattle.vpf_prims.specs.Reading.{primitives_of}
 use Rattle.vpf_prims.specs.Tables.{TileTables}
 use Rattle.vpf_wing.specs.Links.{is_minus}
 use Rattle.vpf_wing.specs.CycleLines.{loop_line, loops_finding}
-use Rattle.vpf_follow.specs.Libraries.{library_of}
+use Rattle.vpf_prims.specs.Libraries.{library_of}
 use Rattle.vpf_follow.specs.Laws.{TileLoopsDecide}
 use Rattle.vpf_follow.specs.TileLaws.{TileOfDart, dart-tile, edge-dart, tiles-none, tiles-silent}
 use Rattle.vpf_follow.proofs.LawSides.{HasTwoFaces, loop_none, loop_silent, has_loops, loops_have, of_row}

@@ -14,7 +14,7 @@ use Rattle.vpf_prims.specs.Coverages.{CoverageTables}
 use Rattle.vpf_wing.specs.Links.{Link, link_of, links_of, edge_of_dart, is_minus, wing_by, node_by, face_by}
 use Rattle.vpf_wing.specs.CycleLines.{loop_line}
 use Rattle.vpf_wing.specs.WellFormed.{HasLoops}
-use Rattle.vpf_follow.specs.Libraries.{library_of}
+use Rattle.vpf_prims.specs.Libraries.{library_of}
 use Rattle.vpf_follow.specs.Following.{beyond_tile, is_own_face, is_far_face}
 use Rattle.vpf_follow.specs.Sided.{HasSides}
 use Rattle.vpf_follow.specs.SideLines.{part_line, inside_line, inside_wing_line, outside_wing_line, side_wing_lines, side_lines, sides_finding}

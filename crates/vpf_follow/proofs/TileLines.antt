@@ -7,7 +7,7 @@ use Rattle.vpf_findings.specs.FirstLaws.{over_end, over_found, over_none, over_p
 use Rattle.vpf_findings.specs.Firsts.{Tells, first_over}
 use Rattle.vpf_prims.specs.Coverages.{CoverageTables, last_tile, tile_at}
 use Rattle.vpf_prims.specs.Tables.{TileTables}
-use Rattle.vpf_follow.specs.Libraries.{in_tile, in_tiles}
+use Rattle.vpf_prims.specs.Libraries.{in_tile, in_tiles}
 
 -- what is left to say of the tiles from t
 abbrev pub from_tile : (ℕ → TileTables → Option Disagreement) → CoverageTables → ℕ → Option Disagreement

@@ -3,7 +3,7 @@ use Rattle.std.specs.Prelude.{◌≡◌, None, length}
 use Rattle.vpf_prims.specs.Coverages.{CoverageTables}
 use Rattle.vpf_follow.specs.declared.followed.Followed.TheInside.{Inside}
 use Rattle.vpf_wing.specs.Links.{links_of}
-use Rattle.vpf_follow.specs.Libraries.{in_tiles, library_of}
+use Rattle.vpf_prims.specs.Libraries.{in_tiles, library_of}
 use Rattle.vpf_follow.specs.FollowLines.{follows_finding}
 use Rattle.vpf_follow.specs.Homes.{AreHomes}
 

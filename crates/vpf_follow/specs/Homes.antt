@@ -7,7 +7,7 @@ use Rattle.vpf_darts.specs.Darts.{code, tile_dart_code}
 use Rattle.vpf_prims.specs.Coverages.{CoverageTables}
 use Rattle.vpf_prims.specs.Primitives.{Library, edge_count}
 use Rattle.vpf_wing.specs.Links.{DartLinks, links_of, row_darts, tile_darts}
-use Rattle.vpf_follow.specs.Libraries.{library_of}
+use Rattle.vpf_prims.specs.Libraries.{library_of}
 use Rattle.vpf_follow.specs.Following.{dart_numbered, follow, is_home}
 
 -- a dart of a tile is one of the coverage

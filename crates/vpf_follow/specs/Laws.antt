@@ -5,7 +5,7 @@ use Rattle.vpf_prims.specs.Coverages.{CoverageTables}
 use Rattle.vpf_wing.specs.Links.{DartLinks, links_of}
 use Rattle.vpf_wing.specs.WellFormed.{HasLoops}
 use Rattle.vpf_wing.specs.CycleLines.{loops_finding}
-use Rattle.vpf_follow.specs.Libraries.{library_of, in_tiles}
+use Rattle.vpf_prims.specs.Libraries.{library_of, in_tiles}
 use Rattle.vpf_follow.specs.Homes.{HasFewEdges}
 use Rattle.vpf_follow.specs.Following.{is_home, follow, home_copy}
 use Rattle.vpf_follow.specs.Sided.{HasSides, HasFollowers}

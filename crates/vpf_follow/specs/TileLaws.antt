@@ -13,7 +13,8 @@ use Rattle.vpf_prims.specs.Reading.{primitives_of}
 use Rattle.vpf_prims.specs.Tables.{TileTables}
 use Rattle.vpf_prims.specs.Coverages.{CoverageTables, tile_at, last_tile}
 use Rattle.vpf_wing.specs.Links.{links_of, edge_of_dart}
-use Rattle.vpf_follow.specs.Libraries.{primitives_in, library_of, in_tile, in_tiles, over_edges}
+use Rattle.vpf_prims.specs.Libraries.{primitives_in, library_of, in_tile, in_tiles}
+use Rattle.vpf_follow.specs.Libraries.{over_edges}
 use Rattle.vpf_follow.specs.DartLaws.{IsThere, has-there, there-has, none_is_some, never_both, code-tile, code-edge, sign-small}
 
 -- a line says nothing exactly where its test holds

@@ -9,14 +9,15 @@ ghost use Rattle.vpf_prims.specs.Reading.{primitives_of};
 ghost use Rattle.vpf_wing.specs.Links.{links_of};
 ghost use Rattle.vpf_follow.specs.FollowLines.{at_wing_of, follow_line, follow_lines, follows_finding};
 ghost use Rattle.vpf_follow.specs.Homes.{AreKeptBefore, AreKeptTo, AreKeptWith, HasFewEdges};
-ghost use Rattle.vpf_follow.specs.Libraries.{in_tile, library_of};
+ghost use Rattle.vpf_prims.specs.Libraries.{in_tile, library_of};
 
 use crate::following::{follow, is_home};
 use crate::homes::Homes;
 use crate::sides::wing_citation;
+use vpf_coverage::Coverage;
 use vpf_darts::TileDart;
 use vpf_findings::{FindError, Finding, Seen, SeenWord};
-use vpf_prims::{Coverage, Tile};
+use vpf_prims::Tile;
 
 /// A finding at the wing of a dart.
 fn at_wing<'a>(tile: &Tile<'a>, dart: TileDart, found: Seen<'a>, wanted: Seen<'a>) -> Finding<'a>

@@ -6,16 +6,16 @@ ghost use Rattle.vpf_prims.specs.Primitives.{edge_count};
 ghost use Rattle.vpf_wing.specs.Links.{links_of};
 ghost use Rattle.vpf_follow.specs.FollowLines.{follows_finding};
 ghost use Rattle.vpf_follow.specs.Homes.{HasFewEdges};
-ghost use Rattle.vpf_follow.specs.Libraries.{in_tiles, library_of};
+ghost use Rattle.vpf_prims.specs.Libraries.{in_tiles, library_of};
 
 use crate::checking::check_tile;
 use crate::following::{follow, is_home};
 use crate::homes::Homes;
 use std::alloc::Global;
 use std::marker::Model;
+use vpf_coverage::Coverage;
 use vpf_darts::TileDart;
 use vpf_findings::FindError;
-use vpf_prims::Coverage;
 
 /// A coverage in which a home dart follows each dart, and no dart follows two home darts, with its home darts. Contracts see it as the
 /// coverage.
@@ -90,7 +90,7 @@ impl<'c, 'a> Followed<'c, 'a> {
     ghost use Rattle.vpf_follow.specs.Following.{follow, home_copy, is_home};
     ghost use Rattle.vpf_follow.specs.FollowLines.{follows_finding};
     ghost use Rattle.vpf_follow.specs.Homes.{IsDartIn};
-    ghost use Rattle.vpf_follow.specs.Libraries.{in_tiles, library_of};
+    ghost use Rattle.vpf_prims.specs.Libraries.{in_tiles, library_of};
 
     /// The coverage.
     pub fn coverage(&self) -> &'c Coverage<'a>

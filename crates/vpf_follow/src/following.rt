@@ -6,14 +6,15 @@ ghost use Rattle.vpf_darts.specs.Darts.{code, tile_dart_code};
 ghost use Rattle.vpf_wing.specs.Links.{link_of, links_of, only};
 ghost use Rattle.vpf_follow.specs.Following.{follow, follow_links, is_home, is_named, is_outside};
 ghost use Rattle.vpf_follow.specs.Homes.{IsDartIn};
-ghost use Rattle.vpf_follow.specs.Libraries.{library_of};
+ghost use Rattle.vpf_prims.specs.Libraries.{library_of};
 
 use crate::links::{
     ExternalPart, Start, begins_at, edge_row, external_part, face, face_name, head_node,
     is_far_face, wing,
 };
+use vpf_coverage::Coverage;
 use vpf_darts::TileDart;
-use vpf_prims::{Coverage, id_of};
+use vpf_prims::id_of;
 use vpf_triplet::Triplet;
 
 /// Whether a dart is a home dart: one of the coverage, whose face is one of its tile, or the universe.

@@ -3,11 +3,12 @@
 ghost use Rattle.std.specs.Prelude.{◌≡◌};
 ghost use Rattle.vpf_wing.specs.Links.{link_of};
 ghost use Rattle.vpf_follow.specs.Following.{beyond_tile, face_beyond, is_far_face, is_own_face};
-ghost use Rattle.vpf_follow.specs.Libraries.{library_of};
+ghost use Rattle.vpf_prims.specs.Libraries.{library_of};
 ghost use Rattle.vpf_follow.specs.Rows.{row_face, edge_row_in, row_is_named, row_node, row_wing};
 
 use std::marker::Model;
-use vpf_prims::{Coverage, EdgeRow, id_of};
+use vpf_coverage::Coverage;
+use vpf_prims::{EdgeRow, id_of};
 use vpf_triplet::Triplet;
 
 /// A thing of another tile. Contracts see it as its tile and its number there.

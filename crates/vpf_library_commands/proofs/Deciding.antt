@@ -1,30 +1,34 @@
 -- `check` is done exactly where the coverage agrees.
-use Rattle.std.proofs.Common.{◌≡◌, ℕ, ◌<◌, ◌≤◌, ◌^◌, Option, Some, None, List, length, refl, ap, arith, inl, inr}
-use Rattle.std.specs.Prelude.{Result, Ok, Err}
-use Rattle.vpf_base.specs.Limits.{most_rows}
+use Rattle.std.proofs.Common.{◌≡◌, ℕ, Option, Some, None, List, refl, ap, ◌∙◌}
+use Rattle.std.specs.Prelude.{◌↔◌, Result, Ok, Err}
 use Rattle.vpf_source.specs.Files.{Files}
 use Rattle.vpf_source.specs.declared.file.File.{File}
 use Rattle.vpf_triplet.specs.declared.places.Place.{Place}
 use Rattle.vpf_triplet.specs.declared.places.Code.{Code}
 use Rattle.vpf_triplet.specs.declared.places.Code.TheVariants as codes
-use Rattle.vpf_table.specs.Grid.{Grid}
-use Rattle.vpf_table.specs.Spans.{IsOpened}
 use Rattle.vpf_findings.specs.Findings.{Disagreement}
-use Rattle.vpf_prims.specs.Holding.{AreFilesOf, HoldsBytes, HoldsCoverage}
-use Rattle.vpf_prims.specs.Laws.{HeldIsRead, ReadIsHeld}
-use Rattle.vpf_prims.specs.Loading.{LoadedCoverage, read_coverage}
-use Rattle.vpf_prims.specs.Primitives.{Primitives}
-use Rattle.vpf_prims.specs.Reading.{primitives_of}
-use Rattle.vpf_prims.specs.declared.loading.LoadStop.{LoadStop}
-use Rattle.vpf_prims.specs.declared.loading.LoadStop.TheVariants as stops
-use Rattle.vpf_wing.specs.CycleLines.{untiled_finding}
-use Rattle.vpf_wing.specs.Laws.{UntiledDecides}
+use Rattle.vpf_findings.specs.FirstLaws.{or-none_both}
+use Rattle.vpf_prims.specs.Coverages.{CoverageTables, tile_at}
+use Rattle.vpf_prims.specs.Laws.{AreFilled}
+use Rattle.vpf_prims.specs.Libraries.{library_of}
+use Rattle.vpf_prims.specs.Tables.{TileTables}
+use Rattle.vpf_numbers.specs.Laws.{CoverageNumbersDecide}
+use Rattle.vpf_numbers.specs.Matching.{HaveColumns}
+use Rattle.vpf_numbers.specs.TableLines.{coverage_numbers}
+use Rattle.vpf_loading.specs.Holding.{AreCoverageFiles, HoldsBytes}
+use Rattle.vpf_loading.specs.Laws.{AreNamedApart, FilesAreLibraries, FilesAreWhole, HeldIsRead, ReadIsHeld}
+use Rattle.vpf_loading.specs.Loading.{LoadedCoverage, read_coverage}
+use Rattle.vpf_loading.specs.declared.loading.LoadStop.{LoadStop}
+use Rattle.vpf_loading.specs.declared.loading.LoadStop.TheVariants as stops
+use Rattle.vpf_cross.specs.Agreeing.{LibraryAgrees}
+use Rattle.vpf_cross.specs.CrossFinding.{topology_finding}
+use Rattle.vpf_cross.specs.Laws.{AgreementDecides, LikeAreWhole}
 use Rattle.vpf_replies.specs.declared.verdict.Verdict.TheVariants.{Done}
 use Rattle.vpf_replies.specs.Answer.{Answer}
 use Rattle.vpf_replies.specs.Tables.{answer_by}
 use Rattle.vpf_library_commands.specs.declared.checking.CheckRequest.{CheckRequest}
 use Rattle.vpf_library_commands.specs.Agreeing.{Agrees, CheckCounts, CheckDecides}
-use Rattle.vpf_library_commands.specs.Check.{found_answer, read_answer, untiled_tile}
+use Rattle.vpf_library_commands.specs.Check.{coverage_finding, found_answer, read_answer}
 use Rattle.vpf_library_commands.specs.Stopping.{stop_answer}
 
 -- ---- a stop is no answer of what is done
@@ -67,43 +71,58 @@ stop_refuses : (stop : LoadStop) → (stop_answer stop).verdict ≡ Done → ⊥
 stop_refuses (stops.Missing name) h = absurd cc
 stop_refuses (stops.Place name place) h = fault_refuses name place place.code h
 stop_refuses (stops.Limit name limit) h = absurd cc
+stop_refuses (stops.Finding name f) h = absurd cc
 stop_refuses stops.Fault h = absurd cc
 stop_refuses stops.NoMemory h = absurd cc
 
-finding_refuses : (files : List File) (c : Primitives) (first : Option Disagreement) → (found_answer files c first).verdict ≡ Done → first ≡ None
+finding_refuses : (files : List File) (c : CoverageTables) (first : Option Disagreement) → (found_answer files c first).verdict ≡ Done → first ≡ None
 finding_refuses files c None h = refl
 finding_refuses files c (Some d) h = absurd cc
 
--- ---- the tables that are read have few rows
+-- ---- there is no finding exactly where the coverage agrees
 
-opened_few : (grid : Grid) (bytes : List ℕ) (index : Option (List ℕ)) → IsOpened grid bytes index → length grid.rows ≤ most_rows
-opened_few grid bytes None h = h.most
-opened_few grid bytes (Some index) h = h.lie.most
+-- what is so of the files, the numbers and the topology of every coverage
+pub record CoverageLaws : Type 0 where
+  pub libraries : FilesAreLibraries
+  pub whole : FilesAreWhole
+  pub numbers : CoverageNumbersDecide
+  pub topology : AgreementDecides
+  pub alike : LikeAreWhole
 
-table_few : (name : List ℕ) (grid : Grid) (files : List File) → AreFilesOf name grid files → length grid.rows ≤ most_rows
-table_few name grid files (inl h) = opened_few grid h.bytes None h.opened
-table_few name grid files (inr h) = opened_few grid h.bytes (Some h.index) h.opened
+pub coverage_laws : FilesAreLibraries → FilesAreWhole → CoverageNumbersDecide → AgreementDecides → LikeAreWhole → CoverageLaws
+coverage_laws libraries whole numbers topology alike = record { libraries = libraries; whole = whole; numbers = numbers; topology = topology; alike = alike }
 
-edges_few : (held : Files) (lib cov : List ℕ) (c : LoadedCoverage) → HoldsCoverage held lib cov c → length c.tables.edg.rows < 2 ^ 24
-edges_few held lib cov c h = omega (arith, table_few _ c.tables.edg h.are.edg h.are.edg_is)
+agreement : CoverageLaws → (lib cov : List ℕ) (c : CoverageTables) (files : List File) → AreCoverageFiles lib cov c files → (coverage_finding c ≡ None) ↔ (HaveColumns c × LibraryAgrees (library_of c))
+agreement laws lib cov c files are =
+    let library = laws.libraries lib cov c files are in
+    let rows = laws.whole lib cov c files are in (
+      λ none.
+          let apart : (coverage_numbers c ≡ None) × (topology_finding c ≡ None) = or-none_both (coverage_numbers c) (topology_finding c) none in
+          let right = (laws.numbers c).0 apart.0 in
+          (right.0, (laws.topology c library right.1 (laws.alike c library right.0 rows)).0 apart.1),
+      λ agrees.
+          let none : coverage_numbers c ≡ None = (laws.numbers c).1 (agrees.0, agrees.1.numbered) in
+          let behind : topology_finding c ≡ None = (laws.topology c library agrees.1.numbered (laws.alike c library agrees.0 rows)).1 agrees.1 in
+          rw none behind,
+    )
 
 -- ---- both ways
 
-agrees_so : ReadIsHeld → UntiledDecides → (files : Files) (request : CheckRequest) → HoldsBytes files → (read : Result LoadedCoverage LoadStop) (n : ℕ) → read_coverage files request.lib request.cov 0 ≡ (read, n) → (read_answer read).verdict ≡ Done → Agrees files request
-agrees_so held decides files request bytes (Ok c) n e h =
+agrees_so : ReadIsHeld → CoverageLaws → (files : Files) (request : CheckRequest) → HoldsBytes files → (read : Result LoadedCoverage LoadStop) (n : ℕ) → read_coverage files request.lib request.cov 0 ≡ (read, n) → (read_answer read).verdict ≡ Done → Agrees files request
+agrees_so held laws files request bytes (Ok c) n e h =
     let holds = held files request.lib request.cov c n bytes e in
-    let fine = (decides (untiled_tile c.tables) (edges_few files request.lib request.cov c holds)).0 (finding_refuses c.files (primitives_of c.tables) (untiled_finding (untiled_tile c.tables)) h) in
-    (c, record { held = holds; columns = fine.0; well_formed = fine.1 })
-agrees_so held decides files request bytes (Err stop) n e h = absurd (stop_refuses stop h)
+    let fine = (agreement laws request.lib request.cov c.coverage c.files holds.are).0 (finding_refuses c.files c.coverage (coverage_finding c.coverage) h) in
+    (c, record { held = holds; columns = fine.0; rows = fine.1 })
+agrees_so held laws files request bytes (Err stop) n e h = absurd (stop_refuses stop h)
 
-pub check_counts : HeldIsRead → UntiledDecides → CheckCounts
-check_counts reads decides files request c agrees =
+pub check_counts : HeldIsRead → CoverageLaws → CheckCounts
+check_counts reads laws files request c agrees =
     let read = reads files request.lib request.cov c agrees.held in
-    let none = (decides (untiled_tile c.tables) (edges_few files request.lib request.cov c agrees.held)).1 (agrees.columns, agrees.well_formed) in
-    rw (read, none) refl
+    let none : coverage_finding c.coverage ≡ None = (agreement laws request.lib request.cov c.coverage c.files agrees.held.are).1 (agrees.columns, agrees.rows) in
+    ap (λ (r : Result LoadedCoverage LoadStop × ℕ). read_answer r.0) read ∙ ap (found_answer c.files c.coverage) none
 
-pub check_decides : HeldIsRead → ReadIsHeld → UntiledDecides → CheckDecides
-check_decides reads held decides files request bytes = (
-  λ h. agrees_so held decides files request bytes (read_coverage files request.lib request.cov 0).0 (read_coverage files request.lib request.cov 0).1 refl h,
-  λ agrees. ap (λ (answer : Answer). answer.verdict) (check_counts reads decides files request agrees.0 agrees.1),
+pub check_decides : HeldIsRead → ReadIsHeld → CoverageLaws → CheckDecides
+check_decides reads held laws files request bytes = (
+  λ h. agrees_so held laws files request bytes (read_coverage files request.lib request.cov 0).0 (read_coverage files request.lib request.cov 0).1 refl h,
+  λ agrees. ap (λ (answer : Answer). answer.verdict) (check_counts reads laws files request agrees.0 agrees.1),
 )

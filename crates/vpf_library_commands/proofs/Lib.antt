@@ -1,3 +1,4 @@
 pub mod CheckAnswers
 pub mod Deciding
 pub mod Example
+pub mod TotalLemmas

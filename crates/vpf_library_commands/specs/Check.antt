@@ -1,20 +1,21 @@
 -- `check`: whether a coverage agrees.
-use Rattle.std.specs.Prelude.{ℕ, List, [], ◌∷◌, length, Option, None, Some, Result, Ok, Err, codes, slice_index_or}
+use Rattle.std.specs.Prelude.{ℕ, List, [], ◌∷◌, Option, None, Some, Result, Ok, Err, codes, slice_index_or, if◌then◌else◌}
 use Rattle.std.specs.Fmt.{decimal}
 use Rattle.vpf_source.specs.Files.{Files}
 use Rattle.vpf_source.specs.declared.file.File.{File}
 use Rattle.vpf_names.specs.Naming.{coverage_name, file_name}
 use Rattle.vpf_findings.specs.Findings.{Disagreement}
+use Rattle.vpf_findings.specs.Firsts.{◌or◌}
 use Rattle.vpf_findings.specs.Printing.{disagree_text}
 use Rattle.vpf_text.specs.Texts.{◌&◌}
-use Rattle.vpf_prims.specs.Primitives.{Primitives, entities_in}
-use Rattle.vpf_prims.specs.Reading.{PrimitiveTables, primitives_of}
-use Rattle.vpf_prims.specs.Tables.{TileTables}
-use Rattle.vpf_prims.specs.Loading.{LoadedCoverage, loaded_file, read_coverage}
-use Rattle.vpf_prims.specs.declared.loading.LoadStop.{LoadStop}
-use Rattle.vpf_wing.specs.CycleLines.{untiled_finding}
+use Rattle.vpf_prims.specs.Coverages.{CoverageTables, last_tile}
+use Rattle.vpf_numbers.specs.TableLines.{coverage_numbers}
+use Rattle.vpf_loading.specs.Loading.{LoadedCoverage, loaded_file, read_coverage}
+use Rattle.vpf_loading.specs.declared.loading.LoadStop.{LoadStop}
+use Rattle.vpf_cross.specs.CrossFinding.{topology_finding}
 use Rattle.vpf_replies.specs.Answer.{Answer, done, refused}
 use Rattle.vpf_library_commands.specs.declared.checking.CheckRequest.{CheckRequest}
+use Rattle.vpf_library_commands.specs.Counting.{all_edges, all_faces, all_nodes, all_entities}
 use Rattle.vpf_library_commands.specs.Stopping.{stop_answer}
 
 -- the request of a library and a coverage
@@ -28,34 +29,35 @@ abbrev pub check_request : List (List ℕ) → Option CheckRequest
 check_request (lib ∷ cov ∷ []) = check_request_of (file_name lib) (coverage_name cov)
 check_request words = None
 
--- that a coverage agrees, with its numbers of primitives, the universe counted among the faces
-abbrev pub agrees_text : Primitives → List ℕ
+-- the first finding on a coverage: on the columns, ids, references and marks of its tiles, and then on its topology
+abbrev pub coverage_finding : CoverageTables → Option Disagreement
+coverage_finding c = coverage_numbers c or topology_finding c
+
+-- how a coverage is cut: untiled, or into so many tiles, empty ones counted
+abbrev pub tiling_text : CoverageTables → List ℕ
+tiling_text c = if c.is_tiled then codes "tiles " & decimal (last_tile c) else codes "untiled"
+
+-- that a coverage agrees, with its numbers of primitives in all tiles, the universe of each counted among the faces
+abbrev pub agrees_text : CoverageTables → List ℕ
 agrees_text c =
-    codes "agrees untiled edges " & decimal (length c.edges)
-    & codes " faces " & decimal (length c.faces)
-    & codes " nodes " & decimal (length c.nodes)
-    & codes " entities " & decimal (length (entities_in (Some c))) & codes "\n"
+    codes "agrees " & tiling_text c
+    & codes " edges " & decimal (all_edges c)
+    & codes " faces " & decimal (all_faces c)
+    & codes " nodes " & decimal (all_nodes c)
+    & codes " entities " & decimal (all_entities c) & codes "\n"
 
 -- the name of the file at a place among those that were read, from 0
 abbrev pub place_name : List File → ℕ → List ℕ
 place_name files k = (slice_index_or files k (loaded_file [] [])).name
 
--- the answer over a coverage of these primitives, whose files these are, by its first finding
-abbrev pub found_answer : List File → Primitives → Option Disagreement → Answer
+-- the answer over a coverage, whose files these are, by its first finding
+abbrev pub found_answer : List File → CoverageTables → Option Disagreement → Answer
 found_answer files c None = done (agrees_text c)
 found_answer files c (Some d) = refused (disagree_text (place_name files d.file) d)
 
--- the tables of an untiled coverage, whose files are all that were read
-abbrev pub untiled_tile : PrimitiveTables → TileTables
-untiled_tile tables = record { first = 0; tables = tables }
-
--- the answer over the tables of a coverage
-abbrev pub tables_answer : List File → PrimitiveTables → Answer
-tables_answer files tables = found_answer files (primitives_of tables) (untiled_finding (untiled_tile tables))
-
 -- the answer to what was read
 abbrev pub read_answer : Result LoadedCoverage LoadStop → Answer
-read_answer (Ok c) = tables_answer c.files c.tables
+read_answer (Ok c) = found_answer c.files c.coverage (coverage_finding c.coverage)
 read_answer (Err stop) = stop_answer stop
 
 -- the answer over the files of a tree

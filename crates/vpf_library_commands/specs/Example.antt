@@ -11,10 +11,11 @@ use Rattle.vpf_table.specs.Grid.{Row, Grid}
 use Rattle.vpf_findings.specs.declared.finding.TableName.TheVariants.{Fac}
 use Rattle.vpf_findings.specs.Findings.{NumberSeen}
 use Rattle.vpf_prims.specs.Reading.{PrimitiveTables, primitives_of}
+use Rattle.vpf_prims.specs.Coverages.{CoverageTables, untiled_coverage}
 use Rattle.vpf_prims.specs.Suiting.{HasColumns}
+use Rattle.vpf_prims.specs.Tables.{TileTables}
 use Rattle.vpf_wing.specs.WellFormed.{IsWellFormed}
-use Rattle.vpf_wing.specs.CycleLines.{untiled_finding}
-use Rattle.vpf_library_commands.specs.Check.{untiled_tile}
+use Rattle.vpf_library_commands.specs.Check.{coverage_finding}
 
 -- a column of numbers
 abbrev pub numbers_column : List ℕ → Col
@@ -47,11 +48,19 @@ example_with ring = record {
   end = None;
 }
 
+-- they are all that was read of a tile
+abbrev pub example_tile : ℕ → TileTables
+example_tile ring = record { first = 0; tables = example_with ring }
+
+-- and of an untiled coverage
+abbrev pub example_coverage : ℕ → CoverageTables
+example_coverage ring = untiled_coverage (example_tile ring)
+
 -- the example is well formed
 abbrev pub ExampleIsWellFormed : Type 0
 ExampleIsWellFormed = HasColumns (example_with 2) × IsWellFormed (primitives_of (example_with 2))
 
 -- nothing is found in it, and the wrong first ring is
 abbrev pub ExampleIsFound : Type 0
-ExampleIsFound = (untiled_finding (untiled_tile (example_with 2)) ≡ None)
-    × (untiled_finding (untiled_tile (example_with 3)) ≡ Some (record { rule = 3; tile = 0; table = Fac; file = 1; row = 2; column = codes "ring_ptr"; found = NumberSeen (pos 3); wanted = NumberSeen (pos 2) }))
+ExampleIsFound = (coverage_finding (example_coverage 2) ≡ None)
+    × (coverage_finding (example_coverage 3) ≡ Some (record { rule = 3; tile = 0; table = Fac; file = 1; row = 2; column = codes "ring_ptr"; found = NumberSeen (pos 3); wanted = NumberSeen (pos 2) }))

@@ -1,4 +1,5 @@
 pub mod Stopping
+pub mod Counting
 pub mod Check
 pub mod Agreeing
 pub mod Example

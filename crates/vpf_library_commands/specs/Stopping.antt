@@ -1,8 +1,9 @@
 -- What is answered where a load is stopped.
 use Rattle.std.specs.Prelude.{◌≡◌, []}
 use Rattle.vpf_table.specs.Limits.{bound_text}
-use Rattle.vpf_prims.specs.declared.loading.LoadStop.{LoadStop}
-use Rattle.vpf_prims.specs.declared.loading.LoadStop.TheVariants as stops
+use Rattle.vpf_findings.specs.Printing.{own_text}
+use Rattle.vpf_loading.specs.declared.loading.LoadStop.{LoadStop}
+use Rattle.vpf_loading.specs.declared.loading.LoadStop.TheVariants as stops
 use Rattle.vpf_replies.specs.Answer.{Answer, limited, refused}
 use Rattle.vpf_replies.specs.Found.{missing_answer}
 use Rattle.vpf_replies.specs.Tables.{fault_answer}
@@ -13,6 +14,7 @@ abbrev pub stop_answer : LoadStop → Answer
 stop_answer (stops.Missing name) = missing_answer name
 stop_answer (stops.Place name place) = fault_answer name place
 stop_answer (stops.Limit name limit) = limited (limit_text (bound_text limit.what) name limit.found)
+stop_answer (stops.Finding name f) = refused (own_text name f)
 stop_answer stops.Fault = refused []
 stop_answer stops.NoMemory = refused []
 

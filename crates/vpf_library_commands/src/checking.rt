@@ -1,26 +1,24 @@
 //! `check`: whether a coverage agrees.
 
-ghost use Rattle.std.specs.Prelude.{◌≡◌, ◌^◌, ◌<◌, IfOk, IsSome, Some, map, string_bytes};
+ghost use Rattle.std.specs.Prelude.{◌≡◌, ◌++◌, IfOk, OnOk, map, string_bytes};
 ghost use Rattle.vpf_source.specs.Files.{Files};
-ghost use Rattle.vpf_findings.specs.Firsts.{◌or◌, Tells};
-ghost use Rattle.vpf_prims.specs.Coverages.{tile_at, untiled_coverage};
-ghost use Rattle.vpf_prims.specs.Holding.{AreCoverageFiles, AreOfCoverage};
-ghost use Rattle.vpf_prims.specs.Reading.{PrimitiveTables, primitives_of};
-ghost use Rattle.vpf_prims.specs.Tables.{TileTables};
-ghost use Rattle.vpf_wing.specs.CycleLines.{cycles_finding, loops_finding, untiled_finding};
+ghost use Rattle.vpf_findings.specs.Firsts.{Tells};
+ghost use Rattle.vpf_prims.specs.Coverages.{CoverageTables};
+ghost use Rattle.vpf_loading.specs.Holding.{AreCoverageFiles, AreOfCoverage};
 ghost use Rattle.vpf_replies.specs.Answer.{done};
 ghost use Rattle.vpf_replies.specs.Halting.{ComesTo, TellsFault};
-ghost use Rattle.vpf_library_commands.specs.Check.{agrees_text, check_answer, check_request, place_name, tables_answer, untiled_tile};
+ghost use Rattle.vpf_library_commands.specs.Check.{agrees_text, check_answer, check_request, coverage_finding, found_answer, place_name, tiling_text};
 
 use crate::stopping::stopped;
+use crate::totals::{Totals, totals_of};
 use std::alloc::{AllocError, Global};
+use vpf_coverage::{Coverage, open_coverage};
+use vpf_cross::check_coverage;
 use vpf_findings::FindError;
+use vpf_loading::load_coverage;
 use vpf_names::{coverage_name, file_name};
-use vpf_prims::laws::coverages_are_held;
-use vpf_prims::{Coverage, Tile, load_coverage, open_coverage};
 use vpf_replies::{Halt, Reply, Stop, Verdict, disagreement};
 use vpf_source::{File, Name, Tree};
-use vpf_wing::{check_loops, check_tile};
 
 /// A coverage of a library that is checked.
 #[derive(Debug, Drop)]
@@ -49,14 +47,6 @@ impl CheckRequest {
     }
 }
 
-/// The loops of the tile of an untiled coverage hold, and its wings, cycles, rings and nodes.
-fn check_topology<'a>(alloc: Global, tile: &Tile<'a>) -> Result<(), FindError<'a>>
-    ensures { Tells result (loops_finding 0 tile.now or cycles_finding 0 tile.now) }
-{
-    check_loops(tile, 0)?;
-    check_tile(alloc, tile, 0)
-}
-
 /// The coverage of files that were loaded, where nothing disagrees, or the first finding: rule by rule.
 fn agreeing<'a>(
     alloc: Global,
@@ -64,30 +54,44 @@ fn agreeing<'a>(
     request: &CheckRequest,
 ) -> Result<Coverage<'a>, FindError<'a>>
     requires { AreOfCoverage request.now.lib request.now.cov files.now }
-    ensures first { (tables : PrimitiveTables) → AreCoverageFiles request.now.lib request.now.cov tables files.now
-        → Tells result (untiled_finding (untiled_tile tables)) }
-    ensures opened { (tables : PrimitiveTables) → AreCoverageFiles request.now.lib request.now.cov tables files.now
-        → IfOk result (λ coverage. coverage ≡ untiled_coverage (untiled_tile tables)) }
+    ensures first { (c : CoverageTables) → AreCoverageFiles request.now.lib request.now.cov c files.now → Tells result (coverage_finding c) }
+    ensures opened { (c : CoverageTables) → AreCoverageFiles request.now.lib request.now.cov c files.now
+        → IfOk result (λ coverage. coverage ≡ c) }
 {
     let coverage = open_coverage(alloc, files, request.lib.as_str(), request.cov.as_str())?;
-    let Some(tile) = coverage.tile(0) else {
-        unreachable!()
-    };
-    check_topology(alloc, tile)?;
+    check_coverage(alloc, &coverage)?;
     Ok(coverage)
 }
 
-/// That a coverage agrees, with its numbers of primitives.
-fn agrees_text(alloc: Global, tile: &Tile<'_>) -> Result<String, AllocError>
-    ensures { IfOk result (λ text. string_bytes text ≡ agrees_text (primitives_of tile.now.tables)) }
+/// Puts how a coverage is cut into tiles.
+fn put_tiling(text: &mut String, coverage: &Coverage<'_>) -> Result<(), AllocError>
+    ensures { OnOk result (string_bytes text.new ≡ string_bytes text.old ++ tiling_text coverage.now) }
 {
-    let edges = tile.edges();
-    let faces = tile.faces();
-    let nodes = tile.nodes();
-    let entities = tile.entities();
-    format!(in alloc;
-        "agrees untiled edges {edges} faces {faces} nodes {nodes} entities {entities}\n"
-    )
+    if coverage.is_tiled() {
+        let tiles = coverage.tiles();
+        write!(text, "tiles {tiles}")
+    } else {
+        text.push_str("untiled")
+    }
+}
+
+/// That a coverage agrees, with its numbers of primitives in all tiles.
+fn agrees_text(alloc: Global, coverage: &Coverage<'_>) -> Result<String, AllocError>
+    ensures { IfOk result (λ text. string_bytes text ≡ agrees_text coverage.now) }
+{
+    let Totals {
+        edges,
+        faces,
+        nodes,
+        entities,
+    } = totals_of(coverage);
+    let mut text = String::from_str(alloc, "agrees ")?;
+    put_tiling(&mut text, coverage)?;
+    write!(
+        text,
+        " edges {edges} faces {faces} nodes {nodes} entities {entities}\n"
+    )?;
+    Ok(text)
 }
 
 /// The name of the file at a place among those that were read, from 0.
@@ -102,20 +106,16 @@ fn named(files: &[File], place: u32) -> &str
 
 /// The reply over a coverage that agrees.
 fn agreed(alloc: Global, coverage: &Coverage<'_>) -> Result<Reply, AllocError>
-    requires { IsSome (tile_at coverage.now 0) }
-    ensures { (T : TileTables) → tile_at coverage.now 0 ≡ Some T → IfOk result (λ reply. reply ≡ done (agrees_text (primitives_of T.tables))) }
+    ensures { IfOk result (λ reply. reply ≡ done (agrees_text coverage.now)) }
 {
-    let Some(tile) = coverage.tile(0) else {
-        unreachable!()
-    };
-    Ok(Reply::new(alloc, Verdict::Done, agrees_text(alloc, tile)?))
+    Ok(Reply::new(alloc, Verdict::Done, agrees_text(alloc, coverage)?))
 }
 
 /// The reply over files that were loaded.
 fn checked(alloc: Global, files: &[File], request: &CheckRequest) -> Result<Reply, AllocError>
     requires { AreOfCoverage request.now.lib request.now.cov files.now }
-    ensures { (tables : PrimitiveTables) → AreCoverageFiles request.now.lib request.now.cov tables files.now
-        → IfOk result (λ reply. reply ≡ tables_answer files.now tables) }
+    ensures { (c : CoverageTables) → AreCoverageFiles request.now.lib request.now.cov c files.now
+        → IfOk result (λ reply. reply ≡ found_answer files.now c (coverage_finding c)) }
 {
     match agreeing(alloc, files, request) {
         Ok(coverage) => agreed(alloc, &coverage),
@@ -126,15 +126,14 @@ fn checked(alloc: Global, files: &[File], request: &CheckRequest) -> Result<Repl
     }
 }
 
-/// Does `check`: tells that a coverage agrees, with its numbers of primitives, or the first place where it doesn't. Its files are read in order, each
-/// once; then the columns and numbers of its tables are looked at, then its loops, and then its wings, cycles, rings and nodes (MIL-STD-2407,
-/// 5.2.2, primitives and winged-edge topology).
+/// Does `check`: tells that a coverage agrees, with its numbers of primitives in all tiles, or the first place where it doesn't. Its files are
+/// read in order, each once; then the columns and numbers of its tables are looked at, tile by tile, and then its topology, rule by rule
+/// (MIL-STD-2407, 5.2.2, primitives and winged-edge topology, and 5.2.3, cross-tile topology).
 pub fn check<T: Tree>(alloc: Global, request: &CheckRequest, tree: &mut T) -> Result<Reply, Halt>
     ensures told { (files : Files) → T.files tree.old ≡ Some files → ComesTo (λ answer. answer ≡ check_answer files request.now) result }
     ensures fault { TellsFault result (Halt.Stop Stop.TreeFault) (T.faults tree.old) (T.faults tree.new) }
     ensures files { T.files tree.new ≡ T.files tree.old }
 {
-    coverages_are_held();
     let mut loaded = 0;
     let (lib, cov) = (request.lib.as_str(), request.cov.as_str());
     match load_coverage(alloc, tree, lib, cov, &mut loaded) {

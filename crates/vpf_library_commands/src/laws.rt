@@ -3,16 +3,22 @@
 ghost use Rattle.vpf_library_commands.specs.Agreeing.{CheckCounts, CheckDecides};
 ghost use Rattle.vpf_library_commands.specs.Example.{ExampleIsFound, ExampleIsWellFormed};
 
-use vpf_prims::laws::coverages_are_held;
-use vpf_wing::laws::untiled_decides;
+use vpf_cross::laws::{agreement_decides, like_tiles_are_whole};
+use vpf_loading::laws::{coverages_are_held, files_are_libraries};
+use vpf_numbers::laws::numbers_decide;
+use vpf_wing::laws::{cycles_decide, loops_decide};
 
-/// `check` is done exactly where the tree holds the coverage, its columns are right and it is well formed; and then it counts its primitives.
+/// `check` is done exactly where the tree holds the coverage, its columns are right and its rows agree, in each tile and across the tiles;
+/// and then it counts the primitives of its tiles.
 pub fn check_decides_agreement()
     ensures decides { CheckDecides }
     ensures counts { CheckCounts }
 {
     coverages_are_held();
-    untiled_decides();
+    files_are_libraries();
+    numbers_decide();
+    agreement_decides();
+    like_tiles_are_whole();
 }
 
 /// What it is for a coverage to be well formed can be met: an example is, nothing is found in it, and a wrong first ring in it is found.
@@ -20,5 +26,7 @@ pub fn example_is_well_formed()
     ensures well_formed { ExampleIsWellFormed }
     ensures found { ExampleIsFound }
 {
-    untiled_decides();
+    numbers_decide();
+    loops_decide();
+    cycles_decide();
 }

@@ -4,5 +4,6 @@
 mod checking;
 pub mod laws;
 mod stopping;
+mod totals;
 
 pub use checking::{CheckRequest, check};

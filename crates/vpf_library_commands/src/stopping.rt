@@ -5,8 +5,8 @@ ghost use Rattle.vpf_replies.specs.Halting.{ComesTo};
 ghost use Rattle.vpf_library_commands.specs.Stopping.{IsStopAnswer};
 
 use std::alloc::Global;
-use vpf_prims::LoadStop;
-use vpf_replies::{Halt, Refusal, Reply, Stop, fault, limit, refuse};
+use vpf_loading::LoadStop;
+use vpf_replies::{Halt, Refusal, Reply, Stop, fault, kept_disagreement, limit, refuse};
 
 /// The reply to the file that stops a load, or what stops the run.
 pub(crate) fn stopped(alloc: Global, stop: LoadStop) -> Result<Reply, Halt>
@@ -20,6 +20,9 @@ pub(crate) fn stopped(alloc: Global, stop: LoadStop) -> Result<Reply, Halt>
         LoadStop::Place(name, place) => Ok(fault(alloc, name.as_str(), place)?),
         LoadStop::Limit(name, passed) => {
             Ok(limit(alloc, passed.what, name.as_str(), passed.found)?)
+        }
+        LoadStop::Finding(name, finding) => {
+            Ok(kept_disagreement(alloc, name.as_str(), &finding)?)
         }
     }
 }

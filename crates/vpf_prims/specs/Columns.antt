@@ -1,5 +1,5 @@
 -- The columns of a header that have a role, and what disagrees in them.
-use Rattle.std.specs.Prelude.{ℕ, ◌<◌, List, [], ◌∷◌, Option, Some, None, IfSome, slice_get}
+use Rattle.std.specs.Prelude.{ℕ, ◌<◌, List, [], ◌∷◌, Option, Some, None, IfSome, codes, slice_get}
 use Rattle.std.specs.Option.{option_and_then}
 use Rattle.vpf_triplet.specs.declared.kinds.Kind.{Kind}
 use Rattle.vpf_triplet.specs.declared.kinds.Kind.TheVariants as kinds
@@ -9,7 +9,7 @@ use Rattle.vpf_findings.specs.Findings.{Sight, KindSeen, WordSeen, Disagreement,
 use Rattle.vpf_findings.specs.Firsts.{◌or◌, unless}
 use Rattle.vpf_prims.specs.declared.placing.TableAt.{TableAt}
 use Rattle.vpf_prims.specs.declared.placing.RoleColumn.{RoleColumn}
-use Rattle.vpf_prims.specs.Roles.{Role, suits, wanted_word}
+use Rattle.vpf_prims.specs.Roles.{Role, suits, wanted_word, number_role, reference_role}
 
 -- a column that has a role: where it stands, from 0; its name, as the header spells it; and its kind. One that is absent
 -- stands nowhere, has the name of its role, and holds nothing
@@ -39,6 +39,14 @@ kind_or_none (Some column) = column.kind
 -- the column of a role
 abbrev pub role_column : List Col → Role → RoleAt
 role_column columns role = record { place = place_of role.name columns; name = name_or (column_of columns role.name) role.name; kind = kind_or_none (column_of columns role.name) }
+
+-- the column of ids
+abbrev pub id_column : List Col → RoleAt
+id_column columns = role_column columns (number_role (codes "id"))
+
+-- the column of references of this name
+abbrev pub reference_column : List Col → List ℕ → RoleAt
+reference_column columns name = role_column columns (reference_role name)
 
 -- the column stands among so many, where it is there
 abbrev pub IsWithin : ℕ → RoleAt → Type 0

@@ -9,13 +9,10 @@ pub mod Primitives
 pub mod Reading
 pub mod Suiting
 pub mod Numbering
+pub mod Owning
 pub mod Tables
-pub mod Coverages
-pub mod RowLines
-pub mod TableLines
+pub mod Views
 pub mod Tiles
-pub mod Loading
-pub mod Holding
-pub mod Loads
-pub mod Opened
+pub mod Coverages
+pub mod Libraries
 pub mod Laws

@@ -1,5 +1,5 @@
 -- What cells refer to: rows of a table by their numbers, and maybe on into another tile (MIL-STD-2407, 5.4, triplet id).
-use Rattle.std.specs.Prelude.{ℕ, ℤ, pos, negsuc, Bool, false, Option, Some, None, slice_index_or, ◌==◌, ◌&&◌, nat_le}
+use Rattle.std.specs.Prelude.{ℕ, ℤ, pos, negsuc, Bool, false, not, Option, Some, None, is_some, slice_index_or, ◌==◌, ◌&&◌, ◌||◌, nat_le}
 use Rattle.std.specs.Option.{unwrap_or}
 use Rattle.vpf_triplet.specs.declared.triplets.Triplet.{Triplet}
 use Rattle.vpf_value.specs.Values.{Value, NumberOf, TripletOf, Nothing}
@@ -12,6 +12,10 @@ plain n = record { id = Some n; tile = None; ext = None }
 -- no reference
 abbrev pub no_reference : Triplet
 no_reference = record { id = None; tile = None; ext = None }
+
+-- a reference stays within its tile
+abbrev pub stays : Triplet → Bool
+stays r = not (is_some r.tile || is_some r.ext)
 
 -- a cell as a reference: a triplet id, or a number as the id alone; a negative number is an absent id
 abbrev pub reference_in : Value → Triplet

@@ -1,14 +1,13 @@
 //! The columns and the rows of an edge table.
 
 ghost use Rattle.std.specs.Prelude.{◌≡◌, ◌<◌, ◌^◌, IfOk, length, map};
-ghost use Rattle.vpf_findings.specs.Firsts.{Finds, Tells, first_of_rows};
+ghost use Rattle.vpf_findings.specs.Firsts.{Finds, Tells};
 ghost use Rattle.vpf_prims.specs.Roles.{edge_roles};
 ghost use Rattle.vpf_prims.specs.Columns.{columns_finding, role_at};
 ghost use Rattle.vpf_prims.specs.Edges.{AreWithin, moved_to, edge_columns, edge_lines, edge_of, edge_row, edges_finding, HaveWings};
-ghost use Rattle.vpf_prims.specs.RowLines.{untiled_edge_lines};
 
 use crate::laws::rows_have_wings;
-use crate::lines::{check_id, check_mark, check_reference, number_from};
+use crate::lines::{check_id, number_from};
 use crate::placing::{RoleColumn, TableAt, place_roles};
 use crate::reading::{cell_at, is_line, number_of, reference_in};
 use crate::roles::edge_roles;
@@ -108,6 +107,13 @@ impl<'a> EdgeColumns<'a> {
         self.at
     }
 
+    /// The column of ids.
+    pub fn id(&self) -> RoleColumn<'a>
+        ensures { role_at result ≡ self.now.id }
+    {
+        self.id
+    }
+
     /// The same columns, whose findings are in another table.
     pub(crate) fn in_table(&self, at: TableAt) -> EdgeColumns<'a>
         ensures { result ≡ moved_to at self.now }
@@ -116,35 +122,35 @@ impl<'a> EdgeColumns<'a> {
     }
 
     /// The column of the nodes where edges begin.
-    pub(crate) fn start_node(&self) -> RoleColumn<'a>
+    pub fn start_node(&self) -> RoleColumn<'a>
         ensures { role_at result ≡ self.now.start_node }
     {
         self.start_node
     }
 
     /// The column of the nodes where edges end.
-    pub(crate) fn end_node(&self) -> RoleColumn<'a>
+    pub fn end_node(&self) -> RoleColumn<'a>
         ensures { role_at result ≡ self.now.end_node }
     {
         self.end_node
     }
 
     /// The column of the faces on the right.
-    pub(crate) fn right_face(&self) -> RoleColumn<'a>
+    pub fn right_face(&self) -> RoleColumn<'a>
         ensures { role_at result ≡ self.now.right_face }
     {
         self.right_face
     }
 
     /// The column of the faces on the left.
-    pub(crate) fn left_face(&self) -> RoleColumn<'a>
+    pub fn left_face(&self) -> RoleColumn<'a>
         ensures { role_at result ≡ self.now.left_face }
     {
         self.left_face
     }
 
     /// The column of marks of lines between tiles.
-    pub(crate) fn tile_line(&self) -> RoleColumn<'a>
+    pub fn tile_line(&self) -> RoleColumn<'a>
         ensures { role_at result ≡ self.now.tile_line }
     {
         self.tile_line
@@ -212,41 +218,6 @@ impl<'a> EdgeColumns<'a> {
             left_edge: number_from(at, 1, most.edges, k, &self.left_edge, row)?,
         })
     }
-
-    /// The id, the references and the mark of row `k` are right.
-    fn check_row(&self, most: Ranges, k: u32, row: &RowView<'_, 'a>) -> Result<(), Finding<'a>>
-        requires { AreWithin (length row.now) self.now }
-        ensures { Finds result (untiled_edge_lines self.now most k row.now) }
-    {
-        let at = self.at;
-        check_id(at, k, &self.id, row)?;
-        check_reference(at, 1, most.nodes, k, &self.start_node, row)?;
-        check_reference(at, 1, most.nodes, k, &self.end_node, row)?;
-        check_reference(at, 1, most.faces, k, &self.right_face, row)?;
-        check_reference(at, 1, most.faces, k, &self.left_face, row)?;
-        check_reference(at, 1, most.edges, k, &self.right_edge, row)?;
-        check_reference(at, 1, most.edges, k, &self.left_edge, row)?;
-        check_mark(at, k, &self.tile_line, row)
-    }
-}
-
-/// The rows of edges of an untiled coverage are right.
-pub(crate) fn check_edges<'a>(
-    columns: &EdgeColumns<'a>,
-    most: Ranges,
-    table: &TableView<'a>,
-) -> Result<(), Finding<'a>>
-    requires { AreWithin (length table.now.head.columns) columns.now }
-    ensures { Finds result (first_of_rows (untiled_edge_lines columns.now most) 1 table.now.rows) }
-{
-    // There are few enough rows to count them.
-    let _rows = table.len();
-    let mut k = 0;
-    for row in table.rows() {
-        k += 1;
-        columns.check_row(most, k, &row)?;
-    }
-    Ok(())
 }
 
 /// The edges of a table, in the order of their rows, or the first row whose id isn't its number, or that names what is out of range.

@@ -2,36 +2,30 @@
 //! (MIL-STD-2407, 5.2.2, primitives).
 #![tactic(auto)]
 
-mod bare;
-mod checking;
 mod citing;
-mod coverage;
 mod edges;
 pub mod laws;
 mod lines;
-mod loading;
-mod opening;
-mod passing;
 mod placing;
 mod reading;
 mod roles;
 mod rows;
 mod seeking;
-mod tables;
 #[cfg(test)]
 mod tests;
 mod tile;
+mod views;
 
 pub use citing::Citation;
-pub use coverage::{Coverage, open_coverage};
 pub use edges::{EdgeColumns, Ranges, edges_of};
-pub use lines::{check_id, number_from};
-pub use loading::{LoadStop, load_coverage};
-pub use placing::{RoleColumn, TableAt, place_roles};
-pub use reading::{is_line, reference_in};
+pub use lines::{cell_finding, check_id, number_from, number_in_cell};
+pub use placing::{RoleColumn, TableAt, place_role, place_roles};
+pub use reading::{cell_at, is_from, is_line, number_in, reference_in, stays};
 pub use roles::{
-    Role, Wants, class_roles, edge_roles, entity_roles, face_roles, feature_roles, node_roles,
-    plan_roles, ring_roles, tileref_roles,
+    CONTAINING_FACE, FACE_ID, FIRST_EDGE, ID, RING_PTR, Role, START_EDGE, Wants, class_roles,
+    edge_roles, entity_roles, face_roles, feature_roles, node_roles, plan_roles, ring_roles,
+    tileref_roles,
 };
 pub use rows::{Edge, EdgeRow, id_of};
-pub use tile::Tile;
+pub use tile::{Tile, files_of};
+pub use views::{PrimitiveViews, TileColumns};

@@ -7,13 +7,12 @@ ghost use Rattle.vpf_prims.specs.Columns.{IsWithin, in_table, role_at};
 ghost use Rattle.vpf_prims.specs.Edges.{id_at};
 ghost use Rattle.vpf_prims.specs.Lines.{cell_range_line, id_line, range_line};
 ghost use Rattle.vpf_prims.specs.References.{id_of, reference_in};
-ghost use Rattle.vpf_prims.specs.RowLines.{mark_line, reference_lines};
 ghost use Rattle.vpf_value.specs.Values.{view};
 
 use crate::placing::{RoleColumn, TableAt};
-use crate::reading::{cell_at, is_from, is_same, number_in, reference_in, signed_in, stays};
+use crate::reading::{cell_at, is_from, is_same, reference_in, signed_in};
 use crate::rows::id_of;
-use vpf_findings::{Finding, Seen, SeenWord};
+use vpf_findings::{Finding, Seen};
 use vpf_table::RowView;
 use vpf_value::Cell;
 
@@ -36,7 +35,7 @@ pub fn check_id<'a>(
 }
 
 /// A finding on a cell of row `k`.
-fn cell_finding<'a>(
+pub fn cell_finding<'a>(
     at: TableAt,
     k: u32,
     column: &RoleColumn<'a>,
@@ -50,7 +49,7 @@ fn cell_finding<'a>(
 }
 
 /// The number that the reference in a cell of row `k` has in its own tile, one of `low` to `last`.
-fn number_in_cell<'a>(
+pub fn number_in_cell<'a>(
     at: TableAt,
     low: u32,
     last: u32,
@@ -82,44 +81,4 @@ pub fn number_from<'a>(
     ensures value { IfOk result (λ n. n ≡ id_at (role_at column.now) row.now) }
 {
     number_in_cell(at, low, last, k, column, cell_at(row, column))
-}
-
-/// A reference in row `k` stays within its tile, and has a number there, one of `low` to `last`.
-pub(crate) fn check_reference<'a>(
-    at: TableAt,
-    low: u32,
-    last: u32,
-    k: u32,
-    column: &RoleColumn<'a>,
-    row: &RowView<'_, 'a>,
-) -> Result<(), Finding<'a>>
-    requires { IsWithin (length row.now) (role_at column.now) }
-    ensures { Finds result (reference_lines at low last k (role_at column.now) row.now) }
-{
-    let cell = cell_at(row, column);
-    number_in_cell(at, low, last, k, column, cell)?;
-    if stays(reference_in(cell)) {
-        return Ok(());
-    }
-    Err(cell_finding(at, k, column, cell, Seen::Word(SeenWord::Plain)))
-}
-
-/// A mark in row `k` is 0 or 1, where there is a column of marks.
-pub(crate) fn check_mark<'a>(
-    at: TableAt,
-    k: u32,
-    column: &RoleColumn<'a>,
-    row: &RowView<'_, 'a>,
-) -> Result<(), Finding<'a>>
-    requires { IsWithin (length row.now) (role_at column.now) }
-    ensures { Finds result (mark_line at k (role_at column.now) row.now) }
-{
-    if column.place.is_none() {
-        return Ok(());
-    }
-    let cell = cell_at(row, column);
-    if is_from(0, 1, number_in(cell)) {
-        return Ok(());
-    }
-    Err(cell_finding(at, k, column, cell, Seen::Range(0, 1)))
 }

@@ -70,7 +70,7 @@ fn place_of(header: &Header<'_>, name: &[u8]) -> Option<usize>
 }
 
 /// The column of a role, and the finding on it.
-pub(crate) fn place_role<'a>(
+pub fn place_role<'a>(
     at: TableAt,
     header: &Header<'a>,
     role: &Role,

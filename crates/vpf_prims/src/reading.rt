@@ -5,8 +5,7 @@ ghost use Rattle.vpf_value.specs.Values.{NumberOf, view};
 ghost use Rattle.vpf_prims.specs.Columns.{IsWithin, role_at};
 ghost use Rattle.vpf_prims.specs.Edges.{id_at};
 ghost use Rattle.vpf_prims.specs.Reading.{natural_in};
-ghost use Rattle.vpf_prims.specs.RowLines.{stays};
-ghost use Rattle.vpf_prims.specs.References.{cell_at, is_from, is_line, is_same, reference_in, signed_in};
+ghost use Rattle.vpf_prims.specs.References.{cell_at, is_from, is_line, is_same, reference_in, signed_in, stays};
 
 use crate::placing::RoleColumn;
 use crate::rows::id_of;

@@ -60,42 +60,42 @@ pub struct Role {
 }
 
 /// The role of ids, in each table of primitives.
-pub(crate) const ID: Role = Role {
+pub const ID: Role = Role {
     name: b"id",
     wants: Wants::Number,
     optional: false,
 };
 
 /// The role of the first rings of faces.
-pub(crate) const RING_PTR: Role = Role {
+pub const RING_PTR: Role = Role {
     name: b"ring_ptr",
     wants: Wants::Reference,
     optional: false,
 };
 
 /// The role of the faces of rings.
-pub(crate) const FACE_ID: Role = Role {
+pub const FACE_ID: Role = Role {
     name: b"face_id",
     wants: Wants::Reference,
     optional: false,
 };
 
 /// The role of the edges where the walks of rings start.
-pub(crate) const START_EDGE: Role = Role {
+pub const START_EDGE: Role = Role {
     name: b"start_edge",
     wants: Wants::Reference,
     optional: false,
 };
 
 /// The role of edges at nodes.
-pub(crate) const FIRST_EDGE: Role = Role {
+pub const FIRST_EDGE: Role = Role {
     name: b"first_edge",
     wants: Wants::Reference,
     optional: false,
 };
 
 /// The role of the faces that entity nodes lie in.
-pub(crate) const CONTAINING_FACE: Role = Role {
+pub const CONTAINING_FACE: Role = Role {
     name: b"containing_face",
     wants: Wants::Reference,
     optional: false,

@@ -8,24 +8,20 @@ use crate::edges::EdgeColumns;
 use crate::placing::{RoleColumn, TableAt};
 use crate::rows::{Edge, EdgeRow};
 use crate::seeking::{cell_in_row, number_in_row, row_of};
-use crate::tables::{EntityTable, FaceTable, NodeTable, RingTable};
+use crate::views::{PrimitiveViews, TileColumns};
 use std::alloc::{AllocError, Global};
 use std::marker::Model;
 use vpf_findings::{Finding, Seen, TableName};
 use vpf_table::TableView;
 
-/// The primitive tables of a tile, or of an untiled coverage, whose columns, ids and references are right (MIL-STD-2407, 5.2.2,
-/// primitives). Rows stay in their files. Numbers of primitives count from 1. Contracts see it as the tables, and where the first of
-/// their files stands among those that were read.
+/// The primitive tables of a tile, or of an untiled coverage, whose columns are there, and whose rows name rows of the tile (MIL-STD-2407,
+/// 5.2.2, primitives). Rows stay in their files. Numbers of primitives count from 1. Contracts see it as the tables, and where the first
+/// of their files stands among those that were read.
 #[derive(Drop)]
 pub struct Tile<'a> {
-    pub(crate) first: u32,
-    pub(crate) columns: EdgeColumns<'a>,
-    pub(crate) edg: TableView<'a>,
-    pub(crate) fac: FaceTable<'a>,
-    pub(crate) rng: RingTable<'a>,
-    pub(crate) cnd: NodeTable<'a>,
-    pub(crate) end: Option<EntityTable<'a>>,
+    first: u32,
+    columns: TileColumns<'a>,
+    views: PrimitiveViews<'a>,
 }
 
 impl<'a> Model for Tile<'a> {
@@ -41,7 +37,7 @@ impl<'a> Model for Tile<'a> {
 }
 
 /// How many files a table is: its own, and its index where its rows vary.
-pub(crate) fn files_of(table: &TableView<'_>) -> u32
+pub fn files_of(table: &TableView<'_>) -> u32
     ensures value { result ≡ files_of_grid table.now }
     ensures few { result ≤ 2 }
 {
@@ -61,14 +57,38 @@ impl<'a> Tile<'a> {
     ghost use Rattle.vpf_prims.specs.Reading.{primitives_of};
     ghost use Rattle.vpf_prims.specs.Tables.{at_citation, cited_cell, cited_column, cited_grid, edg_at, fac_file, rng_file};
     ghost use Rattle.vpf_prims.specs.Tables.{cnd_file, end_file, file_named, file_where, table_at, table_named};
-    ghost use Rattle.vpf_prims.specs.TableLines.{numbers_finding};
+    ghost use Rattle.vpf_prims.specs.Owning.{NamesItsOwn};
+    ghost use Rattle.vpf_prims.specs.Views.{AreColumnsOf, tables_in_view};
+
+    /// The tile of these tables and their columns, the first of whose files stands at this place among those that were read.
+    pub fn new(first: u32, views: PrimitiveViews<'a>, columns: TileColumns<'a>) -> Tile<'a>
+        requires columns { AreColumnsOf (tables_in_view views) columns }
+        requires owns { NamesItsOwn (primitives_of (tables_in_view views)) }
+        requires few { first < 2 ^ 31 }
+        ensures { result ≡ record { first = first; tables = tables_in_view views.entry } }
+    {
+        let at = TableAt {
+            tile: 0,
+            table: TableName::Edg,
+            file: first,
+        };
+        let columns = TileColumns {
+            edges: columns.edges.in_table(at),
+            ..columns
+        };
+        Tile {
+            first,
+            columns,
+            views,
+        }
+    }
 
     /// The number of edges.
     pub fn edges(&self) -> u32
         ensures value { result ≡ length (primitives_of self.now.tables).edges }
         ensures few { result < 2 ^ 24 }
     {
-        self.edg.len()
+        self.views.edg.len()
     }
 
     /// The number of faces, face 1, the universe, included.
@@ -76,7 +96,7 @@ impl<'a> Tile<'a> {
         ensures value { result ≡ length (primitives_of self.now.tables).faces }
         ensures few { result < 2 ^ 24 }
     {
-        self.fac.table.len()
+        self.views.fac.len()
     }
 
     /// The number of rings.
@@ -84,7 +104,7 @@ impl<'a> Tile<'a> {
         ensures value { result ≡ length (primitives_of self.now.tables).rings }
         ensures few { result < 2 ^ 24 }
     {
-        self.rng.table.len()
+        self.views.rng.len()
     }
 
     /// The number of connected nodes.
@@ -92,7 +112,7 @@ impl<'a> Tile<'a> {
         ensures value { result ≡ length (primitives_of self.now.tables).nodes }
         ensures few { result < 2 ^ 24 }
     {
-        self.cnd.table.len()
+        self.views.cnd.len()
     }
 
     /// The number of entity nodes: 0 where they have no table.
@@ -100,15 +120,15 @@ impl<'a> Tile<'a> {
         ensures value { result ≡ length (entities_in (Some (primitives_of self.now.tables))) }
         ensures few { result < 2 ^ 24 }
     {
-        match &self.end {
-            Some(end) => end.table.len(),
+        match &self.views.end {
+            Some(end) => end.len(),
             None => 0,
         }
     }
 
-    /// What is so of the columns, ids and references of each tile: nothing disagrees in them.
-    pub fn has_numbers(&self)
-        ensures { numbers_finding 0 self.now ≡ None }
+    /// What is so of the rows of each tile: what they name in it is there.
+    pub fn names_its_own(&self)
+        ensures { NamesItsOwn (primitives_of self.now.tables) }
     {
         let _first = self.first;
     }
@@ -118,7 +138,7 @@ impl<'a> Tile<'a> {
         requires { IsRowOf (length (primitives_of self.now.tables).edges) e }
         ensures { result ≡ edge_row_of (kth (primitives_of self.now.tables).edges e absent_edge) }
     {
-        self.columns.row(&row_of(&self.edg, e))
+        self.columns.edges.row(&row_of(&self.views.edg, e))
     }
 
     /// The first ring of a face, 0 where face 1 has none.
@@ -126,7 +146,7 @@ impl<'a> Tile<'a> {
         requires { IsRowOf (length (primitives_of self.now.tables).faces) f }
         ensures { result ≡ id_of (kth (primitives_of self.now.tables).faces f absent_face).ring_ptr }
     {
-        number_in_row(&self.fac.table, &self.fac.ring_ptr, f)
+        number_in_row(&self.views.fac, &self.columns.ring_ptr, f)
     }
 
     /// The face of a ring, and the edge where its walk starts.
@@ -135,9 +155,8 @@ impl<'a> Tile<'a> {
         ensures face { result.0 ≡ id_of (kth (primitives_of self.now.tables).rings r absent_ring).face }
         ensures edge { result.1 ≡ id_of (kth (primitives_of self.now.tables).rings r absent_ring).start_edge }
     {
-        let rings = &self.rng;
-        let face = number_in_row(&rings.table, &rings.face_id, r);
-        let edge = number_in_row(&rings.table, &rings.start_edge, r);
+        let face = number_in_row(&self.views.rng, &self.columns.face_id, r);
+        let edge = number_in_row(&self.views.rng, &self.columns.start_edge, r);
         (face, edge)
     }
 
@@ -146,7 +165,7 @@ impl<'a> Tile<'a> {
         requires { IsRowOf (length (primitives_of self.now.tables).nodes) n }
         ensures { result ≡ id_of (kth (primitives_of self.now.tables).nodes n absent_node).first_edge }
     {
-        number_in_row(&self.cnd.table, &self.cnd.first_edge, n)
+        number_in_row(&self.views.cnd, &self.columns.first_edge, n)
     }
 
     /// The face that an entity node lies in.
@@ -154,9 +173,9 @@ impl<'a> Tile<'a> {
         requires { IsRowOf (length (entities_in (Some (primitives_of self.now.tables)))) n }
         ensures { result ≡ id_of (kth (entities_in (Some (primitives_of self.now.tables))) n absent_entity).containing_face }
     {
-        match &self.end {
-            Some(end) => number_in_row(&end.table, &end.containing_face, n),
-            None => 0,
+        match (&self.views.end, &self.columns.containing_face) {
+            (Some(end), Some(column)) => number_in_row(end, column, n),
+            _ => 0,
         }
     }
 
@@ -164,9 +183,9 @@ impl<'a> Tile<'a> {
     pub fn own_edges(&self, alloc: Global) -> Result<Vec<Edge>, AllocError>
         ensures { IfOk result (λ edges. edges.items ≡ own_edges (primitives_of self.now.tables)) }
     {
-        let mut edges = Vec::with_capacity(alloc, self.edg.len() as usize)?;
-        for row in self.edg.rows() {
-            edges.push(self.columns.numbers(&row))?;
+        let mut edges = Vec::with_capacity(alloc, self.views.edg.len() as usize)?;
+        for row in self.views.edg.rows() {
+            edges.push(self.columns.edges.numbers(&row))?;
         }
         Ok(edges)
     }
@@ -175,7 +194,9 @@ impl<'a> Tile<'a> {
     pub fn edge_columns(&self, number: u32) -> EdgeColumns<'a>
         ensures { result ≡ edge_columns (edg_at number self.now) self.now.tables.edg.head.columns }
     {
-        self.columns.in_table(self.table_at(number, TableName::Edg))
+        self.columns
+            .edges
+            .in_table(self.table_at(number, TableName::Edg))
     }
 
     /// The table of this name, or nothing where the tile has no such table.
@@ -183,14 +204,11 @@ impl<'a> Tile<'a> {
         ensures { option_map (λ t. t.now) result ≡ table_named self.now name }
     {
         match name {
-            TableName::Edg => Some(&self.edg),
-            TableName::Fac => Some(&self.fac.table),
-            TableName::Rng => Some(&self.rng.table),
-            TableName::Cnd => Some(&self.cnd.table),
-            TableName::End => match &self.end {
-                Some(end) => Some(&end.table),
-                None => None,
-            },
+            TableName::Edg => Some(&self.views.edg),
+            TableName::Fac => Some(&self.views.fac),
+            TableName::Rng => Some(&self.views.rng),
+            TableName::Cnd => Some(&self.views.cnd),
+            TableName::End => self.views.end.as_ref(),
             _ => None,
         }
     }
@@ -200,7 +218,7 @@ impl<'a> Tile<'a> {
         ensures value { result ≡ fac_file self.now }
         ensures few { result < 2 ^ 31 + 2 }
     {
-        self.first + files_of(&self.edg)
+        self.first + files_of(&self.views.edg)
     }
 
     /// Where the file of rings stands.
@@ -208,7 +226,7 @@ impl<'a> Tile<'a> {
         ensures value { result ≡ rng_file self.now }
         ensures few { result < 2 ^ 31 + 4 }
     {
-        self.fac_file() + files_of(&self.fac.table)
+        self.fac_file() + files_of(&self.views.fac)
     }
 
     /// Where the file of connected nodes stands.
@@ -216,14 +234,14 @@ impl<'a> Tile<'a> {
         ensures value { result ≡ cnd_file self.now }
         ensures few { result < 2 ^ 31 + 6 }
     {
-        self.rng_file() + files_of(&self.rng.table)
+        self.rng_file() + files_of(&self.views.rng)
     }
 
     /// Where the file of entity nodes stands, or would.
     fn end_file(&self) -> u32
         ensures { result ≡ end_file self.now }
     {
-        self.cnd_file() + files_of(&self.cnd.table)
+        self.cnd_file() + files_of(&self.views.cnd)
     }
 
     /// Where the file of the table of this name stands, whether the tile has it or not: 0 for a name that no tile has.
@@ -266,10 +284,10 @@ impl<'a> Tile<'a> {
         ensures { result.now ≡ cited_grid self.now.tables citation }
     {
         match citation {
-            Citation::RingPtr => &self.fac.table,
-            Citation::FaceId | Citation::StartEdge => &self.rng.table,
-            Citation::FirstEdge => &self.cnd.table,
-            _ => &self.edg,
+            Citation::RingPtr => &self.views.fac,
+            Citation::FaceId | Citation::StartEdge => &self.views.rng,
+            Citation::FirstEdge => &self.views.cnd,
+            _ => &self.views.edg,
         }
     }
 
@@ -279,17 +297,17 @@ impl<'a> Tile<'a> {
         ensures within { IsWithin (length (cited_grid self.now.tables citation).head.columns) (role_at result) }
     {
         match citation {
-            Citation::StartNode => self.columns.start_node(),
-            Citation::EndNode => self.columns.end_node(),
-            Citation::RightFace => self.columns.right_face(),
-            Citation::LeftFace => self.columns.left_face(),
-            Citation::RightEdge => self.columns.right_edge(),
-            Citation::LeftEdge => self.columns.left_edge(),
-            Citation::TileLine => self.columns.tile_line(),
-            Citation::RingPtr => self.fac.ring_ptr,
-            Citation::FaceId => self.rng.face_id,
-            Citation::StartEdge => self.rng.start_edge,
-            Citation::FirstEdge => self.cnd.first_edge,
+            Citation::StartNode => self.columns.edges.start_node(),
+            Citation::EndNode => self.columns.edges.end_node(),
+            Citation::RightFace => self.columns.edges.right_face(),
+            Citation::LeftFace => self.columns.edges.left_face(),
+            Citation::RightEdge => self.columns.edges.right_edge(),
+            Citation::LeftEdge => self.columns.edges.left_edge(),
+            Citation::TileLine => self.columns.edges.tile_line(),
+            Citation::RingPtr => self.columns.ring_ptr,
+            Citation::FaceId => self.columns.face_id,
+            Citation::StartEdge => self.columns.start_edge,
+            Citation::FirstEdge => self.columns.first_edge,
         }
     }
 

@@ -13,7 +13,7 @@ mod texts;
 mod verdict;
 
 pub use columns::place_of;
-pub use disagreeing::disagreement;
+pub use disagreeing::{disagreement, kept_disagreement};
 pub use halting::{Halt, Stop, settle};
 pub use loading::{optional_file, required_file};
 pub use making::{file_of, makes};

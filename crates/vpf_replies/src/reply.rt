@@ -5,23 +5,22 @@ ghost use Rattle.std.specs.Prelude.{◌≡◌};
 use crate::verdict::Verdict;
 use std::alloc::Global;
 use std::marker::Model;
-use vpf_source::File;
+use vpf_source::{Bytes, File};
 
 /// How a run ends where nothing stops it, all that it prints, and the files that it makes before that.
 #[derive(Debug, Drop)]
 pub struct Reply {
     verdict: Verdict,
-    text: String,
+    text: Bytes,
     made: Vec<File>,
 }
 
 impl Model for Reply {
-    ghost use Rattle.std.specs.Prelude.{string_bytes};
     ghost use Rattle.vpf_replies.specs.Answer.{Answer};
 
     ghost Value = { Answer };
 
-    ghost view = { λ r. record { verdict = r.verdict; text = string_bytes r.text; made = r.made.items } };
+    ghost view = { λ r. record { verdict = r.verdict; text = r.text; made = r.made.items } };
 }
 
 impl Reply {
@@ -30,6 +29,13 @@ impl Reply {
     /// A reply that makes no file.
     pub fn new(alloc: Global, verdict: Verdict, text: String) -> Self
         ensures { result ≡ record { verdict = verdict; text = string_bytes text; made = [] } }
+    {
+        Reply::of_bytes(alloc, verdict, Bytes::new(text.into_bytes()))
+    }
+
+    /// A reply that prints these bytes and makes no file.
+    pub fn of_bytes(alloc: Global, verdict: Verdict, text: Bytes) -> Self
+        ensures { result ≡ record { verdict = verdict; text = text; made = [] } }
     {
         Reply {
             verdict,
@@ -44,7 +50,7 @@ impl Reply {
     {
         Reply {
             verdict: Verdict::Done,
-            text,
+            text: Bytes::new(text.into_bytes()),
             made,
         }
     }
@@ -57,10 +63,10 @@ impl Reply {
     }
 
     /// All that is printed.
-    pub fn text(&self) -> &str
+    pub fn text(&self) -> &[u8]
         ensures { result.now ≡ self.now.text }
     {
-        self.text.as_str()
+        self.text.as_slice()
     }
 
     /// The files to be made, in their order.

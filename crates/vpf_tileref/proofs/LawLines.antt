@@ -16,7 +16,7 @@ use Rattle.vpf_prims.specs.Numbering.{IsRowOf}
 use Rattle.vpf_prims.specs.Reading.{natural_in}
 use Rattle.vpf_prims.specs.References.{cell_at, is_same, signed_in}
 use Rattle.vpf_prims.specs.Suiting.{SuitsRole}
-use Rattle.vpf_prims.specs.TableLines.{no_rows_line}
+use Rattle.vpf_prims.specs.Lines.{no_rows_line}
 use Rattle.vpf_tileref.specs.Numbered.{most_tiles}
 use Rattle.vpf_tileref.specs.Tileref.{tile_columns_finding, tileref_at}
 

@@ -13,7 +13,7 @@ use Rattle.vpf_prims.specs.Lists.{kth}
 use Rattle.vpf_prims.specs.Numbering.{IsRowOf}
 use Rattle.vpf_prims.specs.Reading.{natural_in}
 use Rattle.vpf_prims.specs.References.{cell_at}
-use Rattle.vpf_prims.specs.RowLines.{id_column}
+use Rattle.vpf_prims.specs.Columns.{id_column}
 use Rattle.vpf_tileref.specs.Paths.{TilePath, is_path, IsPath}
 use Rattle.vpf_tileref.specs.Numbered.{most_tiles}
 use Rattle.vpf_tileref.specs.Tileref.{is_taken, name_column, paths_of, row_path}

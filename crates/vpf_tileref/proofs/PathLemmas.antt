@@ -2,7 +2,7 @@
 use Rattle.std.proofs.Common.{◌≡◌, ℕ, zero, suc, ◌-◌, ◌≤◌, Some, List, map, slice_get, ap, sym, subst, ◌∙◌, arith}
 use Rattle.std.specs.Option.{option_map}
 use Rattle.std.proofs.lemmas.Option.{slice_get-map}
-use Rattle.vpf_tileref.specs.Numbered.{numbered_path}
+use Rattle.vpf_prims.specs.Coverages.{numbered_path}
 
 -- what stands at a place is the path of the tile of the next number
 pub numbered_found : {S : Type 0} (text : S → List ℕ) (keys : List S) (paths : List (List ℕ)) (t place : ℕ) (key : S)

@@ -10,15 +10,14 @@ use Rattle.vpf_findings.specs.Findings.{CellSeen, WordSeen, Disagreement}
 use Rattle.vpf_findings.specs.Firsts.{◌or◌, unless, first_of_rows}
 use Rattle.vpf_prims.specs.declared.placing.TableAt.{TableAt}
 use Rattle.vpf_prims.specs.Roles.{number_role, text_role, tileref_roles}
-use Rattle.vpf_prims.specs.Columns.{RoleAt, role_column, role_line, columns_finding, in_table}
+use Rattle.vpf_prims.specs.Columns.{RoleAt, id_column, role_column, role_line, columns_finding, in_table}
 use Rattle.vpf_prims.specs.Lines.{id_line}
 use Rattle.vpf_prims.specs.Lists.{kth}
 use Rattle.vpf_prims.specs.Numbering.{IsRowOf}
 use Rattle.vpf_prims.specs.Reading.{named_cell, natural_in}
 use Rattle.vpf_prims.specs.References.{cell_at}
-use Rattle.vpf_prims.specs.RowLines.{id_column}
 use Rattle.vpf_prims.specs.Suiting.{HasRoles}
-use Rattle.vpf_prims.specs.TableLines.{no_rows_line}
+use Rattle.vpf_prims.specs.Lines.{no_rows_line}
 use Rattle.vpf_tileref.specs.Numbered.{most_tiles}
 use Rattle.vpf_tileref.specs.Paths.{TilePath, path_of, is_path, same_path, IsPath}
 

@@ -26,7 +26,8 @@ impl Model for TilePaths {
 impl TilePaths {
     ghost use Rattle.std.specs.Prelude.{◌≡◌, ◌≤◌, ◌==◌, length};
     ghost use Rattle.std.specs.Option.{option_map};
-    ghost use Rattle.vpf_tileref.specs.Numbered.{most_tiles, numbered_path};
+    ghost use Rattle.vpf_prims.specs.Coverages.{numbered_path};
+    ghost use Rattle.vpf_tileref.specs.Numbered.{most_tiles};
     ghost use Rattle.vpf_tileref.specs.Texts.{texts_in};
 
     /// These paths, of at most 65,535 tiles.

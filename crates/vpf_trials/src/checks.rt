@@ -172,7 +172,7 @@ fn check_prints(
     let Ok(reply) = check(alloc, &request, tree) else {
         return Err("stopped")?;
     };
-    assert_eq!(rt; reply.text(), text);
+    assert_eq!(rt; reply.text(), text.as_bytes());
     assert_eq!(rt; reply.verdict(), verdict, "{text}");
     Ok(())
 }
@@ -317,7 +317,7 @@ fn takes_triplet_ids(rt: HostRuntime) -> Result<(), Fail> {
 
 /// The files that are there, in reading order, of which the last is cut to its length number; and what is printed.
 const FILES: [(&[&str], &str); 5] = [
-    (&[], "refused missing lib/cov/edg\n"),
+    (&[], "refused missing lib/tileref/tileref.aft\n"),
     (&["edg"], "refused header-cut lib/cov/edg at 4\n"),
     (&["edg", "fac"], "refused header-cut lib/cov/fac at 4\n"),
     (

@@ -9,4 +9,8 @@ mod checks;
 #[cfg(test)]
 mod coverages;
 #[cfg(test)]
+mod libraries;
+#[cfg(test)]
+mod tiled;
+#[cfg(test)]
 mod tiles;

@@ -3,9 +3,11 @@
 use std::alloc::{AllocError, Global};
 use std::process::Abort;
 use std::test::Fail;
+use vpf_coverage::open_coverage;
 use vpf_darts::Dart;
 use vpf_findings::TableName;
-use vpf_prims::{Tile, load_coverage, open_coverage};
+use vpf_loading::load_coverage;
+use vpf_prims::Tile;
 use vpf_source::MemTree;
 use vpf_wing::{check_loops, check_tile, next_local};
 

@@ -1,23 +1,20 @@
 -- There is no finding on a tile, or on an untiled coverage, exactly where it is well formed.
-use Rattle.std.proofs.Common.{◌≡◌, ℕ, ◌^◌, ◌<◌, Option, None, Some, List, map, refl, sym, ap, ◌∙◌, arith}
-use Rattle.std.proofs.lemmas.List.{length-map}
+use Rattle.std.proofs.Common.{◌≡◌, ℕ, Option, None, Some, List, map, sym, ap, ◌∙◌}
 use Rattle.vpf_findings.specs.Findings.{Disagreement}
 use Rattle.vpf_findings.specs.Firsts.{◌or◌, first_of_rows}
 use Rattle.vpf_findings.specs.FirstLaws.{or-none_both}
 use Rattle.vpf_prims.specs.declared.rows.Edge.{Edge}
 use Rattle.vpf_prims.specs.References.{id_of}
-use Rattle.vpf_prims.specs.Primitives.{FacePrimitive, NodePrimitive, Primitives, Library, untiled, edges_in, faces_in, rings_in, nodes_in, edge_count, ring_count, own_edge}
+use Rattle.vpf_prims.specs.Primitives.{FacePrimitive, NodePrimitive, Primitives, Library, edges_in, faces_in, rings_in, nodes_in, ring_count, own_edge}
 use Rattle.vpf_prims.specs.Numbering.{IsRowOf, IsNumbered}
-use Rattle.vpf_prims.specs.Reading.{primitives_of, edge_in_row}
+use Rattle.vpf_prims.specs.Reading.{primitives_of}
 use Rattle.vpf_prims.specs.Tables.{TileTables}
-use Rattle.vpf_prims.specs.TableLines.{numbers_finding}
-use Rattle.vpf_prims.specs.Laws.{NumbersDecide}
 use Rattle.vpf_wing.specs.declared.rings.Ring.{Ring}
 use Rattle.vpf_wing.specs.Nexts.{MakeMap}
 use Rattle.vpf_wing.specs.Wings.{wings_finding}
-use Rattle.vpf_wing.specs.CycleLines.{tile_columns, wing_cell, sides_line, own_ring, rings_finding, node_lines, cycles_finding, loops_finding}
+use Rattle.vpf_wing.specs.CycleLines.{tile_columns, wing_cell, sides_line, own_ring, rings_finding, node_lines, cycles_finding}
 use Rattle.vpf_wing.specs.WellFormed.{StartsRing, HasCycles}
-use Rattle.vpf_wing.specs.Laws.{CyclesDecide, UntiledDecides}
+use Rattle.vpf_wing.specs.Laws.{CyclesDecide}
 use Rattle.vpf_wing.proofs.MapLemmas.{map_has_none}
 use Rattle.vpf_wing.proofs.MapLemmas as maps
 use Rattle.vpf_wing.proofs.LawRows.{none_both}
@@ -29,7 +26,6 @@ use Rattle.vpf_wing.proofs.LawNodes.{nodes_line, names_edge, turn_together, node
 use Rattle.vpf_wing.proofs.LawCycles.{sides_lines, have_nexts, nexts_apart, makes_map, sides_together, pairs_by_lines, pairs_by_sides, sides_silent}
 use Rattle.vpf_wing.proofs.LawRings.{PairsTogether, rings_of, ring_at, ring_cycle_is, ring_start_some, starts_at}
 use Rattle.vpf_wing.proofs.LawRounds.{RingHolds, pointers_of, pointer_lines, ringless_lines, rings_lines, names_ring, pointers_silent, ring_holds, rings_silent, rings_start, cycles_have_rings, ringless_silent, rings_once, once_from, rings_together, apart_from}
-use Rattle.vpf_wing.proofs.LawLoops.{loops_decide}
 
 -- the finding on a tile by its own numbers
 abbrev finding_by : ℕ → TileTables → List Edge → (pointers : List ℕ) → List Ring → (firsts : List ℕ) → Option Disagreement
@@ -122,17 +118,4 @@ cycles_decide L t T e last few numbered =
     let is : cycles_finding t T ≡ finding_in t T (L.tile t) = finding_is L t T e in (
       λ none. has_cycles L t T tile numbered (no_lines L t T (sym is ∙ none)),
       λ h. is ∙ no_finding L t T (cycles_have_none L t T tile numbered h),
-    )
-
-pub untiled_from_numbers : NumbersDecide → UntiledDecides
-untiled_from_numbers law T few =
-    let L : Library = untiled (primitives_of T.tables) in
-    let few' : edge_count (untiled (primitives_of T.tables)) 0 < 2 ^ 24 = rw (length-map T.tables.edg.rows (edge_in_row T.tables.edg.head.columns)) few in
-    let cycles : IsNumbered L 0 → _ = λ numbered. cycles_decide (untiled (primitives_of T.tables)) 0 T refl (omega arith) few' numbered in (
-      λ none. (
-          let a = or-none_both (numbers_finding 0 T) (loops_finding 0 T or cycles_finding 0 T) none in
-          let b = or-none_both (loops_finding 0 T) (cycles_finding 0 T) a.1 in
-          let n = (law 0 T).0 a.0 in
-          (n.0, record { numbered = n.1; loops = (loops_decide T few).0 b.0; cycles = (cycles n.1).0 b.1 })),
-      λ h. none_both _ _ ((law 0 T).1 (h.0, h.1.numbered)) (none_both _ _ ((loops_decide T few).1 h.1.loops) ((cycles h.1.numbered).1 h.1.cycles)),
     )

@@ -15,7 +15,6 @@ use Rattle.vpf_prims.specs.Edges.{EdgesAt, edge_columns}
 use Rattle.vpf_prims.specs.Primitives.{FacePrimitive, RingPrimitive, NodePrimitive, Primitives, own_edges}
 use Rattle.vpf_prims.specs.Reading.{PrimitiveTables, primitives_of}
 use Rattle.vpf_prims.specs.Tables.{TileTables, edg_at, at_citation, cited_cell, cited_column}
-use Rattle.vpf_prims.specs.TableLines.{numbers_finding}
 use Rattle.vpf_wing.specs.declared.rings.Ring.{Ring}
 use Rattle.vpf_wing.specs.Nexts.{dart_at, edge_at, face}
 use Rattle.vpf_wing.specs.Places.{least_place, place_seen, tails, turn_size}
@@ -155,7 +154,3 @@ cycles_finding t T =
     or first_of_rows (sides_line t T edges) 1 edges
     or rings_finding t T edges (own_pointers c) (own_rings c)
     or first_of_rows (node_lines t T edges) 1 (own_first_edges c)
-
--- the first finding on an untiled coverage
-abbrev pub untiled_finding : TileTables → Option Disagreement
-untiled_finding T = numbers_finding 0 T or loops_finding 0 T or cycles_finding 0 T

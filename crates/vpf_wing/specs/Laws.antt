@@ -10,11 +10,10 @@ use Rattle.vpf_prims.specs.Edges.{EdgesAt, HaveWings}
 use Rattle.vpf_prims.specs.Primitives.{Library, Primitives, edge_count, untiled}
 use Rattle.vpf_prims.specs.Numbering.{IsNumbered}
 use Rattle.vpf_prims.specs.Reading.{primitives_of}
-use Rattle.vpf_prims.specs.Suiting.{HasColumns}
 use Rattle.vpf_prims.specs.Tables.{TileTables}
 use Rattle.vpf_wing.specs.Links.{links_of, local_map}
 use Rattle.vpf_wing.specs.WellFormed.{HasCycles, HasLoops, IsWellFormed}
-use Rattle.vpf_wing.specs.CycleLines.{cycles_finding, loops_finding, untiled_finding}
+use Rattle.vpf_wing.specs.CycleLines.{cycles_finding, loops_finding}
 use Rattle.vpf_wing.specs.Nexts.{MakeMap}
 use Rattle.vpf_wing.specs.Wings.{wings_finding}
 use Rattle.vpf_wing.specs.Boundaries.{table_edges, table_finding, map_of, IsBoundaryListing}
@@ -47,10 +46,6 @@ CyclesDecide = (L : Library) (t : ℕ) (T : TileTables) → L.tile t ≡ Some (p
 -- there is no finding on the loops of an untiled coverage exactly where they have two faces
 abbrev pub LoopsDecide : Type 0
 LoopsDecide = (T : TileTables) → length T.tables.edg.rows < 2 ^ 24 → (loops_finding 0 T ≡ None) ↔ HasLoops (links_of (untiled (primitives_of T.tables)))
-
--- there is no finding on an untiled coverage exactly where its columns are right and it is well formed
-abbrev pub UntiledDecides : Type 0
-UntiledDecides = (T : TileTables) → length T.tables.edg.rows < 2 ^ 24 → (untiled_finding T ≡ None) ↔ (HasColumns T.tables × IsWellFormed (primitives_of T.tables))
 
 -- a well-formed coverage is a combinatorial map
 abbrev pub WellFormedHasMap : Type 0

@@ -25,7 +25,7 @@ fn darts_of<'a>(alloc: Global, tile: &Tile<'a>, number: u32) -> Result<Darts, Fi
 {
     // It has few edges, and what its rows name is there.
     let _count = tile.edges();
-    tile.has_numbers();
+    tile.names_its_own();
     no_finding_where_a_map_is_made();
     let edges = tile.own_edges(alloc)?;
     let columns = tile.edge_columns(number);

@@ -1,9 +1,9 @@
 //! What is so of the wings of all edges, of every edge table, and of every tile whose cycles are looked at.
 
 ghost use Rattle.vpf_wing.specs.Laws.{CyclesDecide, EdgesAreMap, HasBoundaryListing, LoopsDecide, MadeMapIsMap};
-ghost use Rattle.vpf_wing.specs.Laws.{NoFindingWhereMapIsMade, OneBoundaryListing, UntiledDecides, WellFormedHasMap};
+ghost use Rattle.vpf_wing.specs.Laws.{NoFindingWhereMapIsMade, OneBoundaryListing, WellFormedHasMap};
 
-use vpf_prims::laws::{numbers_decide, rows_have_wings};
+use vpf_prims::laws::rows_have_wings;
 
 /// There is no finding on wings exactly where each dart has one next dart and no two the same; and then the edges are a map.
 pub fn no_finding_where_a_map_is_made()
@@ -36,10 +36,3 @@ pub fn loops_decide()
 pub fn cycles_decide()
     ensures { CyclesDecide }
 {}
-
-/// There is no finding on an untiled coverage exactly where its columns are right and it is well formed.
-pub fn untiled_decides()
-    ensures { UntiledDecides }
-{
-    numbers_decide();
-}

@@ -178,7 +178,7 @@ fn check_node_rows<'a>(
     requires tails { nodes.now ≡ tails darts.now }
     ensures { Finds result (first_of_rows (node_lines number tile.now darts.now) 1 (own_first_edges (primitives_of tile.now.tables))) }
 {
-    tile.has_numbers();
+    tile.names_its_own();
     for k in 0..tile.nodes() {
         check_node(tile, number, darts, nodes, k + 1, tile.first_edge(k + 1))?;
     }
@@ -195,7 +195,7 @@ pub fn check_nodes<'a>(
     requires { darts.now ≡ own_edges (primitives_of tile.now.tables) }
     ensures { Tells result (first_of_rows (node_lines number tile.now darts.now) 1 (own_first_edges (primitives_of tile.now.tables))) }
 {
-    tile.has_numbers();
+    tile.names_its_own();
     let nodes = Tails::new(alloc, darts, tile.nodes())?;
     check_node_rows(tile, number, darts, &nodes)?;
     Ok(())

@@ -298,7 +298,7 @@ pub fn check_rings<'a>(
     ensures { Tells result (rings_finding number tile.now cycles.now (own_pointers (primitives_of tile.now.tables)) (own_rings
         (primitives_of tile.now.tables))) }
 {
-    tile.has_numbers();
+    tile.names_its_own();
     let rings = rings_of(alloc, tile)?;
     let faces = FirstByNumber::new(alloc, faces_of(alloc, &rings)?, tile.faces())?;
     let darts = 2 * cycles.edges().len() as u32;

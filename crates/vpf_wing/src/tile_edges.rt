@@ -85,7 +85,7 @@ pub fn next_local(tile: &Tile<'_>, dart: Dart) -> Option<Dart>
     requires { IsRowOf (length (primitives_of tile.now.tables).edges) dart.edge }
     ensures { result ≡ next_dart (own_edges (primitives_of tile.now.tables)) dart }
 {
-    tile.has_numbers();
+    tile.names_its_own();
     next_dart(&RowEdges { tile }, dart)
 }
 

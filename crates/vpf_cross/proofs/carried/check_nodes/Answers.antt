@@ -1,7 +1,7 @@
 use Rattle.std.proofs.Common.{◌<◌, length, sym, ◌∙◌, arith}
 use Rattle.std.proofs.lemmas.Result.{err_from_is_err_and}
 use Rattle.vpf_prims.specs.Reading.{primitives_of}
-use Rattle.vpf_follow.specs.Libraries.{library_of}
+use Rattle.vpf_prims.specs.Libraries.{library_of}
 use Rattle.vpf_cross.specs.CarriedLines.{nodes_lines}
 use Rattle.vpf_cross.proofs.LoopLemmas.{stop_edge}
 use Rattle.vpf_cross.proofs.carried.check_nodes.Goals as goal

@@ -1,5 +1,6 @@
 use Rattle.std.proofs.Common.{◌≡◌}
-use Rattle.vpf_follow.specs.Libraries.{library_of, over_edges}
+use Rattle.vpf_prims.specs.Libraries.{library_of}
+use Rattle.vpf_follow.specs.Libraries.{over_edges}
 use Rattle.vpf_cross.specs.CarriedLines.{nodes_lines}
 use Rattle.vpf_cross.proofs.LoopLemmas.{edges_left}
 use Rattle.vpf_cross.proofs.carried.check_nodes.Given as goal

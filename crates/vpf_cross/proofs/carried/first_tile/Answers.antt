@@ -3,7 +3,7 @@ use Rattle.vpf_prims.specs.declared.tile.Tile.{Tile}
 use Rattle.vpf_prims.specs.Coverages.{last_tile}
 use Rattle.vpf_prims.specs.Primitives.{has_tables}
 use Rattle.std.specs.Borrow.{Bor}
-use Rattle.vpf_follow.specs.Libraries.{library_of}
+use Rattle.vpf_prims.specs.Libraries.{library_of}
 use Rattle.vpf_cross.specs.CarriedLines.{first_tile}
 use Rattle.vpf_cross.proofs.CarriedLemmas.{first_found, first_none, first_passed, tables_there}
 use Rattle.vpf_cross.proofs.carried.first_tile.Goals as goal

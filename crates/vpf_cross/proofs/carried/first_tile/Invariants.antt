@@ -1,7 +1,7 @@
 use Rattle.std.proofs.Common.{◌≡◌, ◌+◌, ◌-◌}
 use Rattle.vpf_prims.specs.Coverages.{last_tile}
 use Rattle.vpf_prims.specs.Primitives.{has_tables}
-use Rattle.vpf_follow.specs.Libraries.{library_of}
+use Rattle.vpf_prims.specs.Libraries.{library_of}
 use Rattle.vpf_cross.specs.CarriedLines.{first_passing}
 use Rattle.vpf_cross.proofs.carried.first_tile.Given as goal
 

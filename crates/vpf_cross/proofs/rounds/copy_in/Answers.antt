@@ -1,7 +1,7 @@
 use Rattle.std.proofs.Common.{◌≡◌, ◌<◌, ◌^◌, sym, ap, ◌∙◌, arith}
 use Rattle.vpf_darts.specs.Darts.{flip, tile_in, tile_dart_code}
 use Rattle.vpf_follow.specs.Following.{home_copy}
-use Rattle.vpf_follow.specs.Libraries.{library_of}
+use Rattle.vpf_prims.specs.Libraries.{library_of}
 use Rattle.vpf_cross.specs.HomeLines.{coverage_links}
 use Rattle.vpf_cross.proofs.AgreeLemmas.{have_copies}
 use Rattle.vpf_cross.proofs.CopyLemmas.{HaveCopies, copy_absent, copy_here, copy_there}

@@ -11,7 +11,7 @@ returns-in_err-next c =
     let last = tile_within c.args.followed.now c.args.dart.tile c.args.tile.now c.requires.tile in
     let low : c.args.dart.tile ≤ last_tile c.args.followed.now = omega arith in
     let few : length (primitives_of c.args.tile.now.tables).edges < 2 ^ 24 = omega (arith, c.edges-edges.ensures.value, c.edges-edges.ensures.few) in
-    let local = local_next_is c.args.followed.now c.args.dart.tile c.args.tile.now c.args.dart.edge c.args.dart.minus c.requires.tile low few c.has_numbers.ensures c.requires.row in
+    let local = local_next_is c.args.followed.now c.args.dart.tile c.args.tile.now c.args.dart.edge c.args.dart.minus c.requires.tile low few c.names_its_own.ensures c.requires.row in
     rw c.from_residual.ensures (sym (local ∙ ap (option_map (number_in c.args.dart.tile)) (sym c.in_err-next.ensures)))
 
 pub returns : goal.returns
@@ -19,5 +19,5 @@ returns c =
     let last = tile_within c.args.followed.now c.args.dart.tile c.args.tile.now c.requires.tile in
     let low : c.args.dart.tile ≤ last_tile c.args.followed.now = omega arith in
     let few : length (primitives_of c.args.tile.now.tables).edges < 2 ^ 24 = omega (arith, c.edges-edges.ensures.value, c.edges-edges.ensures.few) in
-    let local = local_next_is c.args.followed.now c.args.dart.tile c.args.tile.now c.args.dart.edge c.args.dart.minus c.requires.tile low few c.has_numbers.ensures c.requires.row in
+    let local = local_next_is c.args.followed.now c.args.dart.tile c.args.tile.now c.args.dart.edge c.args.dart.minus c.requires.tile low few c.names_its_own.ensures c.requires.row in
     sym (local ∙ ap (option_map (number_in c.args.dart.tile)) (sym c.in_ok-next.ensures))

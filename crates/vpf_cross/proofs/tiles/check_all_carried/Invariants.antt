@@ -1,5 +1,5 @@
 use Rattle.std.proofs.Common.{◌≡◌}
-use Rattle.vpf_follow.specs.Libraries.{in_tiles, library_of}
+use Rattle.vpf_prims.specs.Libraries.{in_tiles, library_of}
 use Rattle.vpf_cross.specs.CarriedLines.{carried_finding}
 use Rattle.vpf_cross.proofs.LoopLemmas.{tiles_left}
 use Rattle.vpf_cross.proofs.tiles.check_all_carried.Given as goal

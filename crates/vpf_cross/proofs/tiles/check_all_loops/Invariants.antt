@@ -1,6 +1,6 @@
 use Rattle.std.proofs.Common.{◌≡◌}
 use Rattle.vpf_wing.specs.CycleLines.{loops_finding}
-use Rattle.vpf_follow.specs.Libraries.{in_tiles}
+use Rattle.vpf_prims.specs.Libraries.{in_tiles}
 use Rattle.vpf_cross.proofs.LoopLemmas.{tiles_left}
 use Rattle.vpf_cross.proofs.tiles.check_all_loops.Given as goal
 

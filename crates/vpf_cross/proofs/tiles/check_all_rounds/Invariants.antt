@@ -1,5 +1,5 @@
 use Rattle.std.proofs.Common.{◌≡◌}
-use Rattle.vpf_follow.specs.Libraries.{in_tiles}
+use Rattle.vpf_prims.specs.Libraries.{in_tiles}
 use Rattle.vpf_cross.specs.HomeLines.{coverage_links}
 use Rattle.vpf_cross.specs.RoundLines.{rounds_finding}
 use Rattle.vpf_cross.proofs.LoopLemmas.{tiles_left}

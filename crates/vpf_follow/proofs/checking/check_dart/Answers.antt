@@ -5,7 +5,7 @@ use Rattle.vpf_prims.specs.Primitives.{edge_count}
 use Rattle.vpf_wing.specs.Links.{links_of}
 use Rattle.vpf_follow.specs.FollowLines.{at_wing_of}
 use Rattle.vpf_follow.specs.Homes.{darts_before, first_followed}
-use Rattle.vpf_follow.specs.Libraries.{library_of}
+use Rattle.vpf_prims.specs.Libraries.{library_of}
 use Rattle.vpf_follow.proofs.CheckLemmas.{dart_in, said_home}
 use Rattle.vpf_follow.proofs.HomeLemmas.{home_put}
 use Rattle.vpf_follow.proofs.checking.check_dart.Goals as goal

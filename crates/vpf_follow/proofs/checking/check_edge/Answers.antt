@@ -2,7 +2,7 @@ use Rattle.std.proofs.Common.{ℕ, List, OnOk, subst}
 use Rattle.vpf_prims.specs.Primitives.{edge_count}
 use Rattle.vpf_wing.specs.Links.{links_of}
 use Rattle.vpf_follow.specs.Homes.{AreHomes}
-use Rattle.vpf_follow.specs.Libraries.{library_of}
+use Rattle.vpf_prims.specs.Libraries.{library_of}
 use Rattle.vpf_follow.proofs.ListLemmas.{darts_after}
 use Rattle.vpf_follow.proofs.checking.check_edge.Goals as goal
 

@@ -3,7 +3,7 @@ use Rattle.vpf_prims.specs.Primitives.{edge_count}
 use Rattle.vpf_wing.specs.Links.{links_of}
 use Rattle.vpf_follow.specs.FollowLines.{follow_lines, follows_finding}
 use Rattle.vpf_follow.specs.Homes.{AreHomes, darts_to}
-use Rattle.vpf_follow.specs.Libraries.{library_of}
+use Rattle.vpf_prims.specs.Libraries.{library_of}
 use Rattle.vpf_follow.proofs.EdgeLines.{from_edge}
 use Rattle.vpf_follow.proofs.checking.check_edges.Given as goal
 

@@ -2,7 +2,7 @@ use Rattle.std.proofs.Common.{◌≡◌, ℕ, suc, ◌+◌, List, ap, sym, subst
 use Rattle.vpf_prims.specs.Primitives.{edge_count}
 use Rattle.vpf_wing.specs.Links.{links_of}
 use Rattle.vpf_follow.specs.Homes.{AreHomes, darts_to}
-use Rattle.vpf_follow.specs.Libraries.{library_of}
+use Rattle.vpf_prims.specs.Libraries.{library_of}
 use Rattle.vpf_follow.proofs.CoverageLemmas.{no_edges}
 use Rattle.vpf_follow.proofs.ListLemmas.{to_tile}
 use Rattle.vpf_follow.proofs.checking.check_tile.Goals as goal

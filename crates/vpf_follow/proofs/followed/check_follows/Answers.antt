@@ -5,7 +5,7 @@ use Rattle.vpf_prims.specs.Primitives.{edge_count}
 use Rattle.vpf_wing.specs.Links.{links_of, tile_darts}
 use Rattle.vpf_follow.specs.FollowLines.{follows_finding}
 use Rattle.vpf_follow.specs.Homes.{AreHomes, darts_to}
-use Rattle.vpf_follow.specs.Libraries.{library_of}
+use Rattle.vpf_prims.specs.Libraries.{library_of}
 use Rattle.vpf_follow.proofs.HomeLemmas.{home_none}
 use Rattle.vpf_follow.proofs.ListLemmas.{to_end, to_tile}
 use Rattle.vpf_follow.proofs.TileLines.{tiles_begin, tiles_end, tiles_pass, tiles_tell}

@@ -3,7 +3,7 @@ use Rattle.vpf_prims.specs.Primitives.{edge_count}
 use Rattle.vpf_wing.specs.Links.{links_of}
 use Rattle.vpf_follow.specs.FollowLines.{follows_finding}
 use Rattle.vpf_follow.specs.Homes.{AreHomes, darts_to}
-use Rattle.vpf_follow.specs.Libraries.{in_tiles, library_of}
+use Rattle.vpf_prims.specs.Libraries.{in_tiles, library_of}
 use Rattle.vpf_follow.proofs.TileLines.{from_tile}
 use Rattle.vpf_follow.proofs.followed.check_follows.Given as goal
 

@@ -1,7 +1,7 @@
 use Rattle.std.proofs.Common.{◌≡◌, ℕ, ◌*◌, ◌^◌, ◌<◌, ◌≤◌, length}
 use Rattle.vpf_prims.specs.Primitives.{edge_count}
 use Rattle.vpf_follow.specs.Homes.{darts_to}
-use Rattle.vpf_follow.specs.Libraries.{library_of}
+use Rattle.vpf_prims.specs.Libraries.{library_of}
 use Rattle.vpf_follow.proofs.followed.count_darts.Given as goal
 
 abbrev pub invariant-loop-t : goal.invariant-loop-t

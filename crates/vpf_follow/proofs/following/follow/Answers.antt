@@ -1,6 +1,6 @@
 use Rattle.std.proofs.Common.{◌≡◌, ◌<◌, ◌^◌, Option, None, Some, sym, ap, ◌∙◌, arith}
 use Rattle.vpf_wing.specs.Links.{links_of, link_of}
-use Rattle.vpf_follow.specs.Libraries.{library_of}
+use Rattle.vpf_prims.specs.Libraries.{library_of}
 use Rattle.vpf_follow.specs.Following.{face_beyond, follow_links}
 use Rattle.vpf_follow.specs.Rows.{row_node, row_wing}
 use Rattle.vpf_follow.proofs.RowLemmas.{follow_is, row_there}

@@ -1,7 +1,7 @@
 use Rattle.std.proofs.Common.{◌<◌, ◌^◌, sym, ap, ◌∙◌, arith}
 use Rattle.vpf_wing.specs.Links.{link_of}
 use Rattle.vpf_follow.specs.Following.{is_far_face}
-use Rattle.vpf_follow.specs.Libraries.{library_of}
+use Rattle.vpf_prims.specs.Libraries.{library_of}
 use Rattle.vpf_follow.proofs.CoverageLemmas.{ends_at_last}
 use Rattle.vpf_follow.proofs.RowLemmas.{outside_is, outside_none}
 use Rattle.vpf_follow.proofs.following.is_outside.Goals as goal

@@ -1,7 +1,7 @@
 use Rattle.std.proofs.Common.{◌<◌, ◌^◌, Some, sym, ap, ◌∙◌, arith}
 use Rattle.std.specs.Option.{option_map}
 use Rattle.vpf_darts.specs.Darts.{code, sign_of, tile_dart_code}
-use Rattle.vpf_follow.specs.Libraries.{library_of}
+use Rattle.vpf_prims.specs.Libraries.{library_of}
 use Rattle.vpf_follow.proofs.CoverageLemmas.{ends_at_last}
 use Rattle.vpf_follow.proofs.RowLemmas.{beq_same, beq_differ, only_none, only_both, only_one}
 use Rattle.vpf_follow.proofs.following.named_dart.Goals as goal

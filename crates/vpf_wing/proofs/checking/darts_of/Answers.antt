@@ -9,7 +9,7 @@ pub nexts-requires : goal.nexts-requires
 nexts-requires c =
     let few : length (own_edges (primitives_of c.args.tile.now.tables)) < 2 ^ 24 =
     omega (arith, length-map (primitives_of c.args.tile.now.tables).edges own_edge, c.edges-count.ensures.value, c.edges-count.ensures.few) in
-    λ _. rw c.new.ensures ((refl, tt), (few, wings_in c.args.tile.now c.has_numbers.ensures))
+    λ _. rw c.new.ensures ((refl, tt), (few, wings_in (primitives_of c.args.tile.now.tables) c.names_its_own.ensures))
 
 pub new-requires-2-clause-few : goal.new-requires-2-clause-few
 new-requires-2-clause-few c =

@@ -30,5 +30,5 @@ pub check_node-requires-clause-edge : goal.check_node-requires-clause-edge
 check_node-requires-clause-edge c =
     let nodes = (primitives_of c.args.tile.now.tables).nodes in
     let in' : c.loop-k.k < length nodes = omega (arith, c.nodes-k-end.ensures.value) in
-    let e = first_edge_in c.args.tile.now c.has_numbers.ensures (c.loop-k.k + 1) (omega arith, omega arith) in
+    let e = first_edge_in (primitives_of c.args.tile.now.tables) c.names_its_own.ensures (c.loop-k.k + 1) (omega arith, omega arith) in
     rw c.first_edge.ensures (subst (λ (es : List Edge). IsEdge (length es) (id_of (kth nodes (c.loop-k.k + 1) absent_node).first_edge)) (sym c.requires.edges) e)

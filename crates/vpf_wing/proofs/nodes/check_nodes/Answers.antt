@@ -9,6 +9,6 @@ use Rattle.vpf_wing.proofs.nodes.check_nodes.Goals as goal
 
 pub new-requires-clause-below : goal.new-requires-clause-below
 new-requires-clause-below c =
-    let all = tails_in c.args.tile.now c.has_numbers.ensures in
+    let all = tails_in (primitives_of c.args.tile.now.tables) c.names_its_own.ensures in
     subst (λ (es : List Edge). All (λ node. node ≤ c.nodes.result) (tails es)) (sym c.requires)
     (subst (λ (n : ℕ). All (λ node. node ≤ n) (tails (own_edges (primitives_of c.args.tile.now.tables)))) (sym c.nodes.ensures.value) all)

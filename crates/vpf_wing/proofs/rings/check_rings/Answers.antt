@@ -28,14 +28,14 @@ new-requires-clause-below c =
     let keys : c.in_ok-faces_of.field-0.items ≡ faces_of_rings (own_rings (primitives_of c.args.tile.now.tables)) =
     c.in_ok-faces_of.ensures ∙ ap faces_of_rings (c.deref.ensures.value ∙ rings) in
     subst (λ (xs : List ℕ). All (λ face. face ≤ c.faces.result) xs) (sym keys)
-    (subst (λ (n : ℕ). All (λ face. face ≤ n) (faces_of_rings R)) (sym c.faces.ensures.value) (faces_in T c.has_numbers.ensures))
+    (subst (λ (n : ℕ). All (λ face. face ≤ n) (faces_of_rings R)) (sym c.faces.ensures.value) (faces_in (primitives_of T.tables) c.names_its_own.ensures))
 
 pub cycles_of-requires : goal.cycles_of-requires
 cycles_of-requires c =
     let T = c.args.tile.now in
     let R = own_rings (primitives_of T.tables) in
     let rings : c.in_ok-rings.rings.items ≡ own_rings (primitives_of c.args.tile.now.tables) = c.in_ok-rings.ensures.rings in
-    let all = subst (λ (es : List Edge). All (λ (ring : Ring). IsEdge (length es) ring.start_edge) R) (sym c.requires) (starts_in T c.has_numbers.ensures) in
+    let all = subst (λ (es : List Edge). All (λ (ring : Ring). IsEdge (length es) ring.start_edge) R) (sym c.requires) (starts_in (primitives_of T.tables) c.names_its_own.ensures) in
     subst (λ (rs : List Ring). All (λ (ring : Ring). IsEdge (length c.args.cycles.now) ring.start_edge) rs) (sym (c.deref-2.ensures.value ∙ rings)) all
 
 pub check_ring_rows-requires-clause-edges : goal.check_ring_rows-requires-clause-edges
@@ -43,7 +43,7 @@ check_ring_rows-requires-clause-edges c =
     let T = c.args.tile.now in
     let R = own_rings (primitives_of T.tables) in
     let rings : c.in_ok-rings.rings.items ≡ own_rings (primitives_of c.args.tile.now.tables) = c.in_ok-rings.ensures.rings in
-    let all = subst (λ (es : List Edge). All (λ (ring : Ring). IsEdge (length es) ring.start_edge) R) (sym c.requires) (starts_in T c.has_numbers.ensures) in
+    let all = subst (λ (es : List Edge). All (λ (ring : Ring). IsEdge (length es) ring.start_edge) R) (sym c.requires) (starts_in (primitives_of T.tables) c.names_its_own.ensures) in
     subst (λ (rs : List Ring). All (λ (ring : Ring). IsEdge (length c.args.cycles.now) ring.start_edge) rs) (sym (c.deref-3.ensures.value ∙ rings)) all
 
 pub returns-in_err-check_pointers : goal.returns-in_err-check_pointers

@@ -10,4 +10,4 @@ pub next_dart-requires : goal.next_dart-requires
 next_dart-requires c =
     let count = length-map (primitives_of c.args.tile.now.tables).edges own_edge in
     let edge : IsEdge (length (own_edges (primitives_of c.args.tile.now.tables))) c.args.dart.edge = (c.requires.0, omega (arith, count, c.requires.1)) in
-    λ _. ((refl, tt), (edge, wings_in c.args.tile.now c.has_numbers.ensures))
+    λ _. ((refl, tt), (edge, wings_in (primitives_of c.args.tile.now.tables) c.names_its_own.ensures))

@@ -3,7 +3,7 @@ use Rattle.std.specs.Option.{unwrap_or}
 use Rattle.vpf_darts.specs.Darts.{tile_dart_code}
 use Rattle.vpf_wing.specs.Links.{links_of}
 use Rattle.vpf_follow.specs.Following.{home_copy}
-use Rattle.vpf_follow.specs.Libraries.{library_of}
+use Rattle.vpf_prims.specs.Libraries.{library_of}
 use Rattle.vpf_follow.proofs.FollowedLemmas.{copy_has, kept_copy, own_copy}
 use Rattle.vpf_follow.proofs.followed.Followed.home_copy.Goals as goal
 

@@ -5,6 +5,6 @@ use Rattle.vpf_prims.proofs.tile.Tile.own_edges.Given as goal
 
 abbrev pub invariant-loop-row : goal.invariant-loop-row
 invariant-loop-row l = record {
-  edges : l.edges.items ++ map (edge_of l.self-inside.columns) l.row-iterator ≡ map (edge_of l.self-inside.columns) l.self-inside.edg.rows;
-  width : All (λ row. length row ≡ length l.self-inside.edg.head.columns) l.row-iterator;
+  edges : l.edges.items ++ map (edge_of l.self-inside.columns.edges) l.row-iterator ≡ map (edge_of l.self-inside.columns.edges) l.self-inside.views.edg.rows;
+  width : All (λ row. length row ≡ length l.self-inside.views.edg.head.columns) l.row-iterator;
 }

@@ -1,0 +1,4 @@
+pub mod PlaceLemmas
+pub mod RightLemmas
+pub mod TileLemmas
+pub mod FileLemmas

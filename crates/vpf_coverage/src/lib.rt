@@ -1,0 +1,9 @@
+//! A coverage, seen in its files: the primitives of its tiles, whose columns, ids and references are right (MIL-STD-2407, 5.2.2, primitives,
+//! and 5.2.3, tiled coverages).
+#![tactic(auto)]
+
+mod columns;
+mod coverage;
+mod tiles;
+
+pub use coverage::{Coverage, open_coverage};

@@ -1,0 +1,13 @@
+pub mod FileLists
+pub mod TableLaws
+pub mod ReadSteps
+pub mod LoadLemmas
+pub mod OneTable
+pub mod TileLemmas
+pub mod TilerefLemmas
+pub mod TilesLemmas
+pub mod TiledLemmas
+pub mod WholeFiles
+pub mod LibraryFiles
+pub mod HeldReads
+pub mod ReadHolds

@@ -1,0 +1,4 @@
+pub mod Loading
+pub mod Holding
+pub mod Loads
+pub mod Laws

@@ -1,0 +1,11 @@
+pub mod CarriedLemmas
+pub mod BeyondLemmas
+pub mod TableLemmas
+pub mod PlaceLemmas
+pub mod NumbersLines
+pub mod NumbersRows
+pub mod NumbersColumns
+pub mod NumbersBeyond
+pub mod NumbersTables
+pub mod NumbersOwning
+pub mod NumbersCoverage

@@ -1,0 +1,16 @@
+use Rattle.std.proofs.Common.{◌∙◌, ap}
+use Rattle.vpf_triplet.specs.declared.triplets.Triplet.{Triplet}
+use Rattle.vpf_value.specs.Values.{Value, view}
+use Rattle.vpf_prims.specs.Columns.{role_at}
+use Rattle.vpf_prims.specs.References.{cell_at}
+use Rattle.vpf_numbers.specs.Around.{rows_there}
+use Rattle.vpf_numbers.proofs.BeyondLemmas.{cross_told}
+use Rattle.vpf_numbers.proofs.lines.check_cross.Goals as goal
+
+pub returns : goal.returns
+returns c =
+    let A = c.args.around.now in
+    let column = role_at c.args.column.now in
+    let there = c.rows-there.ensures ∙ ap (λ (r : Triplet). rows_there A c.args.name r.tile) c.reference_in.ensures in
+    cross_told c.check_beyond.result c.args.at A c.args.name 1 c.args.last c.args.k column (λ (v : Value). A.is_tiled) (view c.cell_at-cell.result) (cell_at c.args.row.now column.place)
+    c.rows-there.result c.is_tiled.result c.cell_at-cell.ensures there c.is_tiled.ensures c.in_ok-number_in_cell.ensures.first c.check_beyond.ensures

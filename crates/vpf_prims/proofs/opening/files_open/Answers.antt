@@ -1,5 +1,0 @@
-use Rattle.vpf_prims.proofs.OpenLemmas.{files_open}
-use Rattle.vpf_prims.proofs.opening.files_open.Goals as goal
-
-pub returns : goal.returns
-returns c = files_open c.spelled_is_opened.ensures c.opened_is_read.ensures
