@@ -18,34 +18,37 @@ use Rattle.vpf_table_commands.specs.Rows.{IndexAgrees, PlainRows, rows_answer, r
 use Rattle.vpf_table_commands.specs.Show.{show_answer, show_request}
 use Rattle.vpf_table_commands.specs.Swap.{swap_answer, swap_request}
 use Rattle.vpf_library_commands.specs.Check.{check_answer, check_request}
+use Rattle.vpf_library_commands.specs.Trace.{HasTraceAnswer, OneTraceAnswer}
 use Rattle.vpf.specs.declared.command.Command.{Command}
-use Rattle.vpf.specs.declared.command.Command.TheVariants.{Show, Table, Cycles, Swap, Index, Rows, Check}
+use Rattle.vpf.specs.declared.command.Command.TheVariants.{Show, Table, Cycles, Swap, Index, Rows, Check, Trace}
 use Rattle.vpf.specs.Commands.{IsAnswer, IsAnswerTo, command_of}
 use Rattle.vpf.specs.Deciding.{HasAnswer, OneAnswer}
 use Rattle.vpf.specs.Indexed.{IsPlainAnswer, PlainAnswers}
 
-pub has_answer : HasCyclesAnswer → HasAnswer
-has_answer cycles (Show request) files = (show_answer files request, refl)
-has_answer cycles (Table request) files = (table_answer files request, refl)
-has_answer cycles (Cycles request) files = cycles files request
-has_answer cycles (Swap request) files = (swap_answer files request, refl)
-has_answer cycles (Index request) files = (index_answer files request, refl)
-has_answer cycles (Rows request) files = (rows_answer files request, refl)
-has_answer cycles (Check request) files = (check_answer files request, refl)
+pub has_answer : HasCyclesAnswer → HasTraceAnswer → HasAnswer
+has_answer cycles trace (Show request) files bytes = (show_answer files request, refl)
+has_answer cycles trace (Table request) files bytes = (table_answer files request, refl)
+has_answer cycles trace (Cycles request) files bytes = cycles files request
+has_answer cycles trace (Swap request) files bytes = (swap_answer files request, refl)
+has_answer cycles trace (Index request) files bytes = (index_answer files request, refl)
+has_answer cycles trace (Rows request) files bytes = (rows_answer files request, refl)
+has_answer cycles trace (Check request) files bytes = (check_answer files request, refl)
+has_answer cycles trace (Trace request) files bytes = trace files request bytes
 
-commands_one : OneCyclesAnswer → (command : Command) (files : Files) (a b : Answer) → IsAnswerTo command files a → IsAnswerTo command files b → a ≡ b
-commands_one cycles (Show request) files a b e f = e ∙ sym f
-commands_one cycles (Table request) files a b e f = e ∙ sym f
-commands_one cycles (Cycles request) files a b e f = cycles files request a b e f
-commands_one cycles (Swap request) files a b e f = e ∙ sym f
-commands_one cycles (Index request) files a b e f = e ∙ sym f
-commands_one cycles (Rows request) files a b e f = e ∙ sym f
-commands_one cycles (Check request) files a b e f = e ∙ sym f
+commands_one : OneCyclesAnswer → OneTraceAnswer → (command : Command) (files : Files) (a b : Answer) → IsAnswerTo command files a → IsAnswerTo command files b → a ≡ b
+commands_one cycles trace (Show request) files a b e f = e ∙ sym f
+commands_one cycles trace (Table request) files a b e f = e ∙ sym f
+commands_one cycles trace (Cycles request) files a b e f = cycles files request a b e f
+commands_one cycles trace (Swap request) files a b e f = e ∙ sym f
+commands_one cycles trace (Index request) files a b e f = e ∙ sym f
+commands_one cycles trace (Rows request) files a b e f = e ∙ sym f
+commands_one cycles trace (Check request) files a b e f = e ∙ sym f
+commands_one cycles trace (Trace request) files a b e f = trace files request a b e f
 
-pub one_answer : OneCyclesAnswer → OneAnswer
-one_answer cycles None told a b e f = e ∙ sym f
-one_answer cycles (Some command) None a b e f = absurd e
-one_answer cycles (Some command) (Some files) a b e f = commands_one cycles command files a b e f
+pub one_answer : OneCyclesAnswer → OneTraceAnswer → OneAnswer
+one_answer cycles trace None told a b e f = e ∙ sym f
+one_answer cycles trace (Some command) None a b e f = absurd e
+one_answer cycles trace (Some command) (Some files) a b e f = commands_one cycles trace command files a b e f
 
 -- usage makes no file, over every tree
 pub usage_makes_none : (command : Option Command) (told : Option Files) (reply : Answer) → command ≡ None → ((answer : Answer) → IsAnswer command told answer → IsAnswer command told reply) → reply.made ≡ []
@@ -114,7 +117,8 @@ words_apart law (verb ∷ words) =
     (either_apart (bytes_eq verb (codes "swap")) _ _ (asked_apart Swap (λ request. tt) (swap_request words))
     (either_apart (bytes_eq verb (codes "index")) _ _ (index_apart (index_request words) (law words))
     (either_apart (bytes_eq verb (codes "rows")) _ _ (asked_apart Rows (λ request. tt) (rows_request words))
-    (either_apart (bytes_eq verb (codes "check")) _ None (asked_apart Check (λ request. tt) (check_request words)) tt))))))
+    (either_apart (bytes_eq verb (codes "check")) _ _ (asked_apart Check (λ request. tt) (check_request words))
+    (either_apart (bytes_eq verb (codes "trace")) _ None (asked_apart Trace (λ request. tt) (check_request words)) tt)))))))
 
 pub made_elsewhere : IndexesElsewhere → (words : List (List ℕ)) (request : IndexRequest) → command_of words ≡ Some (Index request) → bytes_eq request.file request.out ≡ false
 made_elsewhere law words request e = subst IsApart e (words_apart law words)

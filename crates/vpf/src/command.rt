@@ -26,6 +26,8 @@ pub enum Command {
     Rows(RowsRequest),
     /// Tells whether a coverage of a library agrees.
     Check(CheckRequest),
+    /// Lists the boundary cycles of a coverage of a library, past its lines between tiles.
+    Trace(CheckRequest),
 }
 
 /// The command of a verb and the words after it.
@@ -40,6 +42,7 @@ fn read_verb(alloc: Global, verb: &str, words: &[String]) -> Result<Option<Comma
         "index" => Ok(IndexRequest::read(alloc, words)?.map(Command::Index)),
         "rows" => Ok(RowsRequest::read(alloc, words)?.map(Command::Rows)),
         "check" => Ok(CheckRequest::read(alloc, words)?.map(Command::Check)),
+        "trace" => Ok(CheckRequest::read(alloc, words)?.map(Command::Trace)),
         _ => Ok(None),
     }
 }

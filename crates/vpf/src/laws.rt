@@ -1,20 +1,22 @@
 //! Laws of answers.
 
-ghost use Rattle.vpf.specs.Checked.{AgreementIsSaid, OnlyAgreementIsDone};
+ghost use Rattle.vpf_library_commands.specs.Trace.{HasTraceAnswer};
+ghost use Rattle.vpf.specs.Checked.{AgreementIsSaid, CyclesAreSaid, OnlyAgreementIsDone, OnlyAgreementIsTraced};
 ghost use Rattle.vpf.specs.Deciding.{HasAnswer, OneAnswer};
 ghost use Rattle.vpf.specs.Grammar.{FaultsAreSaid, TablesAreSaid};
 ghost use Rattle.vpf.specs.Indexed.{PlainAnswers};
 
-use vpf_library_commands::laws::check_decides_agreement;
+use vpf_library_commands::laws::{check_decides_agreement, trace_lists_cycles};
 use vpf_table::laws::{refusals_are_first_faults, spelled_is_opened};
 use vpf_table_commands::laws::{one_cycles_answer, plain_rows};
 
-/// Words over files have exactly one answer.
+/// Words over files of bytes have exactly one answer.
 pub fn one_answer()
     ensures some { HasAnswer }
     ensures one { OneAnswer }
 {
     one_cycles_answer();
+    trace_lists_cycles();
 }
 
 /// Where the thematic index of a column agrees with it, the answer of `rows` is that by a plain scan.
@@ -40,4 +42,13 @@ pub fn checks_decide()
     ensures only { OnlyAgreementIsDone }
 {
     check_decides_agreement();
+}
+
+/// `trace` is done exactly where the coverage agrees, and then it lists its boundary cycles past its lines between tiles.
+pub fn traces_list_cycles()
+    ensures said { CyclesAreSaid }
+    ensures only { OnlyAgreementIsTraced }
+    ensures some { HasTraceAnswer }
+{
+    trace_lists_cycles();
 }

@@ -17,21 +17,28 @@ ghost use Rattle.vpf_loading.specs.Loading.{LoadedCoverage};
 ghost use Rattle.vpf_library_commands.specs.declared.checking.CheckRequest.{CheckRequest};
 ghost use Rattle.vpf_library_commands.specs.Agreeing.{Agrees, IsAgreeing};
 ghost use Rattle.vpf_library_commands.specs.Check.{agrees_text};
+ghost use Rattle.vpf_darts.specs.declared.darts.TileDart.{TileDart};
+ghost use Rattle.vpf_darts.specs.Listings.{numbers_of};
+ghost use Rattle.vpf_prims.specs.Libraries.{library_of};
+ghost use Rattle.vpf_replies.specs.Listings.{listing_text};
+ghost use Rattle.vpf_trace.specs.Tracing.{IsTrace};
 ghost use Rattle.vpf_table_commands.specs.declared.indexing.IndexRequest.{IndexRequest};
 ghost use Rattle.vpf_table_commands.specs.declared.selecting.RowsRequest.{RowsRequest};
 ghost use Rattle.vpf_table_commands.specs.Rows.{IndexAgrees};
 ghost use Rattle.vpf.specs.declared.command.Command.{Command};
-ghost use Rattle.vpf.specs.declared.command.Command.TheVariants.{Check, Index, Rows};
+ghost use Rattle.vpf.specs.declared.command.Command.TheVariants.{Check, Index, Rows, Trace};
 ghost use Rattle.vpf.specs.Commands.{command_of, IsAnswerTo, IsAnswer};
 ghost use Rattle.vpf.specs.Grammar.{HasFile, IsOver, SaysOfTable};
 ghost use Rattle.vpf.specs.Indexed.{AsksForIndexed, IsPlainAnswer};
 ghost use Rattle.vpf.specs.Run.{Carries, IsCompleted, Prints};
 
 use crate::command::{Command, read_command};
-use crate::laws::{answers_follow_the_grammar, checks_decide, one_answer, plain_answers};
+use crate::laws::{
+    answers_follow_the_grammar, checks_decide, one_answer, plain_answers, traces_list_cycles,
+};
 use crate::status::Status;
 use std::alloc::Global;
-use vpf_library_commands::check;
+use vpf_library_commands::{check, trace};
 use vpf_replies::{Halt, Reply, Stop, settle, usage};
 use vpf_source::{DeviceError, Sink, Tree, make_all, put_all};
 use vpf_table::laws::opened_is_read;
@@ -52,6 +59,7 @@ fn obey<T: Tree>(alloc: Global, command: &Command, tree: &mut T) -> Result<Reply
         Command::Index(request) => index(alloc, request, tree),
         Command::Rows(request) => rows(alloc, request, tree),
         Command::Check(request) => check(alloc, request, tree),
+        Command::Trace(request) => trace(alloc, request, tree),
     }
 }
 
@@ -175,6 +183,16 @@ pub fn run<T: Tree, O: Sink>(alloc: Global, words: &[String], tree: &mut T, out:
     ensures agrees { (files : Files) (request : CheckRequest) → HoldsBytes files → command_of (map string_bytes words.now) ≡ Some (Check request)
         → T.files tree.old ≡ Some files → result ≡ Status.Done → Agrees files request }
 
+    // `trace` is done exactly where `check` is: then it prints the boundary cycles of the coverage, its lines between tiles passed over, each
+    // home dart of another edge once.
+    ensures traced { (files : Files) (request : CheckRequest) (c : LoadedCoverage) (cycles : List (List TileDart))
+        → command_of (map string_bytes words.now) ≡ Some (Trace request) → T.files tree.old ≡ Some files → IsAgreeing files request c
+        → IsTrace (library_of c.coverage) (numbers_of cycles)
+        → Carries (done (listing_text cycles)) result (record { files = T.files tree.old; written = O.written out.old })
+        (record { files = T.files tree.new; written = O.written out.new }) }
+    ensures traceable { (files : Files) (request : CheckRequest) → HoldsBytes files → command_of (map string_bytes words.now) ≡ Some (Trace request)
+        → T.files tree.old ≡ Some files → result ≡ Status.Done → Agrees files request }
+
     // A fault is answered exactly where its count rose in this call; where neither rose, the run is completed.
     ensures tree_fault { result ≡ Status.TreeFault → Rose (T.faults tree.old) (T.faults tree.new) }
     ensures tree_stood { result ≢ Status.TreeFault → Stood (T.faults tree.old) (T.faults tree.new) }
@@ -193,6 +211,7 @@ pub fn run<T: Tree, O: Sink>(alloc: Global, words: &[String], tree: &mut T, out:
 {
     answers_follow_the_grammar();
     checks_decide();
+    traces_list_cycles();
     plain_answers();
     one_answer();
     made_indexes_serve();

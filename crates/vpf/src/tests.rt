@@ -6,80 +6,41 @@ use crate::testing::words_of;
 use std::alloc::{AllocError, Global};
 use std::test::Fail;
 use vpf_source::{MemSink, MemTree};
+use vpf_vectors::{VECTORS, Vector};
 
 /// One column `id` of kind I, and one row, 1.
 const PLAIN: &[u8] = b"\x19\0\0\0L;T;-;id=I,1,P,i,-,-,-,:;\x01\0\0\0";
 
-/// The same in the other order.
-const OTHER_ORDER: &[u8] = b"\0\0\0\x19M;T;-;id=I,1,P,i,-,-,-,:;\0\0\0\x01";
-
-/// No mark, spaces before a count, and a definition that ends after an empty narrative.
-const LENIENT: &[u8] = b"\x22\0\0\0Table;-;id=I,    1,P,Row Id,-,-,:;\x07\0\0\0";
-
-/// A text whose count promises more bytes than there are.
-const LONG_COUNT: &[u8] = b"\x18\0\0\0L;T;-;a=T,*,N,d,-,-,-,:;\xff\xff\xff\xffabc";
-
 /// A pair of coordinates with its count.
 const COORDINATES: &[u8] = b"\x18\0\0\0L;T;-;c=C,*,N,d,-,-,-,:;\x01\0\0\0\x01\0\0\0\x02\0\0\0";
 
-/// What is shown of the first of them, and of the same without its row and in the other order.
+/// What is shown of the first of them, and of the same without its row.
 const PLAIN_SHOWN: &str =
     "order L\ndescription T\nnarrative -\ncolumn 1 id I,1 P - - - i\nrows 1\n1 | 1\n";
 
 const NO_ROW_SHOWN: &str =
     "order L\ndescription T\nnarrative -\ncolumn 1 id I,1 P - - - i\nrows 0\n";
 
-const OTHER_ORDER_SHOWN: &str =
-    "order M\ndescription T\nnarrative -\ncolumn 1 id I,1 P - - - i\nrows 1\n1 | 1\n";
-
-/// What is shown of a key that is none of the three with a meaning, and of two of the others.
-const KEY_SHOWN: &str =
-    "order L\ndescription T\nnarrative -\ncolumn 1 id I,1 F - - - i\nrows 1\n1 | 1\n";
-
-const LENIENT_SHOWN: &str =
-    "order L\ndescription Table\nnarrative -\ncolumn 1 id I,1 P - - - Row Id\nrows 1\n1 | 7\n";
-
 const COORDINATES_SHOWN: &str =
     "order L\ndescription T\nnarrative -\ncolumn 1 c C,* N - - - d\nrows 1\n1 | [00000001 00000002]\n";
 
 /// Files, and what `show` answers.
-const SHOWN: [(&str, Status, &str); 15] = [
+const SHOWN: [(&str, Status, &str); 10] = [
     ("t.tab", Status::Done, PLAIN_SHOWN),
     ("./t.tab", Status::Done, PLAIN_SHOWN),
     ("//root.tab", Status::Done, PLAIN_SHOWN),
     ("lib//./t.tab/", Status::Done, PLAIN_SHOWN),
-    ("m.tab", Status::Done, OTHER_ORDER_SHOWN),
     ("none.row", Status::Done, NO_ROW_SHOWN),
-    ("lenient.tab", Status::Done, LENIENT_SHOWN),
     ("c.tab", Status::Done, COORDINATES_SHOWN),
-    ("f.tab", Status::Done, KEY_SHOWN),
     ("none.tab", Status::Refused, "refused missing none.tab\n"),
     ("/t.tab", Status::Refused, "refused missing /t.tab\n"),
     ("a\\", Status::Refused, "refused missing a\\5c\n"),
     ("a\"b", Status::Refused, "refused number-cut a\\22b at 0\n"),
-    (
-        "cut.row",
-        Status::Refused,
-        "refused cell-cut cut.row at 29\n",
-    ),
-    (
-        "cut.head",
-        Status::Refused,
-        "refused header-cut cut.head at 4\n",
-    ),
 ];
 
 /// Files, and what `table` answers.
-const CHECKED: [(&str, Status, &str); 6] = [
+const CHECKED: [(&str, Status, &str); 2] = [
     ("t.tab", Status::Done, "accepted rows 1 columns 1\n"),
-    ("none.row", Status::Done, "accepted rows 0 columns 1\n"),
-    ("empty", Status::Refused, "refused number-cut empty at 0\n"),
-    (
-        "long.tab",
-        Status::Refused,
-        "refused cell-cut long.tab at 28\n",
-    ),
-    ("bad.key", Status::Refused, "refused key bad.key at 17\n"),
     ("wide.head", Status::Limit, "limit header wide.head 65537\n"),
 ];
 
@@ -115,15 +76,7 @@ fn put_samples(tree: &mut MemTree) -> Result<(), AllocError> {
         ("/root.tab", PLAIN),
         ("lib/t.tab", PLAIN),
         ("none.row", &PLAIN[..29]),
-        ("cut.row", &PLAIN[..32]),
-        ("cut.head", &PLAIN[..28]),
-        ("empty", [].as_slice()),
-        ("m.tab", OTHER_ORDER),
-        ("lenient.tab", LENIENT),
-        ("long.tab", LONG_COUNT),
         ("c.tab", COORDINATES),
-        ("f.tab", b"\x19\0\0\0L;T;-;id=I,1,F,i,-,-,-,:;\x01\0\0\0"),
-        ("bad.key", b"\x19\0\0\0L;T;-;id=I,1,f,i,-,-,-,:;\x01\0\0\0"),
         ("wide.head", b"\x01\0\x01\0"),
         ("a\"b", b""),
     ] {
@@ -140,6 +93,39 @@ fn answer_of(alloc: Global, verb: &str, file: &str) -> Result<(Status, MemSink),
     let words = words_of(alloc, &[verb, file])?;
     let status = run(alloc, &words, &mut tree, &mut out);
     Ok((status, out))
+}
+
+/// What a command prints over one file, and its status.
+fn answer_over(
+    alloc: Global,
+    verb: &str,
+    file: &str,
+    bytes: &[u8],
+) -> Result<(Status, MemSink), AllocError> {
+    let mut tree = MemTree::new(alloc, 4096, Vec::new(alloc));
+    tree.put(file, bytes)?;
+    let mut out = MemSink::new(alloc, 4096, Vec::new(alloc));
+    let words = words_of(alloc, &[verb, file])?;
+    let status = run(alloc, &words, &mut tree, &mut out);
+    Ok((status, out))
+}
+
+#[test]
+fn answers_each_vector(rt: HostRuntime) -> Result<(), Fail> {
+    let alloc = rt.alloc();
+    for vector in VECTORS {
+        let Vector {
+            words: [verb, file],
+            bytes,
+            status,
+            text,
+            ..
+        } = vector;
+        let (answer, out) = answer_over(alloc, verb, file, bytes)?;
+        assert_eq!(rt; out.bytes(), text.as_bytes(), "{text}");
+        assert_eq!(rt; answer.code(), status, "{text}");
+    }
+    Ok(())
 }
 
 #[test]

@@ -104,7 +104,9 @@ fn checked<'a>(alloc: Global, opened: OpenCoverage<'a>) -> Result<Coverage<'a>, 
     ensures coverage { IfOk result (λ coverage. coverage ≡ opened_coverage opened.entry) }
 {
     let columns = columns_of(alloc, &opened)?;
-    let tiles = tiles_of(alloc, opened.firsts, opened.tiles, columns)?;
+    // The rules on tiles ask for the same edges many times.
+    let is_tiled = opened.paths.is_some();
+    let tiles = tiles_of(alloc, is_tiled, opened.firsts, opened.tiles, columns)?;
     Ok(Coverage {
         paths: opened.paths,
         tiles,

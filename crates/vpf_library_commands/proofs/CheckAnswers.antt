@@ -16,7 +16,7 @@ use Rattle.vpf_replies.specs.Halting.{ComesTo}
 use Rattle.vpf_library_commands.specs.Check.{coverage_finding, found_answer, read_answer}
 use Rattle.vpf_library_commands.specs.Stopping.{IsStopAnswer, stop_answer}
 
-abbrev loaded_of : Result (List File) LoadStop → List File
+abbrev pub loaded_of : Result (List File) LoadStop → List File
 loaded_of (Ok files) = files
 loaded_of (Err stop) = []
 
@@ -29,23 +29,31 @@ pub loaded_answer : (read : Result LoadedCoverage LoadStop) (files : List File) 
 loaded_answer (Ok c) files answer h is = let e : c.files ≡ files = ap loaded_of h in rw e (is c refl)
 loaded_answer (Err stop) files answer h is = absurd cc
 
-stopped_in : (read : Result LoadedCoverage LoadStop) (stop : LoadStop) (answer : Answer) → loaded_in read ≡ Err stop → answer ≡ stop_answer stop → answer ≡ read_answer read
-stopped_in (Ok c) stop answer h is = absurd cc
-stopped_in (Err other) stop answer h is = let e : other ≡ stop = ap stop_of h in rw e is
+-- an answer to what was read, which is that to the stop where there is one
+pub record IsStopped (Is : Result LoadedCoverage LoadStop → Answer → Type 0) : Type 0 where
+  pub at : (stop : LoadStop) (answer : Answer) → answer ≡ stop_answer stop → Is (Err stop) answer
 
-is_answer : (read : Result LoadedCoverage LoadStop) (stop : LoadStop) (answer : Answer) → Told (stop_seen stop) (loaded_in read) → IsStopAnswer stop answer → answer ≡ read_answer read
-is_answer read stops.Fault answer told is = absurd is
-is_answer read stops.NoMemory answer told is = absurd is
-is_answer read (stops.Missing name) answer told is = stopped_in read (stops.Missing name) answer told is
-is_answer read (stops.Place name place) answer told is = stopped_in read (stops.Place name place) answer told is
-is_answer read (stops.Limit name limit) answer told is = stopped_in read (stops.Limit name limit) answer told is
-is_answer read (stops.Finding name f) answer told is = stopped_in read (stops.Finding name f) answer told is
+stopped_in : (Is : Result LoadedCoverage LoadStop → Answer → Type 0) → IsStopped Is → (read : Result LoadedCoverage LoadStop) (stop : LoadStop) (answer : Answer) → loaded_in read ≡ Err stop → answer ≡ stop_answer stop → Is read answer
+stopped_in Is h (Ok c) stop answer e is = absurd cc
+stopped_in Is h (Err other) stop answer e is = let same : other ≡ stop = ap stop_of e in h.at other answer (is ∙ ap stop_answer (sym same))
+
+is_answer : (Is : Result LoadedCoverage LoadStop → Answer → Type 0) → IsStopped Is → (read : Result LoadedCoverage LoadStop) (stop : LoadStop) (answer : Answer) → Told (stop_seen stop) (loaded_in read) → IsStopAnswer stop answer → Is read answer
+is_answer Is h read stops.Fault answer told is = absurd is
+is_answer Is h read stops.NoMemory answer told is = absurd is
+is_answer Is h read (stops.Missing name) answer told is = stopped_in Is h read (stops.Missing name) answer told is
+is_answer Is h read (stops.Place name place) answer told is = stopped_in Is h read (stops.Place name place) answer told is
+is_answer Is h read (stops.Limit name limit) answer told is = stopped_in Is h read (stops.Limit name limit) answer told is
+is_answer Is h read (stops.Finding name f) answer told is = stopped_in Is h read (stops.Finding name f) answer told is
 
 -- the reply to what stopped the load is the answer
-pub stopped_answer : (read : Result LoadedCoverage LoadStop) (stop : LoadStop) (result : Result Answer Halt) → Told (stop_seen stop) (loaded_in read) → ComesTo (IsStopAnswer stop) result → ComesTo (λ answer. answer ≡ read_answer read) result
-stopped_answer read stop (Ok answer) told is = is_answer read stop answer told is
-stopped_answer read stop (Err (halts.Answered answer)) told is = is_answer read stop answer told is
-stopped_answer read stop (Err (halts.Stop cause)) told is = is
+pub stopped_answer : (Is : Result LoadedCoverage LoadStop → Answer → Type 0) → IsStopped Is → (read : Result LoadedCoverage LoadStop) (stop : LoadStop) (result : Result Answer Halt) → Told (stop_seen stop) (loaded_in read) → ComesTo (IsStopAnswer stop) result → ComesTo (Is read) result
+stopped_answer Is h read stop (Ok answer) told is = is_answer Is h read stop answer told is
+stopped_answer Is h read stop (Err (halts.Answered answer)) told is = is_answer Is h read stop answer told is
+stopped_answer Is h read stop (Err (halts.Stop cause)) told is = is
+
+-- `check` answers a stop so
+pub check_stopped : IsStopped (λ read answer. answer ≡ read_answer read)
+check_stopped = record { at = λ stop answer is. is }
 
 -- what was read, with the count of bytes
 pub both_of : (read : Read LoadedCoverage) (c : LoadedCoverage) → read.0 ≡ Ok c → read ≡ (Ok c, read.1)

@@ -92,7 +92,7 @@ pub record CoverageLaws : Type 0 where
 pub coverage_laws : FilesAreLibraries → FilesAreWhole → CoverageNumbersDecide → AgreementDecides → LikeAreWhole → CoverageLaws
 coverage_laws libraries whole numbers topology alike = record { libraries = libraries; whole = whole; numbers = numbers; topology = topology; alike = alike }
 
-agreement : CoverageLaws → (lib cov : List ℕ) (c : CoverageTables) (files : List File) → AreCoverageFiles lib cov c files → (coverage_finding c ≡ None) ↔ (HaveColumns c × LibraryAgrees (library_of c))
+pub agreement : CoverageLaws → (lib cov : List ℕ) (c : CoverageTables) (files : List File) → AreCoverageFiles lib cov c files → (coverage_finding c ≡ None) ↔ (HaveColumns c × LibraryAgrees (library_of c))
 agreement laws lib cov c files are =
     let library = laws.libraries lib cov c files are in
     let rows = laws.whole lib cov c files are in (

@@ -3,3 +3,4 @@ pub mod Counting
 pub mod Check
 pub mod Agreeing
 pub mod Example
+pub mod Trace

@@ -20,7 +20,7 @@ use vpf_names::{coverage_name, file_name};
 use vpf_replies::{Halt, Reply, Stop, Verdict, disagreement};
 use vpf_source::{File, Name, Tree};
 
-/// A coverage of a library that is checked.
+/// A coverage of a library that is checked, by `check` and before `trace`.
 #[derive(Debug, Drop)]
 pub struct CheckRequest {
     /// The folder of the library.
@@ -95,7 +95,7 @@ fn agrees_text(alloc: Global, coverage: &Coverage<'_>) -> Result<String, AllocEr
 }
 
 /// The name of the file at a place among those that were read, from 0.
-fn named(files: &[File], place: u32) -> &str
+pub(crate) fn named(files: &[File], place: u32) -> &str
     ensures { result.now ≡ place_name files.now place }
 {
     match files.get(place as usize) {

@@ -1,11 +1,13 @@
 //! Laws of the commands over libraries.
 
 ghost use Rattle.vpf_library_commands.specs.Agreeing.{CheckCounts, CheckDecides};
+ghost use Rattle.vpf_library_commands.specs.Trace.{HasTraceAnswer, OneTraceAnswer, TraceDecides, TraceLists};
 ghost use Rattle.vpf_library_commands.specs.Example.{ExampleIsFound, ExampleIsWellFormed};
 
 use vpf_cross::laws::{agreement_decides, like_tiles_are_whole};
 use vpf_loading::laws::{coverages_are_held, files_are_libraries};
 use vpf_numbers::laws::numbers_decide;
+use vpf_trace::laws::one_trace;
 use vpf_wing::laws::{cycles_decide, loops_decide};
 
 /// `check` is done exactly where the tree holds the coverage, its columns are right and its rows agree, in each tile and across the tiles;
@@ -19,6 +21,22 @@ pub fn check_decides_agreement()
     numbers_decide();
     agreement_decides();
     like_tiles_are_whole();
+}
+
+/// `trace` has exactly one answer over files of bytes: it is done exactly where the coverage agrees, as `check` is, and then it lists the
+/// boundary cycles of the coverage past its lines between tiles.
+pub fn trace_lists_cycles()
+    ensures some { HasTraceAnswer }
+    ensures one { OneTraceAnswer }
+    ensures decides { TraceDecides }
+    ensures lists { TraceLists }
+{
+    coverages_are_held();
+    files_are_libraries();
+    numbers_decide();
+    agreement_decides();
+    like_tiles_are_whole();
+    one_trace();
 }
 
 /// What it is for a coverage to be well formed can be met: an example is, nothing is found in it, and a wrong first ring in it is found.

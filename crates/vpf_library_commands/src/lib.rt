@@ -5,5 +5,7 @@ mod checking;
 pub mod laws;
 mod stopping;
 mod totals;
+mod tracing;
 
 pub use checking::{CheckRequest, check};
+pub use tracing::trace;

@@ -25,6 +25,11 @@ line_at row (Some c) = line_in (slice_index_or row c Nothing)
 row_said : (at : TableAt) (columns : List Col) (row : Row) → edge_row (edge_columns at columns) row ≡ edge_row_of (edge_in_row columns row)
 row_said at columns row = rw (line_at row (edge_columns at columns).tile_line.place) refl
 
+-- all rows so
+pub rows_said : (at : TableAt) (columns : List Col) (rows : List Row) → map (edge_row (edge_columns at columns)) rows ≡ map edge_row_of (map (edge_in_row columns) rows)
+rows_said at columns [] = refl
+rows_said at columns (row ∷ rows) = rw (row_said at columns row, rows_said at columns rows) refl
+
 rows_at : (at : TableAt) (columns : List Col) (rows : List Row) (i : ℕ) → i < length rows
     → edge_row (edge_columns at columns) (get_or rows i []) ≡ edge_row_of (get_or (map (edge_in_row columns) rows) i absent_edge)
 rows_at at columns [] i h = absurd (omega arith)

@@ -85,7 +85,18 @@ edge_row columns row = record {
   line = is_line (cell_at row columns.tile_line.place);
 }
 
--- the numbers of a row in its own tile
+-- the numbers of what a row says, in its own tile
+abbrev pub own_numbers : EdgeRow → Edge
+own_numbers row = record {
+  start_node = id_of row.start_node;
+  end_node = id_of row.end_node;
+  right_face = id_of row.right_face;
+  left_face = id_of row.left_face;
+  right_edge = id_of row.right_edge;
+  left_edge = id_of row.left_edge;
+}
+
+-- those of a row that is read
 abbrev pub edge_of : EdgesAt → Row → Edge
 edge_of columns row = record {
   start_node = id_at columns.start_node row;

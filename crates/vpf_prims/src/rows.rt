@@ -47,3 +47,22 @@ pub fn id_of(reference: Triplet) -> u32
 {
     reference.id.unwrap_or(0)
 }
+
+impl From<EdgeRow> for Edge {
+    ghost use Rattle.std.specs.Prelude.{◌≡◌};
+    ghost use Rattle.vpf_prims.specs.Edges.{own_numbers};
+
+    ghost from_gives = { λ row edge. edge ≡ own_numbers row };
+
+    /// The numbers of a row in its own tile, 0 where a reference is absent.
+    fn from(row: EdgeRow) -> Edge {
+        Edge {
+            start_node: id_of(row.start_node),
+            end_node: id_of(row.end_node),
+            right_face: id_of(row.right_face),
+            left_face: id_of(row.left_face),
+            right_edge: id_of(row.right_edge),
+            left_edge: id_of(row.left_edge),
+        }
+    }
+}

@@ -1,6 +1,7 @@
 //! A tile of a coverage, or an untiled coverage, seen in its files.
 
-ghost use Rattle.std.specs.Prelude.{◌≡◌, ◌≤◌};
+ghost use Rattle.std.specs.Prelude.{◌≡◌, ◌≤◌, IfOk, length, map};
+ghost use Rattle.vpf_prims.specs.Edges.{AreWithin, edge_row};
 ghost use Rattle.vpf_prims.specs.Tables.{files_of_grid};
 
 use crate::citing::Citation;
@@ -15,13 +16,14 @@ use vpf_findings::{Finding, Seen, TableName};
 use vpf_table::TableView;
 
 /// The primitive tables of a tile, or of an untiled coverage, whose columns are there, and whose rows name rows of the tile (MIL-STD-2407,
-/// 5.2.2, primitives). Rows stay in their files. Numbers of primitives count from 1. Contracts see it as the tables, and where the first
-/// of their files stands among those that were read.
+/// 5.2.2, primitives). Rows stay in their files, but for what those of edges say, which a tile can keep. Numbers of primitives count from 1.
+/// Contracts see it as the tables, and where the first of their files stands among those that were read.
 #[derive(Drop)]
 pub struct Tile<'a> {
     first: u32,
     columns: TileColumns<'a>,
     views: PrimitiveViews<'a>,
+    kept: Option<Vec<EdgeRow>>,
 }
 
 impl<'a> Model for Tile<'a> {
@@ -34,6 +36,22 @@ impl<'a> Model for Tile<'a> {
     ghost view = { tables_of };
 
     ghost invariant = { IsTile };
+}
+
+/// What the rows of a table of edges say, in their order.
+fn rows_of<'a>(
+    alloc: Global,
+    columns: &EdgeColumns<'a>,
+    table: &TableView<'a>,
+) -> Result<Vec<EdgeRow>, AllocError>
+    requires { AreWithin (length table.now.head.columns) columns.now }
+    ensures { IfOk result (λ rows. rows.items ≡ map (edge_row columns.now) table.now.rows) }
+{
+    let mut rows = Vec::with_capacity(alloc, table.len() as usize)?;
+    for row in table.rows() {
+        rows.push(columns.row(&row))?;
+    }
+    Ok(rows)
 }
 
 /// How many files a table is: its own, and its index where its rows vary.
@@ -80,7 +98,20 @@ impl<'a> Tile<'a> {
             first,
             columns,
             views,
+            kept: None,
         }
+    }
+
+    /// The same tile, which keeps what its rows of edges say, where they are asked for again and again: they are passed once. Takes memory
+    /// for each.
+    pub fn keeping_edges(self, alloc: Global) -> Result<Tile<'a>, AllocError>
+        ensures { IfOk result (λ tile. tile ≡ self.entry) }
+    {
+        let kept = rows_of(alloc, &self.columns.edges, &self.views.edg)?;
+        Ok(Tile {
+            kept: Some(kept),
+            ..self
+        })
     }
 
     /// The number of edges.
@@ -138,7 +169,10 @@ impl<'a> Tile<'a> {
         requires { IsRowOf (length (primitives_of self.now.tables).edges) e }
         ensures { result ≡ edge_row_of (kth (primitives_of self.now.tables).edges e absent_edge) }
     {
-        self.columns.edges.row(&row_of(&self.views.edg, e))
+        match &self.kept {
+            Some(rows) => rows[(e - 1) as usize],
+            None => self.columns.edges.row(&row_of(&self.views.edg, e)),
+        }
     }
 
     /// The first ring of a face, 0 where face 1 has none.

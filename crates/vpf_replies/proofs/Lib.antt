@@ -1,1 +1,2 @@
 pub mod ColumnPlaces
+pub mod CycleLines

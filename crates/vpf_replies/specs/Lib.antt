@@ -7,3 +7,4 @@ pub mod Making
 pub mod Found
 pub mod Halting
 pub mod Loading
+pub mod Listings

@@ -1,10 +1,11 @@
-//! What commands answer with: replies, the lines of what isn't done, the files that are made, and the files of a tree or the replies in
-//! their place.
+//! What commands answer with: replies, the lines of what isn't done, listings of cycles, the files that are made, and the files of a tree
+//! or the replies in their place.
 #![tactic(auto)]
 
 mod columns;
 mod disagreeing;
 mod halting;
+mod listings;
 mod loading;
 mod making;
 mod refusing;
@@ -15,6 +16,7 @@ mod verdict;
 pub use columns::place_of;
 pub use disagreeing::{disagreement, kept_disagreement};
 pub use halting::{Halt, Stop, settle};
+pub use listings::listed;
 pub use loading::{optional_file, required_file};
 pub use making::{file_of, makes};
 pub use refusing::{Refusal, refuse};

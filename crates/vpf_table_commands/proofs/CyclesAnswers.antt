@@ -18,7 +18,8 @@ use Rattle.vpf_replies.specs.declared.halting.Halt.TheVariants as halts
 use Rattle.vpf_replies.specs.Halting.{Halts}
 use Rattle.vpf_replies.specs.Refusals.{VaryingRows, refusal_answer}
 use Rattle.vpf_replies.specs.Tables.{IsTableAnswer, fault_answer}
-use Rattle.vpf_table_commands.specs.Cycles.{HasCyclesAnswer, IsBytesCycles, IsEdgesAnswer, IsGridCycles, OneCyclesAnswer, listing_text}
+use Rattle.vpf_table_commands.specs.Cycles.{HasCyclesAnswer, IsBytesCycles, IsEdgesAnswer, IsGridCycles, OneCyclesAnswer}
+use Rattle.vpf_replies.specs.Listings.{listing_text}
 
 edges_have : HasBoundaryListing → (name : List ℕ) (grid : Grid) (varies : Bool) (finding : Option Disagreement) → table_finding grid ≡ finding → (answer : Answer) × IsEdgesAnswer name grid varies finding answer
 edges_have listings name grid true finding e = (refusal_answer (VaryingRows name), refl)

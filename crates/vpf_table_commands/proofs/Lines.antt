@@ -6,9 +6,7 @@ use Rattle.vpf_value.specs.Values.{Value}
 use Rattle.vpf_head.specs.Head.{Col}
 use Rattle.vpf_table.specs.Grid.{Row}
 use Rattle.vpf_text.specs.Cells.{cell_text}
-use Rattle.vpf_darts.specs.declared.darts.TileDart.{TileDart}
 use Rattle.vpf_table_commands.specs.Show.{column_line, column_lines, cells_text, row_line, row_lines}
-use Rattle.vpf_table_commands.specs.Cycles.{cycle_text, cycle_lines}
 
 pub column_put : (text : List ℕ) (cs : List Col) (i : ℕ) (c : Col) → slice_get cs i ≡ Some c → (text ++ column_line (i + 1) c) ++ column_lines (i + 1) (drop (i + 1) cs) ≡ text ++ column_lines i (drop i cs)
 column_put text cs i c e = rw (next_item cs i c e, add-one i) (append_assoc text (column_line (suc i) c) (column_lines (suc i) (drop (suc i) cs)))
@@ -19,7 +17,3 @@ cell_put text new cs i c v vs rest e f g = rw (g, f, next_item cs i c e) (simp a
 
 pub row_put : (text : List ℕ) (cs : List Col) (number : ℕ) (row : Row) (rows rest : List Row) → rest ≡ row ∷ rows → (text ++ row_line cs (number + 1) row) ++ row_lines cs (number + 1) rows ≡ text ++ row_lines cs number rest
 row_put text cs number row rows rest e = rw (e, add-one number) (append_assoc text (row_line cs (suc number) row) (row_lines cs (suc number) rows))
-
-pub cycle_put : (text : List ℕ) (cycles : List (List TileDart)) (i : ℕ) (cycle : List TileDart) → slice_get cycles i ≡ Some cycle
-    → ((text ++ cycle_text cycle) ++ codes "\n") ++ cycle_lines (drop (i + 1) cycles) ≡ text ++ cycle_lines (drop i cycles)
-cycle_put text cycles i cycle e = rw (next_item cycles i cycle e) (simp append_assoc)

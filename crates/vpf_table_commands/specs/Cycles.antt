@@ -1,18 +1,15 @@
 -- `cycles`: the boundary cycles of an edge table.
-use Rattle.std.specs.Prelude.{◌≡◌, ℕ, Bool, true, false, List, [], ◌∷◌, length, Option, Some, None, codes}
-use Rattle.std.specs.List.{flat_map}
-use Rattle.std.specs.Fmt.{decimal}
+use Rattle.std.specs.Prelude.{◌≡◌, ℕ, Bool, true, false, List, Option, Some, None}
 use Rattle.vpf_source.specs.Files.{Files}
 use Rattle.vpf_darts.specs.declared.darts.TileDart.{TileDart}
-use Rattle.vpf_darts.specs.Darts.{tile_dart_text}
 use Rattle.vpf_head.specs.Head.{varies_in}
 use Rattle.vpf_table.specs.Grid.{Grid}
 use Rattle.vpf_table.specs.Reading.{table_of}
 use Rattle.vpf_findings.specs.Findings.{Disagreement}
 use Rattle.vpf_wing.specs.Boundaries.{IsBoundaryListing, table_finding}
-use Rattle.vpf_text.specs.Texts.{◌&◌}
 use Rattle.vpf_replies.specs.Answer.{Answer, done, refused}
 use Rattle.vpf_replies.specs.Found.{IsRequiredAnswer}
+use Rattle.vpf_replies.specs.Listings.{listing_text}
 use Rattle.vpf_replies.specs.Refusals.{VaryingRows, refusal_answer}
 use Rattle.vpf_replies.specs.Tables.{IsTableAnswer}
 use Rattle.vpf_table_commands.specs.Words.{one_file}
@@ -27,20 +24,6 @@ cycles_request_of (Some file) = Some (record { file = file })
 -- the request that the words after the verb spell
 abbrev pub cycles_request : List (List ℕ) → Option CyclesRequest
 cycles_request words = cycles_request_of (one_file words)
-
--- the darts of a cycle, with a space between any two
-abbrev pub cycle_text : List TileDart → List ℕ
-cycle_text [] = []
-cycle_text (dart ∷ darts) = tile_dart_text dart & flat_map (λ other. codes " " & tile_dart_text other) darts
-
--- a line for each cycle
-abbrev pub cycle_lines : List (List TileDart) → List ℕ
-cycle_lines [] = []
-cycle_lines (cycle ∷ cycles) = cycle_text cycle & codes "\n" & cycle_lines cycles
-
--- the cycles, and how many there are
-abbrev pub listing_text : List (List TileDart) → List ℕ
-listing_text cycles = cycle_lines cycles & codes "cycles " & decimal (length cycles) & codes "\n"
 
 -- the answer over edges: that rows vary, or the first finding, or the listing of the cycles
 abbrev pub IsEdgesAnswer : List ℕ → Grid → Bool → Option Disagreement → Answer → Type 0

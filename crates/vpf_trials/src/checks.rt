@@ -144,7 +144,11 @@ fn rows_of<const N: usize>(
 }
 
 /// A tree with the tables of a coverage.
-fn tree_of(alloc: Global, rows: &Rows, changes: &[Change]) -> Result<MemTree, AllocError> {
+pub fn coverage_tree(
+    alloc: Global,
+    rows: &Rows,
+    changes: &[Change],
+) -> Result<MemTree, AllocError> {
     let mut tree = MemTree::new(alloc, 4096, Vec::new(alloc));
     let edg = rows_of(alloc, rows.edg, 0, changes)?;
     let fac = rows_of(alloc, rows.fac, 1, changes)?;
@@ -181,7 +185,7 @@ fn check_prints(
 fn counts_what_agrees(rt: HostRuntime) -> Result<(), Fail> {
     let alloc = rt.alloc();
     for (rows, text) in AGREEING {
-        let mut tree = tree_of(alloc, &rows, &[])?;
+        let mut tree = coverage_tree(alloc, &rows, &[])?;
         check_prints(&rt, alloc, &mut tree, Verdict::Done, text)?;
     }
     Ok(())
@@ -195,7 +199,7 @@ fn check_finding(
     changes: &[Change],
     finding: &str,
 ) -> Result<(), Fail> {
-    let mut tree = tree_of(alloc, rows, changes)?;
+    let mut tree = coverage_tree(alloc, rows, changes)?;
     let text = format!(in alloc; "disagree {finding}\n")?;
     check_prints(rt, alloc, &mut tree, Verdict::Refused, text.as_str())
 }
@@ -304,7 +308,7 @@ fn faces_of(alloc: Global, second: &[u8]) -> Result<(Vec<u8>, Vec<u8>), AllocErr
 fn takes_triplet_ids(rt: HostRuntime) -> Result<(), Fail> {
     let alloc = rt.alloc();
     for (second, has_index, verdict, text) in TRIPLETS {
-        let mut tree = tree_of(alloc, &THREE, &[])?;
+        let mut tree = coverage_tree(alloc, &THREE, &[])?;
         let (table, index) = faces_of(alloc, second)?;
         tree.put("lib/cov/fac", &table)?;
         if has_index {

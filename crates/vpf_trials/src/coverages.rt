@@ -37,6 +37,18 @@ const FOUR: Rows = Rows {
     ..THREE
 };
 
+/// The three edges with one that ends in the universe.
+const BRANCH: Rows = Rows {
+    edg: &[
+        [1, 1, 2, 2, 1, 3, 4, 0],
+        [2, 2, 1, 3, 1, 3, 1, 0],
+        [3, 1, 2, 3, 2, 2, 1, 1],
+        [4, 1, 3, 1, 1, 4, 2, 0],
+    ],
+    cnd: &[[1, 1], [2, 1], [3, 4]],
+    ..THREE
+};
+
 /// The three edges with one ring more.
 const MORE: Rows = Rows {
     rng: &[[1, 1, 1], [2, 2, 1], [3, 3, 2], [4, 3, 3]],
@@ -102,6 +114,14 @@ pub const AGREEING: [(Rows, &str); 4] = [
         },
         "agrees untiled edges 3 faces 3 nodes 2 entities 0\n",
     ),
+];
+
+/// Coverages that agree, and their cycles past the edges that are marked as lines.
+pub const CYCLES: [(Rows, &str); 4] = [
+    (THREE, "1+ 2+\n1- 2-\ncycles 2\n"),
+    (FOUR, "1+ 4+ 4- 2+\n1- 2-\ncycles 2\n"),
+    (BRANCH, "1+ 2+\n1- 4+ 4- 2-\ncycles 2\n"),
+    (EMPTY, "cycles 0\n"),
 ];
 
 /// Coverages, numbers that are changed in them, and the first finding. Where several are changed, each next to another in the order of

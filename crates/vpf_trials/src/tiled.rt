@@ -1,8 +1,9 @@
 //! `check` over libraries in tiles, in memory.
 
-use crate::libraries::{
-    ABSENT, AGREEING, Case, Change, ENTITIES, NAME_FINDINGS, NAMED, NUMBER_FINDINGS, RULE_FINDINGS,
-    TWO, Table,
+use crate::libraries::{Change, NAMED, TWO, Table};
+use crate::verdicts::{
+    ABSENT, AGREEING, Case, ENTITIES, LIMITS, NAME_FINDINGS, NUMBER_FINDINGS, RULE_FINDINGS,
+    TILEREF_FINDINGS,
 };
 use std::alloc::{AllocError, Global};
 use std::process::Abort;
@@ -129,7 +130,7 @@ fn put_table(
 }
 
 /// A tree with the tables of a library.
-fn tree_of(
+pub fn tree_of(
     alloc: Global,
     tables: &[Table],
     changes: &[Change],
@@ -195,7 +196,32 @@ fn check_findings(rt: &impl Abort, alloc: Global, cases: &[Case]) -> Result<(), 
 
 #[test]
 fn tells_the_first_finding_of_numbers_in_tiles(rt: HostRuntime) -> Result<(), Fail> {
+    check_findings(&rt, rt.alloc(), TILEREF_FINDINGS)?;
     check_findings(&rt, rt.alloc(), NUMBER_FINDINGS)
+}
+
+/// A table of so many tiles, whose paths have so many bytes.
+fn tileref_of(alloc: Global, rows: u32, path: usize) -> Result<Vec<u8>, Fail> {
+    let columns = format!(in alloc; "id=I,1 tile_name=T,{path}")?;
+    let path = vec![in alloc; b'a'; path]?;
+    let mut bytes = header_of(alloc, columns.as_str())?;
+    for k in 0..rows {
+        bytes.extend_from_slice(&(k + 1).to_le_bytes())?;
+        bytes.extend_from_slice(&path)?;
+    }
+    Ok(bytes)
+}
+
+#[test]
+fn tells_limits_of_tiles(rt: HostRuntime) -> Result<(), Fail> {
+    let alloc = rt.alloc();
+    for (rows, path, text) in LIMITS {
+        let mut tree = MemTree::new(alloc, 4096, Vec::new(alloc));
+        let bytes = tileref_of(alloc, rows, path)?;
+        tree.put("out/tileref/tileref.aft", &bytes)?;
+        check_prints(&rt, alloc, &mut tree, Verdict::Limit, text)?;
+    }
+    Ok(())
 }
 
 #[test]

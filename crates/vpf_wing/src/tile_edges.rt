@@ -14,7 +14,7 @@ use crate::following::next_dart;
 use std::marker::Model;
 use vpf_darts::Dart;
 use vpf_findings::Seen;
-use vpf_prims::{Citation, Edge, Tile, id_of};
+use vpf_prims::{Citation, Edge, Tile};
 use vpf_value::Cell;
 
 /// An edge of a tile by its own numbers.
@@ -23,15 +23,7 @@ pub fn own_edge(tile: &Tile<'_>, e: u32) -> Edge
     requires { IsRowOf (length (primitives_of tile.now.tables).edges) e }
     ensures { result ≡ own_edge (kth (primitives_of tile.now.tables).edges e absent_edge) }
 {
-    let row = tile.edge(e);
-    Edge {
-        start_node: id_of(row.start_node),
-        end_node: id_of(row.end_node),
-        right_face: id_of(row.right_face),
-        left_face: id_of(row.left_face),
-        right_edge: id_of(row.right_edge),
-        left_edge: id_of(row.left_edge),
-    }
+    Edge::from(tile.edge(e))
 }
 
 /// The cell of a dart's wing.

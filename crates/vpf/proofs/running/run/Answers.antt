@@ -1,6 +1,6 @@
 use Rattle.std.specs.Prelude.{map, string_bytes}
 use Rattle.vpf.proofs.Answering.{words_answered}
-use Rattle.vpf.proofs.CheckedAnswers.{run_agrees}
+use Rattle.vpf.proofs.CheckedAnswers.{run_agrees, run_traces}
 use Rattle.vpf.proofs.Grammared.{words_said}
 use Rattle.vpf.proofs.ServedAnswers.{index_serves}
 use Rattle.vpf.proofs.running.run.Goals as goal
@@ -25,3 +25,11 @@ returns-clause-checked g c files request loaded e f agrees =
 
 pub returns-clause-agrees : goal.returns-clause-agrees
 returns-clause-agrees g c files request bytes e f done = run_agrees c.checks_decide.ensures.only (map string_bytes c.args.words.now) files request _ _ _ bytes e f done c.do_words.ensures.answer
+
+pub returns-clause-traced : goal.returns-clause-traced
+returns-clause-traced g c files request loaded cycles e f agrees lists =
+    c.do_words.ensures.answer _ (words_said _ _ _ files _ e f (c.traces_list_cycles.ensures.said files request loaded cycles agrees lists))
+
+pub returns-clause-traceable : goal.returns-clause-traceable
+returns-clause-traceable g c files request bytes e f done =
+    run_traces c.traces_list_cycles.ensures.some c.traces_list_cycles.ensures.only (map string_bytes c.args.words.now) files request _ _ _ bytes e f done c.do_words.ensures.answer

@@ -4,8 +4,8 @@ use Rattle.vpf_prims.specs.Tiles.{tables_of}
 use Rattle.vpf_prims.proofs.EdgeLemmas.{edge_at}
 use Rattle.vpf_prims.proofs.tile.Tile.edge.Goals as goal
 
-pub returns : goal.returns
-returns c =
+pub returns-in-None : goal.returns-in-None
+returns-in-None c =
     let inside = c.self.inside in
     let row = rw (← c.self.view_is) at c.requires in
     let read = rw (c.self.invariant.edges, c.row_of.ensures.row) at c.row.ensures in

@@ -19,6 +19,7 @@ invariant_of-result c =
         containing_face = held.containing_face;
       };
       edges = c.in_table.ensures ∙ held.edges at;
+      kept = tt;
       owns = c.requires.owns;
       few = c.requires.few;
     }

@@ -1,0 +1,4 @@
+pub mod Lists
+pub mod Presence
+pub mod Placing
+pub mod Laws

@@ -1,0 +1,5 @@
+pub mod Corners
+pub mod Numbers
+pub mod Maps
+pub mod Rows
+pub mod Laws

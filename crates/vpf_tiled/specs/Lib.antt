@@ -1,0 +1,7 @@
+pub mod Ranks
+pub mod Presence
+pub mod Tiles
+pub mod Names
+pub mod Plans
+pub mod Example
+pub mod Laws

@@ -1,0 +1,4 @@
+pub mod Tracing
+pub mod Laws
+pub mod Kept
+pub mod Gathering

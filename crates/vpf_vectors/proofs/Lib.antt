@@ -1,0 +1,9 @@
+pub mod NameLemmas
+pub mod HeadLemmas
+pub mod CellLemmas
+pub mod RowLemmas
+pub mod LimitLemmas
+pub mod SmallLemmas
+pub mod FileLemmas
+pub mod ReadLemmas
+pub mod CoverageLemmas

@@ -1,0 +1,12 @@
+use Rattle.std.proofs.Common.{◌≡◌, map, take}
+use Rattle.std.specs.List.{enumerate_from}
+use Rattle.vpf_write.specs.Tallies.{Holds}
+use Rattle.vpf_vectors.specs.Heads.{edge_head}
+use Rattle.vpf_vectors.specs.Tables.{edge_cells}
+use Rattle.vpf_vectors.proofs.tables.edge_table.Given as goal
+
+abbrev pub invariant-loop-i : goal.invariant-loop-i
+invariant-loop-i l = record {
+  head : l.writer.head ≡ edge_head;
+  holds : Holds l.writer (map edge_cells (take l.i (enumerate_from 1 l.rows)));
+}

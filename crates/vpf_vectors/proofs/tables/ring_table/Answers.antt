@@ -1,0 +1,41 @@
+use Rattle.std.proofs.Common.{◌≡◌, ◌+◌, ◌∙◌, refl, subst, map, take}
+use Rattle.std.specs.Prelude.{IfOk}
+use Rattle.std.specs.List.{enumerate_from}
+use Rattle.vpf_table.specs.Canonical.{canonical_table}
+use Rattle.vpf_table.specs.Grid.{Grid}
+use Rattle.vpf_vectors.specs.Heads.{ring_head}
+use Rattle.vpf_vectors.specs.Tables.{ring_cells}
+use Rattle.vpf_vectors.proofs.HeadLemmas.{rings_ok, rings_read}
+use Rattle.vpf_vectors.proofs.LimitLemmas.{rings_limit, limit_with}
+use Rattle.vpf_vectors.proofs.RowLemmas.{put_more, put_all, table_with, no_ring}
+use Rattle.vpf_vectors.proofs.tables.ring_table.Goals as goal
+
+pub header_in-requires : goal.header_in-requires
+header_in-requires c = rings_ok
+
+pub loop-i-init : goal.loop-i-init
+loop-i-init c = record {
+  head = c.in_ok-writer.ensures.head ∙ c.in_ok-header.ensures ring_head 89 rings_read;
+  holds = c.in_ok-writer.ensures.holds;
+}
+
+pub loop-i-preserved : goal.loop-i-preserved
+loop-i-preserved c = record {
+  head = c.in_ok-put_ring.ensures.head;
+  holds =
+      put_more c.put_ring.new.writer ring_cells 1 c.loop-i.i (1 + c.loop-i.i) c.args.rows.now no_ring c.loop-i-test.true refl
+      (c.in_ok-put_ring.ensures.put (map ring_cells (take c.loop-i.i (enumerate_from 1 c.args.rows.now))) c.loop-i.invariant.holds);
+}
+
+pub bytes_of-requires : goal.bytes_of-requires
+bytes_of-requires c =
+    let rows = map ring_cells (enumerate_from 1 c.args.rows.now) in
+    let all = put_all c.loop-i.writer ring_cells 1 c.loop-i.i c.args.rows.now c.loop-i-test.false c.loop-i.invariant.holds in
+    (rows, (all, limit_with c.loop-i.writer ring_head rows c.loop-i.invariant.head (rings_limit c.args.rows.now c.requires.few)))
+
+pub returns : goal.returns
+returns c =
+    let rows = map ring_cells (enumerate_from 1 c.args.rows.now) in
+    let all = put_all c.loop-i.writer ring_cells 1 c.loop-i.i c.args.rows.now c.loop-i-test.false c.loop-i.invariant.holds in
+    subst (λ (g : Grid). IfOk c.bytes_of.result (λ bytes. bytes ≡ canonical_table g))
+    (table_with c.loop-i.writer ring_head rows c.loop-i.invariant.head) (c.bytes_of.ensures rows all)

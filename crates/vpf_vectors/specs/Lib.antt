@@ -1,0 +1,4 @@
+pub mod Heads
+pub mod Tables
+pub mod Writing
+pub mod Library

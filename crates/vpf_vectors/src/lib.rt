@@ -1,0 +1,15 @@
+//! Examples for trials of the other crates: worked tables with what the program says of them, and a coverage of any size, the
+//! grid of n by n cells, as the files of a library.
+#![tactic(auto)]
+
+mod headers;
+pub mod laws;
+mod library;
+mod numbers;
+mod tables;
+#[cfg(test)]
+mod tests;
+mod vectors;
+
+pub use library::grid;
+pub use vectors::{VECTORS, Vector};
