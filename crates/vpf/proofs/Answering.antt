@@ -18,9 +18,10 @@ use Rattle.vpf_table_commands.specs.Rows.{IndexAgrees, PlainRows, rows_answer, r
 use Rattle.vpf_table_commands.specs.Show.{show_answer, show_request}
 use Rattle.vpf_table_commands.specs.Swap.{swap_answer, swap_request}
 use Rattle.vpf_library_commands.specs.Check.{check_answer, check_request}
+use Rattle.vpf_library_commands.specs.Tile.{tile_answer, tile_request}
 use Rattle.vpf_library_commands.specs.Trace.{HasTraceAnswer, OneTraceAnswer}
 use Rattle.vpf.specs.declared.command.Command.{Command}
-use Rattle.vpf.specs.declared.command.Command.TheVariants.{Show, Table, Cycles, Swap, Index, Rows, Check, Trace}
+use Rattle.vpf.specs.declared.command.Command.TheVariants.{Show, Table, Cycles, Swap, Index, Rows, Check, Trace, Tile}
 use Rattle.vpf.specs.Commands.{IsAnswer, IsAnswerTo, command_of}
 use Rattle.vpf.specs.Deciding.{HasAnswer, OneAnswer}
 use Rattle.vpf.specs.Indexed.{IsPlainAnswer, PlainAnswers}
@@ -34,6 +35,7 @@ has_answer cycles trace (Index request) files bytes = (index_answer files reques
 has_answer cycles trace (Rows request) files bytes = (rows_answer files request, refl)
 has_answer cycles trace (Check request) files bytes = (check_answer files request, refl)
 has_answer cycles trace (Trace request) files bytes = trace files request bytes
+has_answer cycles trace (Tile request) files bytes = (tile_answer files request, refl)
 
 commands_one : OneCyclesAnswer → OneTraceAnswer → (command : Command) (files : Files) (a b : Answer) → IsAnswerTo command files a → IsAnswerTo command files b → a ≡ b
 commands_one cycles trace (Show request) files a b e f = e ∙ sym f
@@ -44,6 +46,7 @@ commands_one cycles trace (Index request) files a b e f = e ∙ sym f
 commands_one cycles trace (Rows request) files a b e f = e ∙ sym f
 commands_one cycles trace (Check request) files a b e f = e ∙ sym f
 commands_one cycles trace (Trace request) files a b e f = trace files request a b e f
+commands_one cycles trace (Tile request) files a b e f = e ∙ sym f
 
 pub one_answer : OneCyclesAnswer → OneTraceAnswer → OneAnswer
 one_answer cycles trace None told a b e f = e ∙ sym f
@@ -118,7 +121,8 @@ words_apart law (verb ∷ words) =
     (either_apart (bytes_eq verb (codes "index")) _ _ (index_apart (index_request words) (law words))
     (either_apart (bytes_eq verb (codes "rows")) _ _ (asked_apart Rows (λ request. tt) (rows_request words))
     (either_apart (bytes_eq verb (codes "check")) _ _ (asked_apart Check (λ request. tt) (check_request words))
-    (either_apart (bytes_eq verb (codes "trace")) _ None (asked_apart Trace (λ request. tt) (check_request words)) tt)))))))
+    (either_apart (bytes_eq verb (codes "trace")) _ _ (asked_apart Trace (λ request. tt) (check_request words))
+    (either_apart (bytes_eq verb (codes "tile")) _ None (asked_apart Tile (λ request. tt) (tile_request words)) tt))))))))
 
 pub made_elsewhere : IndexesElsewhere → (words : List (List ℕ)) (request : IndexRequest) → command_of words ≡ Some (Index request) → bytes_eq request.file request.out ≡ false
 made_elsewhere law words request e = subst IsApart e (words_apart law words)

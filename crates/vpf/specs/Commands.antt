@@ -11,9 +11,10 @@ use Rattle.vpf_table_commands.specs.Rows.{rows_answer, rows_request}
 use Rattle.vpf_table_commands.specs.Show.{show_answer, show_request}
 use Rattle.vpf_table_commands.specs.Swap.{swap_answer, swap_request}
 use Rattle.vpf_library_commands.specs.Check.{check_answer, check_request}
+use Rattle.vpf_library_commands.specs.Tile.{tile_answer, tile_request}
 use Rattle.vpf_library_commands.specs.Trace.{IsTraceAnswer}
 use Rattle.vpf.specs.declared.command.Command.{Command}
-use Rattle.vpf.specs.declared.command.Command.TheVariants.{Show, Table, Cycles, Swap, Index, Rows, Check, Trace}
+use Rattle.vpf.specs.declared.command.Command.TheVariants.{Show, Table, Cycles, Swap, Index, Rows, Check, Trace, Tile}
 
 -- the command of a verb and the words after it
 abbrev pub command_by : List ℕ → List (List ℕ) → Option Command
@@ -26,6 +27,7 @@ command_by verb words =
     else if bytes_eq verb (codes "rows") then option_map Rows (rows_request words)
     else if bytes_eq verb (codes "check") then option_map Check (check_request words)
     else if bytes_eq verb (codes "trace") then option_map Trace (check_request words)
+    else if bytes_eq verb (codes "tile") then option_map Tile (tile_request words)
     else None
 
 -- the command that words spell
@@ -43,6 +45,7 @@ IsAnswerTo (Index request) files answer = answer ≡ index_answer files request
 IsAnswerTo (Rows request) files answer = answer ≡ rows_answer files request
 IsAnswerTo (Check request) files answer = answer ≡ check_answer files request
 IsAnswerTo (Trace request) files answer = IsTraceAnswer files request answer
+IsAnswerTo (Tile request) files answer = answer ≡ tile_answer files request
 
 -- The answer to words: usage where they are no command, over every tree, and else what the command answers over the files,
 -- where the tree tells them.

@@ -5,3 +5,4 @@ pub mod Deciding
 pub mod Run
 pub mod Grammar
 pub mod Checked
+pub mod Cutting

@@ -4,7 +4,7 @@ ghost use Rattle.std.specs.Prelude.{◌≡◌, IfOk, map, string_bytes};
 ghost use Rattle.vpf.specs.Commands.{command_by, command_of};
 
 use std::alloc::{AllocError, Global};
-use vpf_library_commands::CheckRequest;
+use vpf_library_commands::{CheckRequest, TileRequest};
 use vpf_table_commands::{
     CyclesRequest, IndexRequest, RowsRequest, ShowRequest, SwapRequest, TableRequest,
 };
@@ -28,6 +28,8 @@ pub enum Command {
     Check(CheckRequest),
     /// Lists the boundary cycles of a coverage of a library, past its lines between tiles.
     Trace(CheckRequest),
+    /// Writes the tiled library of an untiled coverage.
+    Tile(TileRequest),
 }
 
 /// The command of a verb and the words after it.
@@ -43,6 +45,7 @@ fn read_verb(alloc: Global, verb: &str, words: &[String]) -> Result<Option<Comma
         "rows" => Ok(RowsRequest::read(alloc, words)?.map(Command::Rows)),
         "check" => Ok(CheckRequest::read(alloc, words)?.map(Command::Check)),
         "trace" => Ok(CheckRequest::read(alloc, words)?.map(Command::Trace)),
+        "tile" => Ok(TileRequest::read(alloc, words)?.map(Command::Tile)),
         _ => Ok(None),
     }
 }

@@ -20,6 +20,8 @@ mod tests_of_rows;
 #[cfg(test)]
 mod tests_of_swaps;
 #[cfg(test)]
+mod tests_of_tiles;
+#[cfg(test)]
 mod tests_of_varying_rows;
 
 use running::run;

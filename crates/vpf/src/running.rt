@@ -15,7 +15,12 @@ ghost use Rattle.vpf_replies.specs.Halting.{ComesTo, TellsFault};
 ghost use Rattle.vpf_loading.specs.Holding.{HoldsBytes};
 ghost use Rattle.vpf_loading.specs.Loading.{LoadedCoverage};
 ghost use Rattle.vpf_library_commands.specs.declared.checking.CheckRequest.{CheckRequest};
+ghost use Rattle.vpf_library_commands.specs.declared.tiling.TileRequest.{TileRequest};
 ghost use Rattle.vpf_library_commands.specs.Agreeing.{Agrees, IsAgreeing};
+ghost use Rattle.vpf_library_commands.specs.Tile.{TileParts};
+ghost use Rattle.vpf_prims.specs.Tables.{TileTables};
+ghost use Rattle.vpf_replies.specs.Making.{made_answer};
+ghost use Rattle.vpf.specs.Cutting.{IsCutFrom, cut_files};
 ghost use Rattle.vpf_library_commands.specs.Check.{agrees_text};
 ghost use Rattle.vpf_darts.specs.declared.darts.TileDart.{TileDart};
 ghost use Rattle.vpf_darts.specs.Listings.{numbers_of};
@@ -26,7 +31,7 @@ ghost use Rattle.vpf_table_commands.specs.declared.indexing.IndexRequest.{IndexR
 ghost use Rattle.vpf_table_commands.specs.declared.selecting.RowsRequest.{RowsRequest};
 ghost use Rattle.vpf_table_commands.specs.Rows.{IndexAgrees};
 ghost use Rattle.vpf.specs.declared.command.Command.{Command};
-ghost use Rattle.vpf.specs.declared.command.Command.TheVariants.{Check, Index, Rows, Trace};
+ghost use Rattle.vpf.specs.declared.command.Command.TheVariants.{Check, Index, Rows, Tile, Trace};
 ghost use Rattle.vpf.specs.Commands.{command_of, IsAnswerTo, IsAnswer};
 ghost use Rattle.vpf.specs.Grammar.{HasFile, IsOver, SaysOfTable};
 ghost use Rattle.vpf.specs.Indexed.{AsksForIndexed, IsPlainAnswer};
@@ -34,11 +39,12 @@ ghost use Rattle.vpf.specs.Run.{Carries, IsCompleted, Prints};
 
 use crate::command::{Command, read_command};
 use crate::laws::{
-    answers_follow_the_grammar, checks_decide, one_answer, plain_answers, traces_list_cycles,
+    answers_follow_the_grammar, checks_decide, one_answer, plain_answers, tiles_are_made,
+    traces_list_cycles,
 };
 use crate::status::Status;
 use std::alloc::Global;
-use vpf_library_commands::{check, trace};
+use vpf_library_commands::{check, tile, trace};
 use vpf_replies::{Halt, Reply, Stop, settle, usage};
 use vpf_source::{DeviceError, Sink, Tree, make_all, put_all};
 use vpf_table::laws::opened_is_read;
@@ -60,6 +66,7 @@ fn obey<T: Tree>(alloc: Global, command: &Command, tree: &mut T) -> Result<Reply
         Command::Rows(request) => rows(alloc, request, tree),
         Command::Check(request) => check(alloc, request, tree),
         Command::Trace(request) => trace(alloc, request, tree),
+        Command::Tile(request) => tile(alloc, request, tree),
     }
 }
 
@@ -193,6 +200,13 @@ pub fn run<T: Tree, O: Sink>(alloc: Global, words: &[String], tree: &mut T, out:
     ensures traceable { (files : Files) (request : CheckRequest) → HoldsBytes files → command_of (map string_bytes words.now) ≡ Some (Trace request)
         → T.files tree.old ≡ Some files → result ≡ Status.Done → Agrees files request }
 
+    // Where an untiled coverage agrees, nothing speaks against its plan, and no file passes a bound, `tile` makes the files of its tiled library:
+    // the tables of the tiles, each primitive in the tiles of its faces, in their order, and no others.
+    ensures tiled { (files : Files) (request : TileRequest) (parts : TileParts) (tables : TileTables) → command_of (map string_bytes words.now) ≡ Some (Tile request)
+        → T.files tree.old ≡ Some files → IsCutFrom files request parts tables
+        → Carries (made_answer (cut_files request parts tables)) result (record { files = T.files tree.old; written = O.written out.old })
+        (record { files = T.files tree.new; written = O.written out.new }) }
+
     // A fault is answered exactly where its count rose in this call; where neither rose, the run is completed.
     ensures tree_fault { result ≡ Status.TreeFault → Rose (T.faults tree.old) (T.faults tree.new) }
     ensures tree_stood { result ≢ Status.TreeFault → Stood (T.faults tree.old) (T.faults tree.new) }
@@ -212,6 +226,7 @@ pub fn run<T: Tree, O: Sink>(alloc: Global, words: &[String], tree: &mut T, out:
     answers_follow_the_grammar();
     checks_decide();
     traces_list_cycles();
+    tiles_are_made();
     plain_answers();
     one_answer();
     made_indexes_serve();

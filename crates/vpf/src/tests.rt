@@ -56,7 +56,7 @@ const FAULTS: [(u64, u64, Status, &str); 7] = [
 ];
 
 /// Words that are no command.
-const NO_COMMANDS: [&[&str]; 11] = [
+const NO_COMMANDS: [&[&str]; 12] = [
     &[],
     &["show"],
     &["show", "t.tab", "t.tab"],
@@ -67,7 +67,8 @@ const NO_COMMANDS: [&[&str]; 11] = [
     &["t.tab", "show"],
     &["table"],
     &["--help"],
-    &["tile", "lib", "cov", "out"],
+    &["tile", "lib", "cov", "lib/out"],
+    &["glue", "lib", "cov", "out"],
 ];
 
 fn put_samples(tree: &mut MemTree) -> Result<(), AllocError> {

@@ -7,14 +7,14 @@ use std::test::Fail;
 use vpf_source::{MemSink, MemTree};
 
 /// The edges of the coverage of the examples.
-const EDG: &[u8] =
+pub(crate) const EDG: &[u8] =
     b"\xe6\0\0\0L;Edges;-;id=I,1,P,Id,-,-,-,:start_node=I,1,N,Start,-,-,-,:end_node=I,1,N,End,-,-,-,:right_face=I,1,N,Right,-,-,-,:left_\
     face=I,1,N,Left,-,-,-,:right_edge=I,1,N,Right,-,-,-,:left_edge=I,1,N,Left,-,-,-,:tile_line=S,1,N,Line,-,-,-,:;\x01\0\0\0\x01\0\0\0\
     \x02\0\0\0\x02\0\0\0\x01\0\0\0\x03\0\0\0\x02\0\0\0\0\0\x02\0\0\0\x02\0\0\0\x01\0\0\0\x03\0\0\0\x01\0\0\0\x03\0\0\0\x01\0\0\0\0\0\
     \x03\0\0\0\x01\0\0\0\x02\0\0\0\x03\0\0\0\x02\0\0\0\x02\0\0\0\x01\0\0\0\x01\0";
 
 /// Its faces.
-const FAC: &[u8] =
+pub(crate) const FAC: &[u8] =
     b"9\0\0\0L;Faces;-;id=I,1,P,Id,-,-,-,:ring_ptr=I,1,N,Ring,-,-,-,:;\x01\0\0\0\x01\0\0\0\x02\0\0\0\x02\0\0\0\x03\0\0\0\x03\0\0\0";
 
 /// Its faces, where the second names the third ring.
@@ -22,12 +22,12 @@ const WRONG_FAC: &[u8] =
     b"9\0\0\0L;Faces;-;id=I,1,P,Id,-,-,-,:ring_ptr=I,1,N,Ring,-,-,-,:;\x01\0\0\0\x01\0\0\0\x02\0\0\0\x03\0\0\0\x03\0\0\0\x03\0\0\0";
 
 /// Its rings.
-const RNG: &[u8] =
+pub(crate) const RNG: &[u8] =
     b"U\0\0\0L;Rings;-;id=I,1,P,Id,-,-,-,:face_id=I,1,N,Face,-,-,-,:start_edge=I,1,N,Edge,-,-,-,:;\x01\0\0\0\x01\0\0\0\x01\0\0\0\x02\0\0\
     \0\x02\0\0\0\x01\0\0\0\x03\0\0\0\x03\0\0\0\x02\0\0\0";
 
 /// Its nodes.
-const CND: &[u8] =
+pub(crate) const CND: &[u8] =
     b";\0\0\0L;Nodes;-;id=I,1,P,Id,-,-,-,:first_edge=I,1,N,Edge,-,-,-,:;\x01\0\0\0\x01\0\0\0\x02\0\0\0\x01\0\0\0";
 
 /// The faces, if they are there, what is printed, and the status.

@@ -9,8 +9,8 @@ ghost use Rattle.vpf_opening.specs.Opened.{opened_coverage};
 ghost use Rattle.vpf_coverage.specs.Opened.{IsCounted, IsPlaced};
 
 use crate::columns::columns_of;
-use crate::tiles::tiles_of;
-use std::alloc::Global;
+use crate::tiles::{all_kept, tiles_of};
+use std::alloc::{AllocError, Global};
 use std::marker::Model;
 use vpf_findings::FindError;
 use vpf_loading::laws::files_are_libraries;
@@ -39,7 +39,7 @@ impl<'a> Model for Coverage<'a> {
 }
 
 impl<'a> Coverage<'a> {
-    ghost use Rattle.std.specs.Prelude.{◌≡◌, None};
+    ghost use Rattle.std.specs.Prelude.{◌≡◌, IfOk, None};
     ghost use Rattle.std.specs.Option.{option_map};
     ghost use Rattle.vpf_prims.specs.Coverages.{last_tile, path_at, tile_at};
     ghost use Rattle.vpf_prims.specs.Libraries.{IsLibrary, library_of};
@@ -79,6 +79,20 @@ impl<'a> Coverage<'a> {
             None if t == 0 => Some(""),
             None => None,
         }
+    }
+
+    /// The same coverage, whose tiles keep what their rows of edges say: 148 bytes an edge. It is for those that ask for the same edges many
+    /// times. The tiles of a tiled coverage keep them as it is.
+    pub fn keeping_edges(self, alloc: Global) -> Result<Coverage<'a>, AllocError>
+        ensures { IfOk result (λ same. same ≡ self.entry) }
+    {
+        if self.is_tiled() {
+            return Ok(self);
+        }
+        Ok(Coverage {
+            paths: self.paths,
+            tiles: all_kept(alloc, self.tiles)?,
+        })
     }
 
     /// What is so of the columns, ids, references and marks of each coverage: nothing disagrees in them.

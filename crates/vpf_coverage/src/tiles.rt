@@ -66,3 +66,30 @@ pub(crate) fn tiles_of<'a>(
     }
     Ok(made)
 }
+
+/// The same tile, if there is one, which keeps what its rows of edges say.
+fn kept_where_there<'a>(
+    alloc: Global,
+    tile: Option<Tile<'a>>,
+) -> Result<Option<Tile<'a>>, AllocError>
+    ensures { IfOk result (λ same. same ≡ tile.entry) }
+{
+    match tile {
+        Some(tile) => Ok(Some(tile.keeping_edges(alloc)?)),
+        None => Ok(None),
+    }
+}
+
+/// The same tiles, which keep what their rows of edges say.
+pub(crate) fn all_kept<'a>(
+    alloc: Global,
+    tiles: Vec<Option<Tile<'a>>>,
+) -> Result<Vec<Option<Tile<'a>>>, AllocError>
+    ensures { IfOk result (λ same. same.items ≡ tiles.entry.items) }
+{
+    let mut kept = Vec::with_capacity(alloc, tiles.len())?;
+    for tile in tiles {
+        kept.push(kept_where_there(alloc, tile)?)?;
+    }
+    Ok(kept)
+}

@@ -16,7 +16,7 @@ use Rattle.vpf_follow.specs.SideLines.{sides_finding}
 use Rattle.vpf_follow.specs.FollowLines.{follows_finding}
 use Rattle.vpf_follow.specs.Sided.{HasSides, HasFollowers}
 use Rattle.vpf_follow.specs.Laws.{SidesDecide, FollowersDecide, TileLoopsDecide, HomesExist}
-use Rattle.vpf_follow.specs.DartLaws.{never_both}
+use Rattle.vpf_wing.specs.DartLaws.{never_both}
 use Rattle.vpf_follow.specs.TileLaws.{or-silent, tile-below, tiles-none, tiles-silent}
 use Rattle.vpf_cross.specs.HomeLines.{coverage_links, homes_finding}
 use Rattle.vpf_cross.specs.RoundLines.{rounds_finding}

@@ -22,7 +22,7 @@ use Rattle.vpf_prims.specs.Libraries.{primitives_in, library_of, in_tiles}
 use Rattle.vpf_follow.specs.Libraries.{over_edges}
 use Rattle.vpf_follow.specs.SideLines.{node_citation}
 use Rattle.vpf_follow.specs.Homes.{HasFewEdges}
-use Rattle.vpf_follow.specs.DartLaws.{some-or-none, none_is_some, same_some, code-minus}
+use Rattle.vpf_wing.specs.DartLaws.{some-or-none, none_is_some, same_some, code-minus}
 use Rattle.vpf_follow.specs.TileLaws.{TileOfDart, dart-tile, DartOfEdge, edge-dart, tile-below, both_lines, or-silent, tiles-none, tiles-silent, darts-none, darts-silent}
 use Rattle.vpf_cross.specs.Carrying.{Difference, first_difference}
 use Rattle.vpf_cross.specs.CarriedLines.{node_carried, universe_carried, first_passing, first_tile, shared_node_line, head_node_line, universe_line, carried_finding}

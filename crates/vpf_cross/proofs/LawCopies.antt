@@ -8,7 +8,7 @@ use Rattle.vpf_wing.specs.Links.{DartLinks}
 use Rattle.vpf_prims.specs.Libraries.{library_of}
 use Rattle.vpf_follow.specs.Following.{is_home, home_copy}
 use Rattle.vpf_follow.specs.Laws.{HomesExist}
-use Rattle.vpf_follow.specs.DartLaws.{some-or-none, never_both, flip-flip, flip-has, flip-tile}
+use Rattle.vpf_wing.specs.DartLaws.{some-or-none, never_both, flip-flip, flip-has, flip-tile}
 use Rattle.vpf_follow.specs.FollowLaws.{home_has, home_self, away_outside}
 use Rattle.vpf_cross.specs.HomeLines.{coverage_links}
 use Rattle.vpf_cross.specs.RoundLines.{copy_in_tile}

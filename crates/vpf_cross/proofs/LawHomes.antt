@@ -21,7 +21,7 @@ use Rattle.vpf_prims.specs.Libraries.{library_of}
 use Rattle.vpf_follow.specs.Following.{is_outside, home_copy}
 use Rattle.vpf_follow.specs.Sided.{HasFollowers}
 use Rattle.vpf_follow.specs.Laws.{HomesExist}
-use Rattle.vpf_follow.specs.DartLaws.{code-minus, code-sign, sign-small}
+use Rattle.vpf_wing.specs.DartLaws.{code-minus, code-sign, sign-small}
 use Rattle.vpf_follow.specs.TileLaws.{TileOfDart, dart-tile, DartOfEdge, edge-dart, unless-none, unless-true, or-silent, darts-none, darts-silent, options-same, same-options}
 use Rattle.vpf_follow.specs.FollowLaws.{home_has, outside_has}
 use Rattle.vpf_cross.specs.Carrying.{Difference, first_difference}

@@ -8,7 +8,7 @@ use Rattle.vpf_wing.specs.Links.{DartLinks, links_of}
 use Rattle.vpf_follow.specs.Following.{is_home, home_copy, library_map}
 use Rattle.vpf_follow.specs.Sided.{HasFollowers}
 use Rattle.vpf_follow.specs.Laws.{HomesExist}
-use Rattle.vpf_follow.specs.DartLaws.{flip-flip, flip-sign, flip-has}
+use Rattle.vpf_wing.specs.DartLaws.{flip-flip, flip-sign, flip-has}
 use Rattle.vpf_follow.specs.FollowLaws.{home_has, home_self, away_outside, home_moves, away_stays, next_apart}
 use Rattle.vpf_cross.specs.Agreeing.{HasHomes}
 use Rattle.vpf_cross.specs.Laws.{AgreeingHasMap}

@@ -9,7 +9,7 @@ use Rattle.vpf_prims.specs.Tables.{TileTables}
 use Rattle.vpf_prims.specs.Coverages.{CoverageTables, tile_at}
 use Rattle.vpf_wing.specs.Links.{Beyond, link_of, links_of, edge_of_dart, wing_by, node_by, face_by}
 use Rattle.vpf_prims.specs.Libraries.{primitives_in, library_of}
-use Rattle.vpf_follow.specs.DartLaws.{IsThere, has-there, none_is_some, same_some, never_both}
+use Rattle.vpf_wing.specs.DartLaws.{IsThere, has-there, none_is_some, same_some, never_both}
 use Rattle.vpf_cross.specs.Laws.{AreNumbered}
 
 -- a tile that has tables, by its tables

@@ -11,7 +11,7 @@ use Rattle.vpf_prims.specs.Libraries.{library_of}
 use Rattle.vpf_follow.specs.Following.{is_home, follow, home_copy}
 use Rattle.vpf_follow.specs.Homes.{HasFewEdges}
 use Rattle.vpf_follow.specs.Laws.{HomesExist}
-use Rattle.vpf_follow.specs.DartLaws.{some-or-none, none_is_some, same_some, code-minus, darts-stand, stands-has, found-passes, found-some}
+use Rattle.vpf_wing.specs.DartLaws.{some-or-none, none_is_some, same_some, code-minus, darts-stand, stands-has, found-passes, found-some}
 use Rattle.vpf_follow.specs.TileLaws.{TileOfDart, dart-tile, DartOfEdge, edge-dart, unless-none, unless-true, darts-none, darts-silent}
 use Rattle.vpf_follow.specs.FollowLaws.{follow_home}
 use Rattle.vpf_cross.specs.HomeLines.{coverage_links}

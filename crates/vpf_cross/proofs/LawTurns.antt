@@ -9,7 +9,7 @@ use Rattle.vpf_wing.specs.Links.{DartLinks, links_of}
 use Rattle.vpf_follow.specs.Following.{is_home, follow, home_copy, library_map}
 use Rattle.vpf_follow.specs.Sided.{HasFollowers}
 use Rattle.vpf_follow.specs.Laws.{HomesExist}
-use Rattle.vpf_follow.specs.DartLaws.{same_some, never_both, dart_bound, darts-below, stands_in, darts-stand, flip-has, flip-tile}
+use Rattle.vpf_wing.specs.DartLaws.{same_some, never_both, dart_bound, darts-below, stands_in, darts-stand, flip-has, flip-tile}
 use Rattle.vpf_follow.specs.FollowLaws.{home_has, home_self, away_outside, home_moves, away_stays}
 use Rattle.vpf_cross.specs.Agreeing.{HasHomes, IsCopy}
 use Rattle.vpf_cross.proofs.LawMap.{flip_is, is_map}

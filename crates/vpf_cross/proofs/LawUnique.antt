@@ -12,7 +12,7 @@ use Rattle.vpf_follow.specs.Following.{beyond_tile, is_own_face, is_far_face, is
 use Rattle.vpf_follow.specs.Sided.{HasSides, HasFollowers}
 use Rattle.vpf_follow.specs.Homes.{HasFewEdges}
 use Rattle.vpf_follow.specs.Laws.{HomesExist}
-use Rattle.vpf_follow.specs.DartLaws.{never_both, none_is_some, same_some, code-tile, flip-flip, flip-tile, flip-has, only-passes}
+use Rattle.vpf_wing.specs.DartLaws.{never_both, none_is_some, same_some, code-tile, flip-flip, flip-tile, flip-has, only-passes}
 use Rattle.vpf_follow.specs.TileLaws.{TileOfDart, dart-tile}
 use Rattle.vpf_follow.specs.FollowLaws.{home_has, home_self, outside_has, away_outside}
 use Rattle.vpf_cross.specs.HomeLines.{coverage_links}

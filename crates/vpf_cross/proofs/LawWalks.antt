@@ -2,7 +2,7 @@
 use Rattle.std.proofs.Common.{◌≡◌, ℕ, zero, suc, ◌+◌, ◌-◌, ◌<◌, ◌≤◌, true, false, cond, eqb, refl, sym, ap, ◌∙◌, subst, inl, inr, arith, List, [], ◌∷◌, ◌++◌, length, map}
 use Rattle.std.proofs.lemmas.Bool.{cases_Bool, cases_eq, or_cases, or_left, or_right, eqb-true}
 use Rattle.vpf_darts.specs.Cycles.{IsCycle, first_of}
-use Rattle.vpf_follow.specs.DartLaws.{never_both, stands_in}
+use Rattle.vpf_wing.specs.DartLaws.{never_both, stands_in}
 
 -- what comes k steps after x
 unfoldable pub after : (ℕ → ℕ) → ℕ → ℕ → ℕ

@@ -14,7 +14,7 @@ use Rattle.vpf_follow.specs.Following.{is_home, follow, follows_to, first_home, 
 use Rattle.vpf_follow.specs.FollowLines.{at_wing_of, earlier_home, follow_line, follow_line_at}
 use Rattle.vpf_follow.specs.Sided.{HasFollowers}
 use Rattle.vpf_follow.specs.Laws.{FollowersDecide}
-use Rattle.vpf_follow.specs.DartLaws.{some-or-none, same_some, code-minus, darts-stand, found-passes, found-some}
+use Rattle.vpf_wing.specs.DartLaws.{some-or-none, same_some, code-minus, darts-stand, found-passes, found-some}
 use Rattle.vpf_follow.specs.FollowLaws.{home_has}
 use Rattle.vpf_follow.specs.TileLaws.{TileOfDart, dart-tile, DartOfEdge, edge-dart, unless-none, unless-true, darts-none, darts-silent, options-same, same-options}
 

@@ -11,7 +11,7 @@ use Rattle.vpf_wing.specs.Links.{DartLinks, links_of}
 use Rattle.vpf_follow.specs.Following.{is_home, follow, follows_to, first_home, home_copy, library_map}
 use Rattle.vpf_follow.specs.Sided.{HasFollowers}
 use Rattle.vpf_follow.specs.Laws.{HomesExist}
-use Rattle.vpf_follow.specs.DartLaws.{never_both, flip-flip, flip-apart, dart_bound, darts-below, darts-stand, found-passes, found-some}
+use Rattle.vpf_wing.specs.DartLaws.{never_both, flip-flip, flip-apart, dart_bound, darts-below, darts-stand, found-passes, found-some}
 use Rattle.vpf_follow.specs.FollowLaws.{home_has, follow_home, home_self, home_moves, away_stays, next_apart}
 use Rattle.vpf_follow.specs.TileLaws.{options-same, same-options}
 

@@ -19,7 +19,7 @@ use Rattle.vpf_follow.specs.Following.{beyond_tile, is_own_face, is_far_face}
 use Rattle.vpf_follow.specs.Sided.{HasSides}
 use Rattle.vpf_follow.specs.SideLines.{part_line, inside_line, inside_wing_line, outside_wing_line, side_wing_lines, side_lines, sides_finding}
 use Rattle.vpf_follow.specs.Laws.{SidesDecide}
-use Rattle.vpf_follow.specs.DartLaws.{flip-tile, flip-edge, flip-flip, flip-minus, minus-code}
+use Rattle.vpf_wing.specs.DartLaws.{flip-tile, flip-edge, flip-flip, flip-minus, minus-code}
 use Rattle.vpf_follow.specs.TileLaws.{TileOfDart, dart-tile, DartOfEdge, edge-dart, unless-none, unless-true, or-silent, tiles-none, tiles-silent, edges-none, edges-silent, options-same, same-options}
 use Rattle.vpf_follow.proofs.LawFacts.{of_both, right_of, left_of, either_of, implied, implies, none_of, of_none, excluded, excludes}
 

@@ -6,7 +6,7 @@ use Rattle.vpf_darts.specs.Darts.{code, tile_in}
 use Rattle.vpf_wing.specs.Links.{Beyond, DartLinks}
 use Rattle.vpf_follow.specs.Following.{is_far_face, is_home, is_outside, is_named, face_name, follow_to, follow, home_copy, library_map}
 use Rattle.vpf_follow.specs.Sided.{HasFollowers}
-use Rattle.vpf_follow.specs.DartLaws.{never_both, none_is_some, only-passes}
+use Rattle.vpf_wing.specs.DartLaws.{never_both, none_is_some, only-passes}
 
 pub home_has : (C : DartLinks) (d : ℕ) → is_home C d ≡ true → C.has d ≡ true
 home_has C d h = (and_parts (C.has d) (not (is_far_face (C.face d))) h).0

@@ -6,7 +6,6 @@ pub mod FollowLines
 pub mod Rows
 pub mod Homes
 pub mod Followed
-pub mod DartLaws
 pub mod TileLaws
 pub mod FollowLaws
 pub mod Laws

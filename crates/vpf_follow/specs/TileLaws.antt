@@ -15,7 +15,7 @@ use Rattle.vpf_prims.specs.Coverages.{CoverageTables, tile_at, last_tile}
 use Rattle.vpf_wing.specs.Links.{links_of, edge_of_dart}
 use Rattle.vpf_prims.specs.Libraries.{primitives_in, library_of, in_tile, in_tiles}
 use Rattle.vpf_follow.specs.Libraries.{over_edges}
-use Rattle.vpf_follow.specs.DartLaws.{IsThere, has-there, there-has, none_is_some, never_both, code-tile, code-edge, sign-small}
+use Rattle.vpf_wing.specs.DartLaws.{IsThere, has-there, there-has, none_is_some, never_both, code-tile, code-edge, sign-small}
 
 -- a line says nothing exactly where its test holds
 pub unless-none : {F : Type 0} (b : Bool) (f : F) → unless b f ≡ None → b ≡ true

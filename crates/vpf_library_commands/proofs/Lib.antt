@@ -3,3 +3,5 @@ pub mod Deciding
 pub mod Example
 pub mod TotalLemmas
 pub mod TraceAnswers
+pub mod TileAnswers
+pub mod TileLoads

@@ -8,7 +8,7 @@ use Rattle.vpf_darts.specs.Listings.{numbers_of}
 use Rattle.vpf_darts.specs.Darts.{tile_dart_code, tile_dart_text}
 use Rattle.vpf_findings.specs.Findings.{Disagreement}
 use Rattle.vpf_findings.specs.Printing.{disagree_text}
-use Rattle.vpf_follow.specs.DartLaws.{code-minus}
+use Rattle.vpf_wing.specs.DartLaws.{code-minus}
 use Rattle.vpf_text.specs.Texts.{◌&◌}
 use Rattle.vpf_cross.specs.Agreeing.{LibraryAgrees}
 use Rattle.vpf_prims.specs.Coverages.{CoverageTables}

@@ -4,3 +4,5 @@ pub mod Check
 pub mod Agreeing
 pub mod Example
 pub mod Trace
+pub mod Tile
+pub mod TileFiles

@@ -4,8 +4,10 @@
 mod checking;
 pub mod laws;
 mod stopping;
+mod tiling;
 mod totals;
 mod tracing;
 
 pub use checking::{CheckRequest, check};
+pub use tiling::{TileRequest, tile};
 pub use tracing::trace;

@@ -6,6 +6,7 @@ ghost use Rattle.vpf_darts.specs.Listings.{numbers_of};
 ghost use Rattle.vpf_findings.specs.Firsts.{Tells};
 ghost use Rattle.vpf_prims.specs.Coverages.{CoverageTables};
 ghost use Rattle.vpf_prims.specs.Libraries.{library_of};
+ghost use Rattle.vpf_numbers.specs.TableLines.{coverage_numbers};
 ghost use Rattle.vpf_loading.specs.Holding.{AreCoverageFiles, AreOfCoverage};
 ghost use Rattle.vpf_trace.specs.Tracing.{IsTrace};
 ghost use Rattle.vpf_replies.specs.Halting.{ComesTo, TellsFault};
@@ -15,13 +16,29 @@ ghost use Rattle.vpf_library_commands.specs.Trace.{IsTraceAnswer, IsTracedAnswer
 use crate::checking::{CheckRequest, named};
 use crate::stopping::stopped;
 use std::alloc::{AllocError, Global};
-use vpf_coverage::open_coverage;
+use vpf_coverage::{Coverage, open_coverage};
 use vpf_cross::check_coverage;
 use vpf_darts::Listing;
 use vpf_findings::FindError;
 use vpf_loading::load_coverage;
 use vpf_replies::{Halt, Reply, Stop, disagreement, listed};
 use vpf_source::{File, Tree};
+
+/// The coverage of files that were loaded, which keeps what its rows of edges say: a walk round the faces asks for an edge as often as it comes
+/// to it.
+fn opened<'a>(
+    alloc: Global,
+    files: &'a [File],
+    request: &CheckRequest,
+) -> Result<Coverage<'a>, FindError<'a>>
+    requires { AreOfCoverage request.now.lib request.now.cov files.now }
+    ensures first { (c : CoverageTables) → AreCoverageFiles request.now.lib request.now.cov c files.now → Tells result (coverage_numbers c) }
+    ensures opened { (c : CoverageTables) → AreCoverageFiles request.now.lib request.now.cov c files.now
+        → IfOk result (λ coverage. coverage ≡ c) }
+{
+    let coverage = open_coverage(alloc, files, request.lib.as_str(), request.cov.as_str())?;
+    Ok(coverage.keeping_edges(alloc)?)
+}
 
 /// The boundary cycles of the coverage of files that were loaded, past its lines, where nothing disagrees, or the first finding: rule by
 /// rule.
@@ -35,7 +52,7 @@ fn cycles_of<'a>(
     ensures cycles { (c : CoverageTables) → AreCoverageFiles request.now.lib request.now.cov c files.now
         → IfOk result (λ listing. IsTrace (library_of c) (numbers_of listing)) }
 {
-    let coverage = open_coverage(alloc, files, request.lib.as_str(), request.cov.as_str())?;
+    let coverage = opened(alloc, files, request)?;
     let checked = check_coverage(alloc, &coverage)?;
     Ok(vpf_trace::trace(alloc, &checked)?)
 }

@@ -4,4 +4,6 @@
 pub mod laws;
 mod loading;
 
-pub use loading::{LoadStop, load_coverage, within};
+pub use loading::{
+    LoadStop, load_coverage, load_folder, load_tileref, required_table, table_in, within,
+};

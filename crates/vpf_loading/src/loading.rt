@@ -16,8 +16,10 @@ mod tiles;
 
 pub use names::within;
 use std::alloc::{AllocError, Global};
-use tileref::load_tileref;
-use tiles::{load_folder, load_tiles};
+pub use tables::required_table;
+pub use tileref::{load_tileref, table_in};
+pub use tiles::load_folder;
+use tiles::load_tiles;
 use vpf_findings::OwnFinding;
 use vpf_source::{File, Name, Tree};
 use vpf_table::Limit;

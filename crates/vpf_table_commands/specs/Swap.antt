@@ -7,16 +7,16 @@ use Rattle.vpf_source.specs.declared.file.File.{File}
 use Rattle.vpf_triplet.specs.declared.orders.Order.{Order}
 use Rattle.vpf_triplet.specs.declared.orders.Order.TheVariants.{Little, Big}
 use Rattle.vpf_triplet.specs.declared.places.Part.{Part}
-use Rattle.vpf_triplet.specs.declared.places.Part.TheVariants as parts
 use Rattle.vpf_table.specs.declared.limit.Limit.{Limit}
-use Rattle.vpf_table.specs.Canonical.{canonical_table, canonical_index, in_order}
+use Rattle.vpf_table.specs.Canonical.{canonical_table, in_order}
 use Rattle.vpf_table.specs.Grid.{Grid}
 use Rattle.vpf_table.specs.Limits.{bound_text}
 use Rattle.vpf_table.specs.Reading.{table_of}
 use Rattle.vpf_write.specs.declared.in_place.Turning.{Turning as TableTurning}
 use Rattle.vpf_write.specs.InPlace.{HasRoom, turned_file}
 use Rattle.vpf_write.specs.Writing.{first_limit}
-use Rattle.vpf_names.specs.Indexes.{ends_in_x, index_name}
+use Rattle.vpf_names.specs.Indexes.{ends_in_x}
+use Rattle.vpf_made.specs.Files.{part_name, table_files}
 use Rattle.vpf_names.specs.Naming.{file_name}
 use Rattle.vpf_replies.specs.declared.verdict.Verdict.TheVariants.{Done}
 use Rattle.vpf_replies.specs.Answer.{Answer, limited}
@@ -41,19 +41,6 @@ swap_request_of file out = None
 abbrev pub swap_request : List (List ℕ) → Option SwapRequest
 swap_request (file ∷ out ∷ []) = swap_request_of (file_name file) (file_name out)
 swap_request words = None
-
--- the file of a table, and that of its index where it has one
-abbrev pub index_files : List ℕ → Option (List ℕ) → List File
-index_files name None = []
-index_files name (Some bytes) = record { name = index_name name; bytes = bytes } ∷ []
-
-abbrev pub table_files : List ℕ → Grid → List File
-table_files name g = record { name = name; bytes = canonical_table g } ∷ index_files name (canonical_index g)
-
--- the file that a limit of writing a table names: the table's, or its index's
-abbrev pub part_name : List ℕ → Part → List ℕ
-part_name name parts.Index = index_name name
-part_name name part = name
 
 -- what is answered where a table is to be written under a name: the limit that it passes, or its files
 abbrev pub written_by : List ℕ → Grid → Option (Part × Limit) → Answer

@@ -9,13 +9,15 @@ ghost use Rattle.vpf_table.specs.Spelling.{IsTable};
 ghost use Rattle.vpf_replies.specs.Answer.{limited};
 ghost use Rattle.vpf_replies.specs.Halting.{ComesTo, TellsFault};
 ghost use Rattle.vpf_replies.specs.Texts.{limit_text};
-ghost use Rattle.vpf_table_commands.specs.Swap.{clashes, index_files, part_name, written_answer, other_order, turned, turned_answer, IsPlan};
+ghost use Rattle.vpf_made.specs.Files.{part_name};
+ghost use Rattle.vpf_table_commands.specs.Swap.{clashes, written_answer, other_order, turned, turned_answer, IsPlan};
 ghost use Rattle.vpf_table_commands.specs.Swap.{swap_request_of, swap_request, swap_bytes_answer, swap_answer};
 
 use std::alloc::{AllocError, Global};
-use vpf_names::{ends_in_x, file_name, index_name};
-use vpf_replies::{Halt, Reply, Stop, fault, file_of, limit, makes, required_file};
-use vpf_source::{File, Name, Tree};
+use vpf_made::{files_of, part_name};
+use vpf_names::{ends_in_x, file_name};
+use vpf_replies::{Halt, Reply, Stop, fault, limit, makes, required_file};
+use vpf_source::{Name, Tree};
 use vpf_table::{Limit, TableView};
 use vpf_triplet::{Order, Part, PlaceError};
 use vpf_write::{Turning, WriteError, Written, write_in};
@@ -64,30 +66,12 @@ impl SwapRequest {
     }
 }
 
-/// The files of a table that is written: its own, and that of its index where it has one.
-fn files_of(alloc: Global, name: &str, written: Written) -> Result<Vec<File>, AllocError>
-    ensures { IfOk result (λ files. files.items ≡ record { name = name.now; bytes = written.table } ∷ index_files name.now written.index) }
-{
-    let mut files = Vec::new(alloc);
-    files.push(file_of(alloc, name, written.table)?)?;
-    if let Some(bytes) = written.index {
-        let name = index_name(alloc, name)?;
-        files.push(File { name, bytes })?;
-    }
-    Ok(files)
-}
-
 /// The reply where a table can't be written under a name.
 fn stopped(alloc: Global, name: &str, part: Part, stop: Limit) -> Result<Reply, AllocError>
     ensures { IfOk result (λ reply. reply ≡ limited (limit_text (bound_text stop.what) (part_name name.now part) stop.found)) }
 {
-    match part {
-        Part::Index => {
-            let index = index_name(alloc, name)?;
-            limit(alloc, stop.what, index.as_str(), stop.found)
-        }
-        Part::Table | Part::Theme => limit(alloc, stop.what, name, stop.found),
-    }
+    let file = part_name(alloc, name, part)?;
+    limit(alloc, stop.what, file.as_str(), stop.found)
 }
 
 /// The other byte order.

@@ -7,21 +7,22 @@ use Rattle.vpf_darts.specs.Maps.{IsMap, is_of_any}
 use Rattle.vpf_prims.specs.Primitives.{Primitives, untiled}
 use Rattle.vpf_wing.specs.Links.{DartLinks, link_of, tail_node, local_next}
 use Rattle.vpf_follow.specs.Following.{is_far_face, is_inside, is_home, is_outside, follow, home_copy, beyond_tile}
-use Rattle.vpf_tiled.specs.Presence.{untiled_links, coverage_map, next_of, tail_of, face_of, home, is_within, is_present, has_edge, local_edge, local_node, copy_in, dart_name, absent_darts, tile_map}
-use Rattle.vpf_tiled.specs.Tiles.{tiled_face, reference_to}
+use Rattle.vpf_tiling.specs.Presence.{untiled_links, coverage_map, next_of, tail_of, face_of, home, is_within, is_present, has_edge, local_edge, local_node, copy_in, dart_name, absent_darts, tile_map}
+use Rattle.vpf_tiling.specs.Tiles.{tiled_face, reference_to}
 use Rattle.vpf_tiled.specs.Names.{dart_behind}
 use Rattle.vpf_wing.specs.WellFormed.{IsWellFormed, IsDartOf}
 use Rattle.vpf_cross.specs.Agreeing.{IsCopy, IsFirstCopy, GoesOnHere}
-use Rattle.vpf_tiled.specs.Plans.{IsTileable}
+use Rattle.vpf_tiling.specs.Plans.{IsTileable}
 use Rattle.vpf_tiled.proofs.Parts.{HasLinks, OfTiled, TiledLoops, OneInside, InsidePlain, OutsidePart, SamePart, Follows, FollowApart, HomeFlip, HomeSign, HomeMark, HomeCarried, GoesOn, HasNexts, NextsApart}
-use Rattle.vpf_follow.specs.DartLaws.{never_both, same_some, flip-has}
+use Rattle.vpf_wing.specs.DartLaws.{never_both, same_some, flip-has}
 use Rattle.vpf_tiled.proofs.Facts.{MapLaws}
 use Rattle.vpf_follow.specs.FollowLaws.{home_has, outside_has}
-use Rattle.vpf_tiled.proofs.CopyLemmas.{CopyAt, copy_at, copies_have_links, dart_is, edge_present, present_has, present_flip}
-use Rattle.vpf_tiled.proofs.SideLemmas.{Within, within_is, source_next, face_next, home_plain, present_home, side, inside, outside, universe, node_apart, above, rank_apart, same_plus}
+use Rattle.vpf_tiled.proofs.CopyLemmas.{CopyAt, copy_at, copies_have_links}
+use Rattle.vpf_tiled.proofs.SideLemmas.{Within, within_is, home_plain, present_home, side, inside, outside, universe, node_apart, above, rank_apart, same_plus}
 use Rattle.vpf_tiled.proofs.FollowLemmas.{copy_flip, library_links, tail_at, at_home, inside_home, universe_home, home_at, link_here, link_there, following_is_next, are_edges, next_is_first}
 use Rattle.vpf_tiled.proofs.NameLemmas.{IsCopyOf, library_copy, name_apart, home_is_name}
 use Rattle.vpf_tiled.proofs.NextLemmas.{passed_absent, stays_present, face_id, id_within, id_not, sides_apart, tile_arrives, tile_next_is_local}
+use Rattle.vpf_tiling.specs.PresenceLaws.{dart_is, edge_present, face_next, present_flip, present_has, source_next}
 
 -- what is so of each copy of a present dart is so of each dart of the library
 pub at_each : (P : ℕ → Type 0) (c : Primitives) (plan : ℕ → ℕ) (tiles : ℕ) → IsTileable c plan tiles

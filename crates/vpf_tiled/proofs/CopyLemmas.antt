@@ -5,87 +5,17 @@ use Rattle.std.specs.Prelude.{filter}
 use Rattle.std.proofs.lemmas.Bool.{cases_Bool, and_parts, and_from, or_cases, or_left, or_right, eqb-true, eq-eqb, leb-true, le-leb}
 use Rattle.vpf_darts.specs.Darts.{code, tile_in, edge_in, sign_in, flip}
 use Rattle.vpf_prims.specs.Lists.{kth}
-use Rattle.vpf_tiled.specs.Ranks.{rank, up_to}
+use Rattle.vpf_tiling.specs.Ranks.{rank, up_to}
 use Rattle.vpf_prims.specs.Primitives.{Primitives, Library, EdgePrimitive, untiled, absent_edge, edges_in, tile_edges, edge_count}
 use Rattle.vpf_wing.specs.Links.{links_of, link_of, edge_of_dart, is_minus, wing_by, node_by, face_by}
-use Rattle.vpf_tiled.specs.Presence.{untiled_links, face_of, holds_face, held_faces, is_within, is_present, has_edge, present_edges, local_edge, copy_in}
-use Rattle.vpf_tiled.specs.Tiles.{tiled_edge, tiled_edges, tiled_wing, tiled_node, tiled_face, tiled_primitives, is_made, tiled_library}
-use Rattle.vpf_tiled.specs.Plans.{IsPlan, IsTileable}
+use Rattle.vpf_tiling.specs.Presence.{untiled_links, face_of, holds_face, held_faces, is_within, is_present, has_edge, present_edges, local_edge, copy_in}
+use Rattle.vpf_tiling.specs.Tiles.{tiled_edge, tiled_edges, tiled_wing, tiled_node, tiled_face, tiled_primitives, is_made, tiled_library}
+use Rattle.vpf_tiling.specs.Plans.{IsPlan, IsTileable}
 use Rattle.vpf_tiled.proofs.Parts.{CopiesHaveLinks}
-use Rattle.vpf_follow.specs.DartLaws.{code-sign, never_both, stands_in, IsThere, has-there, there-has, code-parts, code-tile, code-edge, sign-cases, flip-flip, flip-has}
-use Rattle.vpf_tiled.proofs.Facts.{rank-step, weight, up_stands, any_from, in_zero}
-use Rattle.vpf_tiled.proofs.RankLemmas.{count_is, rank_rises, numbered_many}
-use Rattle.vpf_tiled.proofs.NumberLemmas.{edges_by_number, no_edge_zero}
-
-pub other-code : (e : ℕ) → flip (code 0 e 1) ≡ code 0 e 0
-unfolding code flip
-other-code e = omega arith
-
-pub sign-below : (d : ℕ) → sign_in d < 2
-sign-below d = elim (sign-cases d) [ inl z ↦ omega arith | inr o ↦ omega arith ]
-
--- a dart of an untiled coverage by its edge and its sign
-pub dart_is : (c : Primitives) (d : ℕ) → (untiled_links c).has d ≡ true → code 0 (edge_in d) (sign_in d) ≡ d
-dart_is c d h = ap (λ t. code t (edge_in d) (sign_in d)) (sym (in_zero c d h).tile) ∙ code-parts d
-
-pub present_has : (c : Primitives) (plan : ℕ → ℕ) (t d : ℕ) → is_present c plan t d ≡ true → (untiled_links c).has d ≡ true
-present_has c plan t d h = elim (or_cases (is_within c plan t d) (is_within c plan t (flip d)) h) [
-  | inl a ↦ (and_parts ((untiled_links c).has d) _ a).0
-  | inr b ↦ subst (λ z. (untiled_links c).has z ≡ true) (flip-flip d) (flip-has (untiled c) (flip d) (and_parts ((untiled_links c).has (flip d)) _ b).0)
-]
-
-pub present_flip : (c : Primitives) (plan : ℕ → ℕ) (t d : ℕ) → is_present c plan t d ≡ true → is_present c plan t (flip d) ≡ true
-present_flip c plan t d h = elim (or_cases (is_within c plan t d) (is_within c plan t (flip d)) h) [
-  | inl a ↦ or_right (is_within c plan t (flip d)) (is_within c plan t (flip (flip d))) (ap (is_within c plan t) (flip-flip d) ∙ a)
-  | inr b ↦ or_left (is_within c plan t (flip d)) (is_within c plan t (flip (flip d))) b
-]
-
-pub plus_or : (d : ℕ) → code 0 (edge_in d) (sign_in d) ≡ d → (code 0 (edge_in d) 0 ≡ d) ⊎ (code 0 (edge_in d) 0 ≡ flip d)
-plus_or d e = elim (sign-cases d) [
-  | inl z ↦ inl (ap (code 0 (edge_in d)) (sym z) ∙ e)
-  | inr o ↦ inr (sym (other-code (edge_in d)) ∙ ap (λ s. flip (code 0 (edge_in d) s)) (sym o) ∙ ap flip e)
-]
-
-pub edge_present : (c : Primitives) (plan : ℕ → ℕ) (t d : ℕ) → is_present c plan t d ≡ true → has_edge c plan t (edge_in d) ≡ true
-edge_present c plan t d h = elim (plus_or d (dart_is c d (present_has c plan t d h))) [
-  | inl e ↦ ap (is_present c plan t) e ∙ h
-  | inr e ↦ ap (is_present c plan t) e ∙ present_flip c plan t d h
-]
-
--- a face of the tile
-pub record Held (c : Primitives) (plan : ℕ → ℕ) (t : ℕ) : Type 0 where
-  pub face : ℕ
-  pub from_two : 2 ≤ face
-  pub to_last : face ≤ length c.faces
-  pub planned : plan face ≡ t
-
-pub held_of : (c : Primitives) (plan : ℕ → ℕ) (t d : ℕ) → is_within c plan t d ≡ true → Held c plan t
-held_of c plan t d h = (
-    let f : ℕ = face_of c d in
-    let a = and_parts ((untiled_links c).has d) (holds_face c plan t f) h in
-    let b = and_parts (leb 2 f && leb f (length c.faces)) (eqb (plan f) t) a.1 in
-    let r = and_parts (leb 2 f) (leb f (length c.faces)) b.0 in
-    record { face = f; from_two = leb-true 2 f r.0; to_last = leb-true f (length c.faces) r.1; planned = eqb-true (plan f) t b.1 })
-
-pub held : (c : Primitives) (plan : ℕ → ℕ) (t d : ℕ) → is_present c plan t d ≡ true → Held c plan t
-held c plan t d h =
-    elim (or_cases (is_within c plan t d) (is_within c plan t (flip d)) h) [ inl a ↦ held_of c plan t d a | inr b ↦ held_of c plan t (flip d) b ]
-
-pub holds_held : (c : Primitives) (plan : ℕ → ℕ) (t : ℕ) (k : Held c plan t) → holds_face c plan t k.face ≡ true
-holds_held c plan t k =
-    and_from (leb 2 k.face && leb k.face (length c.faces)) (eqb (plan k.face) t)
-    (and_from (leb 2 k.face) (leb k.face (length c.faces)) (le-leb 2 k.face k.from_two) (le-leb k.face (length c.faces) k.to_last))
-    (eq-eqb (plan k.face) t k.planned)
-
-pub stands_filter : (p : ℕ → Bool) (x : ℕ) (xs : List ℕ) → p x ≡ true → stands_in x xs ≡ true → stands_in x (filter p xs) ≡ true
-stands_filter p x [] h s = absurd (never_both false s refl)
-stands_filter p x (y ∷ ys) h s = elim (or_cases (eqb x y) (stands_in x ys) s) [
-  | inl e ↦ (let t : p y ≡ true = ap p (sym (eqb-true x y e)) ∙ h in rw t (or_left (eqb x y) (stands_in x (filter p ys)) e))
-  | inr r ↦ (elim (cases_Bool (p y)) [
-    | inl t ↦ rw t (or_right (eqb x y) (stands_in x (filter p ys)) (stands_filter p x ys h r))
-    | inr u ↦ rw u (stands_filter p x ys h r)
-  ])
-]
+use Rattle.vpf_wing.specs.DartLaws.{code-sign, never_both, stands_in, IsThere, has-there, there-has, code-parts, code-tile, code-edge, sign-cases, flip-flip, flip-has}
+use Rattle.vpf_tiled.proofs.NumberLemmas.{edges_by_number}
+use Rattle.vpf_tiling.specs.PresenceLaws.{Held, any_from, dart_is, edge_present, held, holds_held, in_zero, no_edge_zero, present_has, sign-below, stands_filter, up_stands}
+use Rattle.vpf_tiling.specs.RankLaws.{count_is, numbered_many, rank-step, rank_rises, weight}
 
 -- a tile with a face has tables
 pub made : (c : Primitives) (plan : ℕ → ℕ) (tiles t : ℕ) → IsPlan c plan tiles → Held c plan t → is_made c plan tiles t ≡ true

@@ -8,19 +8,21 @@ use Rattle.std.proofs.lemmas.Bool.{cases_Bool, cases_eq, and_parts, and_from, or
 use Rattle.vpf_darts.specs.Darts.{code, tile_in, edge_in, sign_in, flip}
 use Rattle.vpf_darts.specs.Laws.{ComesTo}
 use Rattle.vpf_darts.specs.Maps.{DartMap, IsMap, AreEdges, is_of, is_of_any}
-use Rattle.vpf_tiled.specs.Ranks.{up_to}
+use Rattle.vpf_tiling.specs.Ranks.{up_to}
 use Rattle.vpf_prims.specs.Primitives.{Primitives, untiled, edge_count}
 use Rattle.vpf_wing.specs.Links.{Beyond, Link, DartLinks, links_of, link_of, tail_node, only}
 use Rattle.vpf_follow.specs.Following.{is_far_face, is_home, same_beyond, face_beyond, face_name, is_named, follow, follow_links}
-use Rattle.vpf_tiled.specs.Presence.{untiled_links, coverage_map, next_of, tail_of, head_of, face_of, edge_darts, home, is_present, local_edge, local_node, local_face, copy_in, absent_darts, tile_map}
-use Rattle.vpf_tiled.specs.Tiles.{reference_to, tiled_wing, tiled_node, tiled_face, tiled_library}
-use Rattle.vpf_tiled.specs.Plans.{IsTileable}
+use Rattle.vpf_tiling.specs.Presence.{untiled_links, coverage_map, next_of, tail_of, head_of, face_of, edge_darts, home, is_present, local_edge, local_node, local_face, copy_in, absent_darts, tile_map}
+use Rattle.vpf_tiling.specs.Tiles.{reference_to, tiled_wing, tiled_node, tiled_face, tiled_library}
+use Rattle.vpf_tiling.specs.Plans.{IsTileable}
 use Rattle.vpf_tiled.proofs.Parts.{HasLinks}
 use Rattle.vpf_tiled.specs.Laws.{FollowingIsNext, TileNextIsFirstPresent}
-use Rattle.vpf_follow.specs.DartLaws.{never_both, there-has, code-tile, code-edge, flip-flip, flip-has, flip-edge}
-use Rattle.vpf_tiled.proofs.Facts.{all_join, up-last, MapLaws}
-use Rattle.vpf_tiled.proofs.CopyLemmas.{CopyAt, copy_at, copies_have_links, present_has, present_flip, sign-below}
-use Rattle.vpf_tiled.proofs.SideLemmas.{source_next, face_next, tail_next, in_faces, present_home, side, node_apart, whole_name, above, name_is, same_beyond-refl, names_apart, inside, outside, universe}
+use Rattle.vpf_wing.specs.DartLaws.{never_both, there-has, code-tile, code-edge, flip-flip, flip-has, flip-edge}
+use Rattle.vpf_tiled.proofs.Facts.{all_join, MapLaws}
+use Rattle.vpf_tiled.proofs.CopyLemmas.{CopyAt, copy_at, copies_have_links}
+use Rattle.vpf_tiled.proofs.SideLemmas.{present_home, side, node_apart, whole_name, above, name_is, same_beyond-refl, names_apart, inside, outside, universe}
+use Rattle.vpf_tiling.specs.PresenceLaws.{face_next, in_faces, present_flip, present_has, sign-below, source_next, tail_next}
+use Rattle.vpf_tiling.specs.RankLaws.{up-last}
 
 -- the edges that are absent from a tile have no present dart
 pub not_of_any : (q : ℕ → Bool) (x : ℕ) → q x ≡ false → q (flip x) ≡ false → (xs : List ℕ) → is_of_any flip (filter q xs) x ≡ false

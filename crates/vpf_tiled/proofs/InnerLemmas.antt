@@ -5,18 +5,18 @@ use Rattle.vpf_darts.specs.Darts.{edge_in}
 use Rattle.vpf_prims.specs.Primitives.{Primitives, RingPrimitive, absent_ring}
 use Rattle.vpf_prims.specs.References.{id_of}
 use Rattle.vpf_wing.specs.Walks.{Steps, LeadsTo}
-use Rattle.vpf_tiled.specs.Presence.{untiled_links, next_of, face_of, holds_face, is_within, is_present, has_edge, local_edge, local_face, tile_map}
-use Rattle.vpf_tiled.specs.Tiles.{Ring, face_rings}
+use Rattle.vpf_tiling.specs.Presence.{untiled_links, next_of, face_of, holds_face, is_within, is_present, has_edge, local_edge, local_face, tile_map}
+use Rattle.vpf_tiling.specs.Tiles.{Ring, face_rings}
 use Rattle.vpf_wing.specs.WellFormed.{IsWellFormed}
-use Rattle.vpf_tiled.specs.Plans.{IsTileable}
-use Rattle.vpf_tiled.proofs.Facts.{MapLaws, in_zero}
-use Rattle.vpf_tiled.proofs.CopyLemmas.{edge_present, present_has}
-use Rattle.vpf_tiled.proofs.SideLemmas.{in_faces, source_next, face_next, rank_apart, same_plus}
+use Rattle.vpf_tiling.specs.Plans.{IsTileable}
+use Rattle.vpf_tiled.proofs.Facts.{MapLaws}
+use Rattle.vpf_tiled.proofs.SideLemmas.{rank_apart, same_plus}
 use Rattle.vpf_tiled.proofs.FollowLemmas.{tile_next}
 use Rattle.vpf_tiled.proofs.NextLemmas.{face_id, id_within, id_apart, Arrives, tile_arrives}
 use Rattle.vpf_tiled.proofs.RoundLemmas.{within_present, within_face}
 use Rattle.vpf_tiled.proofs.TableLemmas.{SourceRing, source_ring, HeldFace}
 use Rattle.vpf_tiled.proofs.WalkLemmas.{steps_keep, Pairs, pairs_from, pairs_passing}
+use Rattle.vpf_tiling.specs.PresenceLaws.{edge_present, face_next, in_faces, in_zero, present_has, source_next}
 
 -- a present dart that a ring of the tile may start with
 pub record StartOf (c : Primitives) (plan : ℕ → ℕ) (t : ℕ) (r : Ring) (d : ℕ) : Type 0 where

@@ -12,11 +12,11 @@ use Rattle.vpf_wing.specs.Links.{DartLinks}
 use Rattle.vpf_follow.specs.Following.{library_map}
 use Rattle.vpf_trace.specs.Tracing.{tile_lines}
 use Rattle.vpf_tiled.specs.Names.{dart_behind, is_name, named_map}
-use Rattle.vpf_tiled.specs.Presence.{untiled_links, coverage_map, dart_name}
-use Rattle.vpf_tiled.specs.Tiles.{tiled_library}
-use Rattle.vpf_tiled.specs.Plans.{IsTileable}
+use Rattle.vpf_tiling.specs.Presence.{untiled_links, coverage_map, dart_name}
+use Rattle.vpf_tiling.specs.Tiles.{tiled_library}
+use Rattle.vpf_tiling.specs.Plans.{IsTileable}
 use Rattle.vpf_tiled.specs.Laws.{CyclesAreNamed, ListingIsNamed}
-use Rattle.vpf_follow.specs.DartLaws.{never_both}
+use Rattle.vpf_wing.specs.DartLaws.{never_both}
 use Rattle.vpf_tiled.proofs.FollowLemmas.{library_links}
 use Rattle.vpf_tiled.proofs.NamedLemmas.{named_home, map_is_named}
 use Rattle.vpf_tiled.proofs.LineLemmas.{behind, name_is_name, is_renaming, named_is_map, source_lines, name_mark, library_lines, source_edges, library_edges, without_has}

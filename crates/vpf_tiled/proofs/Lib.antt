@@ -1,6 +1,5 @@
 pub mod Facts
 pub mod Parts
-pub mod RankLemmas
 pub mod NumberLemmas
 pub mod CopyLemmas
 pub mod SideLemmas
@@ -22,5 +21,4 @@ pub mod RingLemmas
 pub mod InnerLemmas
 pub mod OnceLemmas
 pub mod TiledLemmas
-pub mod CountLemmas
 pub mod ExampleLemmas

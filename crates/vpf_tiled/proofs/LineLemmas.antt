@@ -4,7 +4,7 @@ use Rattle.std.specs.List.{AllByRecursion}
 use Rattle.std.specs.Prelude.{filter}
 use Rattle.std.proofs.lemmas.Bool.{cases_Bool, and_parts, and_from, or_cases, or_left, or_right, eqb-true, eq-eqb}
 use Rattle.vpf_darts.specs.Darts.{tile_in, edge_in, flip}
-use Rattle.vpf_tiled.proofs.Facts.{of_any_from, MapLaws}
+use Rattle.vpf_tiled.proofs.Facts.{MapLaws}
 use Rattle.vpf_darts.specs.Laws.{RenamingGivesAMap, IsRenaming}
 use Rattle.vpf_darts.specs.Maps.{DartMap, IsMap, AreEdges, is_of, is_of_any, without, without_edge}
 use Rattle.vpf_prims.specs.Primitives.{Primitives, Library, untiled, absent_edge, tile_edges, is_tile_line}
@@ -14,17 +14,18 @@ use Rattle.vpf_wing.specs.Links.{DartLinks, links_of, is_minus}
 use Rattle.vpf_follow.specs.Following.{is_home}
 use Rattle.vpf_trace.specs.Tracing.{is_on_line, tile_lines}
 use Rattle.vpf_tiled.specs.Names.{dart_behind, is_name, named_map}
-use Rattle.vpf_tiled.specs.Presence.{untiled_links, coverage_map, next_of, home, is_present, copy_in, dart_name}
-use Rattle.vpf_tiled.specs.Tiles.{tiled_library}
-use Rattle.vpf_tiled.specs.Plans.{IsTileable}
-use Rattle.vpf_follow.specs.DartLaws.{flip-minus, never_both, stands_in, darts-stand, flip-flip, flip-has, flip-tile, flip-edge}
+use Rattle.vpf_tiling.specs.Presence.{untiled_links, coverage_map, next_of, home, is_present, copy_in, dart_name}
+use Rattle.vpf_tiling.specs.Tiles.{tiled_library}
+use Rattle.vpf_tiling.specs.Plans.{IsTileable}
+use Rattle.vpf_wing.specs.DartLaws.{flip-minus, never_both, stands_in, darts-stand, flip-flip, flip-has, flip-tile, flip-edge}
 use Rattle.vpf_follow.specs.FollowLaws.{home_has}
 use Rattle.vpf_tiled.proofs.LocalLemmas.{all_home}
-use Rattle.vpf_tiled.proofs.CopyLemmas.{copy_at, copies_have_links, present_has, stands_filter}
+use Rattle.vpf_tiled.proofs.CopyLemmas.{copy_at, copies_have_links}
 use Rattle.vpf_tiled.proofs.SideLemmas.{present_home}
 use Rattle.vpf_tiled.proofs.FollowLemmas.{library_links, home_at}
 use Rattle.vpf_tiled.proofs.NameLemmas.{IsCopyOf, copy_by_number, name_apart}
 use Rattle.vpf_tiled.proofs.NamedLemmas.{NameIs, name_parts, home_named, named_home}
+use Rattle.vpf_tiling.specs.PresenceLaws.{of_any_from, present_has, stands_filter}
 
 -- a name is the name of the dart behind it
 pub record Behind (c : Primitives) (plan : ℕ → ℕ) (x : ℕ) : Type 0 where

@@ -4,27 +4,27 @@ use Rattle.std.specs.Prelude.{filter, find, nat_eq}
 use Rattle.std.specs.Option.{unwrap_or, option_eq}
 use Rattle.std.proofs.lemmas.Bool.{cases_Bool, cases_eq, cases_lt, and_parts, and_from, eqb-true, eq-eqb, ne_eqb}
 use Rattle.vpf_darts.specs.Darts.{code, tile_in, edge_in, sign_in, flip}
-use Rattle.vpf_tiled.proofs.Facts.{rank-step, weight, up-last, MapLaws}
+use Rattle.vpf_tiled.proofs.Facts.{MapLaws}
 use Rattle.vpf_prims.specs.Lists.{kth}
-use Rattle.vpf_tiled.specs.Ranks.{rank, up_to}
+use Rattle.vpf_tiling.specs.Ranks.{rank, up_to}
 use Rattle.vpf_prims.specs.Primitives.{Primitives, Library, edges_in, edge_count}
 use Rattle.vpf_wing.specs.Links.{DartLinks}
 use Rattle.vpf_follow.specs.Following.{is_home, follow, follows_to, first_home, home_copy}
-use Rattle.vpf_tiled.specs.Presence.{untiled_links, next_of, home, is_present, has_edge, present_edges, local_edge, copy_in, dart_name}
-use Rattle.vpf_tiled.specs.Tiles.{tiled_edge, tiled_primitives, tiled_library, is_made}
+use Rattle.vpf_tiling.specs.Presence.{untiled_links, next_of, home, is_present, has_edge, present_edges, local_edge, copy_in, dart_name}
+use Rattle.vpf_tiling.specs.Tiles.{tiled_edge, tiled_primitives, tiled_library, is_made}
 use Rattle.vpf_tiled.specs.Names.{dart_behind}
-use Rattle.vpf_tiled.specs.Plans.{IsTileable}
+use Rattle.vpf_tiling.specs.Plans.{IsTileable}
 use Rattle.vpf_tiled.specs.Laws.{HomeIsName}
-use Rattle.vpf_follow.specs.DartLaws.{IsThere, has-there, darts-stand, found-some, found-passes, code-parts, code-edge, code-sign, sign-cases, same_some, flip-flip}
-use Rattle.vpf_tiled.proofs.RankLemmas.{filter_one, count_is, numbered_many}
+use Rattle.vpf_wing.specs.DartLaws.{IsThere, has-there, darts-stand, found-some, found-passes, code-parts, code-edge, code-sign, sign-cases, same_some, flip-flip}
 use Rattle.std.proofs.lemmas.List.Elements.{filter-append}
 use Rattle.std.proofs.lemmas.List.{get_or_append_left, get_or_push}
-use Rattle.vpf_tiled.proofs.NumberLemmas.{no_edge_zero}
-use Rattle.vpf_tiled.proofs.CopyLemmas.{CopyAt, copy_at, present_has, edge_present, sign-below, dart_is, edges_are, other-code, present_flip}
-use Rattle.vpf_tiled.proofs.SideLemmas.{rank_apart, present_home, same_plus, source_next}
+use Rattle.vpf_tiled.proofs.CopyLemmas.{CopyAt, copy_at, edges_are}
+use Rattle.vpf_tiled.proofs.SideLemmas.{rank_apart, present_home, same_plus}
 use Rattle.vpf_tiled.proofs.FollowLemmas.{home_at, following_is_next, library_links}
 use Rattle.vpf_follow.specs.TileLaws.{options-same, same-options}
 use Rattle.vpf_follow.specs.FollowLaws.{home_self, home_has}
+use Rattle.vpf_tiling.specs.PresenceLaws.{dart_is, edge_present, no_edge_zero, other-code, present_flip, present_has, sign-below, source_next}
+use Rattle.vpf_tiling.specs.RankLaws.{count_is, filter_one, numbered_many, rank-step, up-last, weight}
 
 -- the number at a place of those that pass: it passes, and its rank is the place
 pub record AtPlace (p : ℕ → Bool) (n k x : ℕ) : Type 0 where

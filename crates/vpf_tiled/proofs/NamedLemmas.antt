@@ -9,17 +9,18 @@ use Rattle.vpf_darts.specs.Maps.{DartMap}
 use Rattle.vpf_prims.specs.Primitives.{Primitives, Library, edges_in, edge_count}
 use Rattle.vpf_wing.specs.Links.{DartLinks}
 use Rattle.vpf_follow.specs.Following.{is_home, follow, home_copy, library_map}
-use Rattle.vpf_tiled.specs.Presence.{untiled_links, coverage_map, next_of, home, present_edges, copy_in, dart_name}
-use Rattle.vpf_tiled.specs.Tiles.{tiled_edge, tiled_primitives, tiled_library, is_made}
+use Rattle.vpf_tiling.specs.Presence.{untiled_links, coverage_map, next_of, home, present_edges, copy_in, dart_name}
+use Rattle.vpf_tiling.specs.Tiles.{tiled_edge, tiled_primitives, tiled_library, is_made}
 use Rattle.vpf_tiled.specs.Names.{dart_behind, is_name, named_map}
-use Rattle.vpf_tiled.specs.Plans.{IsTileable}
+use Rattle.vpf_tiling.specs.Plans.{IsTileable}
 use Rattle.vpf_tiled.specs.Laws.{MapIsNamed}
-use Rattle.vpf_follow.specs.DartLaws.{never_both, IsThere, has-there}
-use Rattle.vpf_tiled.proofs.RankLemmas.{numbered_many}
-use Rattle.vpf_tiled.proofs.CopyLemmas.{present_has, present_flip, edges_are}
+use Rattle.vpf_wing.specs.DartLaws.{never_both, IsThere, has-there}
+use Rattle.vpf_tiled.proofs.CopyLemmas.{edges_are}
 use Rattle.vpf_tiled.proofs.FollowLemmas.{home_at, following_is_next, library_links, copy_flip}
 use Rattle.vpf_tiled.proofs.NameLemmas.{IsCopyOf, copy_by_number, library_copy, home_is_name}
 use Rattle.vpf_follow.specs.FollowLaws.{home_has}
+use Rattle.vpf_tiling.specs.PresenceLaws.{present_flip, present_has}
+use Rattle.vpf_tiling.specs.RankLaws.{numbered_many}
 
 -- the parts of being a name
 pub record NameIs (c : Primitives) (plan : ℕ → ℕ) (x : ℕ) : Type 0 where

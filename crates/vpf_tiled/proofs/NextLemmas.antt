@@ -4,19 +4,20 @@ use Rattle.std.proofs.lemmas.Bool.{cases_Bool, cases_eq, and_parts, and_from, or
 use Rattle.vpf_darts.specs.Darts.{code, tile_in, edge_in, sign_in, flip}
 use Rattle.vpf_darts.specs.Laws.{ComesTo}
 use Rattle.vpf_darts.specs.Maps.{is_of, is_of_any}
-use Rattle.vpf_tiled.specs.Ranks.{up_to}
+use Rattle.vpf_tiling.specs.Ranks.{up_to}
 use Rattle.vpf_prims.specs.Primitives.{Primitives, untiled, edge_count}
 use Rattle.vpf_wing.specs.Links.{DartLinks, link_of, tail_node, only, is_next, next_to}
-use Rattle.vpf_tiled.specs.Presence.{untiled_links, coverage_map, next_of, tail_of, head_of, face_of, edge_darts, is_within, is_present, local_edge, local_node, local_face, copy_in, absent_darts, tile_map}
-use Rattle.vpf_tiled.specs.Tiles.{tiled_face}
+use Rattle.vpf_tiling.specs.Presence.{untiled_links, coverage_map, next_of, tail_of, head_of, face_of, edge_darts, is_within, is_present, local_edge, local_node, local_face, copy_in, absent_darts, tile_map}
+use Rattle.vpf_tiling.specs.Tiles.{tiled_face}
 use Rattle.vpf_wing.specs.WellFormed.{IsWellFormed}
-use Rattle.vpf_tiled.specs.Plans.{IsTileable}
+use Rattle.vpf_tiling.specs.Plans.{IsTileable}
 use Rattle.vpf_tiled.proofs.Parts.{HasLinks, TileNextIsLocal}
-use Rattle.vpf_follow.specs.DartLaws.{never_both, stands_in, IsThere, has-there, flip-flip, flip-has}
-use Rattle.vpf_tiled.proofs.Facts.{of_any_from, MapLaws, up_stands, in_zero}
-use Rattle.vpf_tiled.proofs.CopyLemmas.{CopyAt, copy_at, copies_have_links, dart_is, plus_or, present_has, present_flip, sign-below, stands_filter}
-use Rattle.vpf_tiled.proofs.SideLemmas.{Within, within_is, within_from, source_next, face_next, tail_next, rank_apart, holds_from, in_faces, InFaces, node_apart, same_plus, above}
+use Rattle.vpf_wing.specs.DartLaws.{never_both, stands_in, IsThere, has-there, flip-flip, flip-has}
+use Rattle.vpf_tiled.proofs.Facts.{MapLaws}
+use Rattle.vpf_tiled.proofs.CopyLemmas.{CopyAt, copy_at, copies_have_links}
+use Rattle.vpf_tiled.proofs.SideLemmas.{Within, within_is, within_from, rank_apart, node_apart, same_plus, above}
 use Rattle.vpf_tiled.proofs.FollowLemmas.{present_stays, next_is_first, copy_flip, plus_of, only_of, library_links, reference_id, tail_at}
+use Rattle.vpf_tiling.specs.PresenceLaws.{InFaces, dart_is, face_next, holds_from, in_faces, in_zero, of_any_from, plus_or, present_flip, present_has, sign-below, source_next, stands_filter, tail_next, up_stands}
 
 pub stands_map : (f : ℕ → ℕ) (x : ℕ) (xs : List ℕ) → stands_in x xs ≡ true → stands_in (f x) (map f xs) ≡ true
 stands_map f x [] s = absurd (never_both false s refl)

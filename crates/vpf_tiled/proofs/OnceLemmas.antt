@@ -7,20 +7,20 @@ use Rattle.vpf_darts.specs.Darts.{code, edge_in, flip}
 use Rattle.vpf_darts.specs.Laws.{RemovalLeavesAMap, DartLiesOnCycle}
 use Rattle.vpf_darts.specs.Maps.{DartMap, IsMap, is_of, is_of_any, without, without_edge}
 use Rattle.vpf_prims.specs.Lists.{kth}
-use Rattle.vpf_tiled.specs.Ranks.{up_to, is_least, leasts}
+use Rattle.vpf_tiling.specs.Ranks.{up_to, is_least, leasts}
 use Rattle.vpf_prims.specs.Primitives.{Primitives, Library, untiled, absent_ring, tile_rings, ring_count}
 use Rattle.vpf_prims.specs.References.{id_of}
 use Rattle.vpf_wing.specs.Walks.{Steps, LeadsTo}
 use Rattle.vpf_wing.specs.Links.{DartLinks, local_map, row_darts}
-use Rattle.vpf_tiled.specs.Presence.{untiled_links, coverage_map, face_of, holds_face, is_within, is_present, has_edge, held_faces, local_edge, local_face, copy_in, absent_darts, tile_map}
-use Rattle.vpf_tiled.specs.Tiles.{Ring, outer_darts, outer_rings, face_rings, tiled_rings, numbered_ring, tiled_library, is_made}
+use Rattle.vpf_tiling.specs.Presence.{untiled_links, coverage_map, face_of, holds_face, is_within, is_present, has_edge, held_faces, local_edge, local_face, copy_in, absent_darts, tile_map}
+use Rattle.vpf_tiling.specs.Tiles.{Ring, outer_darts, outer_rings, face_rings, tiled_rings, numbered_ring, tiled_library, is_made}
 use Rattle.vpf_prims.specs.Numbering.{IsRowOf}
 use Rattle.vpf_wing.specs.WellFormed.{IsWellFormed, GoesRound}
-use Rattle.vpf_tiled.specs.Plans.{IsTileable}
+use Rattle.vpf_tiling.specs.Plans.{IsTileable}
 use Rattle.vpf_tiled.proofs.Parts.{HasLinks, OfTiled, RingsOnce}
-use Rattle.vpf_follow.specs.DartLaws.{never_both, stands_in, code-edge, darts-stand, flip-flip, dart_bound, darts-below}
-use Rattle.vpf_tiled.proofs.Facts.{all_join, up-last, MapLaws, AmongRow, among}
-use Rattle.vpf_tiled.proofs.CopyLemmas.{CopyAt, copy_at, copies_have_links, dart_is, plus_or, edge_present, present_has, stands_filter}
+use Rattle.vpf_wing.specs.DartLaws.{never_both, stands_in, code-edge, darts-stand, flip-flip, dart_bound, darts-below}
+use Rattle.vpf_tiled.proofs.Facts.{all_join, MapLaws, AmongRow, among}
+use Rattle.vpf_tiled.proofs.CopyLemmas.{CopyAt, copy_at, copies_have_links}
 use Rattle.vpf_tiled.proofs.SideLemmas.{Within, within_is, rank_apart, same_plus, above}
 use Rattle.vpf_tiled.proofs.FollowLemmas.{present_stays, library_links}
 use Rattle.vpf_tiled.proofs.NextLemmas.{face_id, id_within, id_not, tile_arrives}
@@ -32,6 +32,8 @@ use Rattle.vpf_tiled.proofs.ReferenceLemmas.{rings_many}
 use Rattle.vpf_tiled.proofs.TableLemmas.{HeldFace, held_is, no_one, ring_at}
 use Rattle.vpf_tiled.proofs.WalkLemmas.{every_map, leads_join, comes_back, goes_back, least_one, Pairs, pairs_get, pairs_join, cross_all, pairs_passing}
 use Rattle.vpf_tiled.proofs.InnerLemmas.{StartOf, Apart, Keeps, keeps_next, apart_faces, inner_apart}
+use Rattle.vpf_tiling.specs.PresenceLaws.{dart_is, edge_present, plus_or, present_has, stands_filter}
+use Rattle.vpf_tiling.specs.RankLaws.{up-last}
 
 -- the map of a tile without its absent edges: what is live
 pub without_live : (m : DartMap) (es : List ℕ) (d : ℕ) → (without m es).live d ≡ true → m.live d ≡ true

@@ -5,9 +5,9 @@ use Rattle.std.specs.Prelude.{filter, flat_map}
 use Rattle.std.specs.List.{list_any, AllByRecursion}
 use Rattle.std.proofs.lemmas.Bool.{cases_Bool, or_cases, or_left, or_right, eqb-true, eq-eqb}
 use Rattle.vpf_prims.specs.Lists.{kth, first_from, first_item}
-use Rattle.vpf_tiled.specs.Ranks.{up_to, rank, numbered_from}
+use Rattle.vpf_tiling.specs.Ranks.{up_to, rank, numbered_from}
 use Rattle.vpf_prims.specs.Numbering.{IsRowOf}
-use Rattle.vpf_follow.specs.DartLaws.{never_both, stands_in}
+use Rattle.vpf_wing.specs.DartLaws.{never_both, stands_in}
 use Rattle.vpf_tiled.proofs.NameLemmas.{AtPlace, at_place}
 
 pub all_get : {X : Type 0} → (P : X → Type 0) (xs : List X) (j : ℕ) (d : X) → AllByRecursion P xs → j < length xs → P (get_or xs j d)

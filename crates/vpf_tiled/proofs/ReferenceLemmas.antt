@@ -3,23 +3,23 @@ use Rattle.std.proofs.Common.{◌≡◌, ◌≢◌, ℕ, ◌+◌, ◌≤◌, tru
 use Rattle.std.proofs.lemmas.Bool.{cases_eq, eq-eqb, ne_eqb}
 use Rattle.vpf_darts.specs.Darts.{code, edge_in, flip}
 use Rattle.vpf_prims.specs.Lists.{kth}
-use Rattle.vpf_tiled.specs.Ranks.{rank, numbered}
+use Rattle.vpf_tiling.specs.Ranks.{rank, numbered}
 use Rattle.vpf_prims.specs.Primitives.{Primitives, Library, untiled, cross, absent_edge, faces_in, rings_in, nodes_in, tile_edges, tile_rings, edge_count, face_count, ring_count, node_count, has_tables}
 use Rattle.vpf_prims.specs.References.{plain}
-use Rattle.vpf_tiled.specs.Presence.{untiled_links, next_of, tail_of, head_of, face_of, home, holds_face, is_present, has_edge, has_node, present_edges, present_nodes, held_faces, local_edge, local_node, local_face, tile_map}
-use Rattle.vpf_tiled.specs.Tiles.{reference_to, tiled_wing, tiled_node, tiled_face, tiled_edge, tiled_edges, tiled_rings, numbered_ring, numbered_face, numbered_node, tiled_library, is_made}
+use Rattle.vpf_tiling.specs.Presence.{untiled_links, next_of, tail_of, head_of, face_of, home, holds_face, is_present, has_edge, has_node, present_edges, present_nodes, held_faces, local_edge, local_node, local_face, tile_map}
+use Rattle.vpf_tiling.specs.Tiles.{reference_to, tiled_wing, tiled_node, tiled_face, tiled_edge, tiled_edges, tiled_rings, numbered_ring, numbered_face, numbered_node, tiled_library, is_made}
 use Rattle.vpf_prims.specs.Numbering.{IsRowOf, IsReference, IsFace, IsEdgeOf}
-use Rattle.vpf_tiled.specs.Plans.{IsTileable}
-use Rattle.vpf_tiled.proofs.Facts.{MapLaws, in_zero}
-use Rattle.vpf_follow.specs.DartLaws.{IsThere, has-there}
-use Rattle.vpf_tiled.proofs.RankLemmas.{numbered_many}
-use Rattle.vpf_tiled.proofs.NumberLemmas.{no_edge_zero}
-use Rattle.vpf_tiled.proofs.CopyLemmas.{Held, holds_held, made, tile_is, edges_are, edge_present, present_has, present_flip}
-use Rattle.vpf_tiled.proofs.SideLemmas.{InFaces, in_faces, side, inside, outside, universe, source_next, tail_next, present_home, node_there}
+use Rattle.vpf_tiling.specs.Plans.{IsTileable}
+use Rattle.vpf_tiled.proofs.Facts.{MapLaws}
+use Rattle.vpf_wing.specs.DartLaws.{IsThere, has-there}
+use Rattle.vpf_tiled.proofs.CopyLemmas.{made, tile_is, edges_are}
+use Rattle.vpf_tiled.proofs.SideLemmas.{side, inside, outside, universe, present_home, node_there}
 use Rattle.vpf_tiled.proofs.NameLemmas.{present_side}
 use Rattle.vpf_tiled.proofs.NextLemmas.{tile_arrives}
-use Rattle.vpf_tiled.proofs.RowLemmas.{item_numbered, rank_row, tail_in, no_node_zero, made_at, made_tables}
+use Rattle.vpf_tiled.proofs.RowLemmas.{item_numbered, rank_row, made_at, made_tables}
 use Rattle.vpf_tiled.proofs.PlaceLemmas.{Passing, passing}
+use Rattle.vpf_tiling.specs.PresenceLaws.{Held, InFaces, edge_present, holds_held, in_faces, in_zero, no_edge_zero, no_node_zero, present_flip, present_has, source_next, tail_in, tail_next}
+use Rattle.vpf_tiling.specs.RankLaws.{numbered_many}
 
 -- a reference to a thing whose home is some tile
 pub refers : (L : Library) (count : ℕ → ℕ) (t s here there : ℕ) → L.is_tiled ≡ true → IsRowOf (count t) here → has_tables L s ≡ true → IsRowOf (count s) there

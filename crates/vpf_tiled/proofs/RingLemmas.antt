@@ -1,26 +1,23 @@
 -- The rings and the nodes of the tiles of a tiled library.
 use Rattle.std.proofs.lemmas.List.{append_assoc, append-nil}
 use Rattle.std.proofs.lemmas.Grind.{flat_map-append}
-use Rattle.vpf_tiled.proofs.Facts.{rank-step, weight, up-last}
 use Rattle.std.proofs.Common.{◌≡◌, ℕ, zero, suc, ◌+◌, ◌^◌, ◌<◌, ◌≤◌, Bool, true, eqb, refl, sym, ap, ◌∙◌, subst, inl, inr, arith, List, [], ◌∷◌, ◌++◌, length, get_or, map}
 use Rattle.std.specs.Prelude.{filter, flat_map}
 use Rattle.std.proofs.lemmas.Bool.{cases_Bool, or_cases, eqb-true}
 use Rattle.vpf_darts.specs.Darts.{code, edge_in, sign_in}
 use Rattle.vpf_prims.specs.Lists.{kth, first_item}
-use Rattle.vpf_tiled.specs.Ranks.{rank, up_to, leasts}
+use Rattle.vpf_tiling.specs.Ranks.{rank, up_to, leasts}
 use Rattle.vpf_prims.specs.Primitives.{Primitives, absent_edge, absent_ring, absent_node, tile_rings, tile_nodes, ring_count}
 use Rattle.vpf_prims.specs.References.{id_of}
 use Rattle.vpf_wing.specs.Links.{DartLinks, tail_node}
-use Rattle.vpf_tiled.specs.Presence.{tail_of, face_of, holds_face, is_present, has_edge, present_edges, present_nodes, held_faces, local_edge, local_node, copy_in, tile_map}
-use Rattle.vpf_tiled.specs.Tiles.{Ring, tiled_edge, tiled_edges, outer_darts, face_rings, tiled_rings, numbered_ring, first_edge_at, tiled_library, is_made}
+use Rattle.vpf_tiling.specs.Presence.{tail_of, face_of, holds_face, is_present, has_edge, present_edges, present_nodes, held_faces, local_edge, local_node, copy_in, tile_map}
+use Rattle.vpf_tiling.specs.Tiles.{Ring, tiled_edge, tiled_edges, outer_darts, face_rings, tiled_rings, numbered_ring, first_edge_at, tiled_library, is_made}
 use Rattle.vpf_prims.specs.Numbering.{IsRowOf}
 use Rattle.vpf_wing.specs.WellFormed.{StartsRing, IsAtNode}
-use Rattle.vpf_tiled.specs.Plans.{IsTileable}
+use Rattle.vpf_tiling.specs.Plans.{IsTileable}
 use Rattle.vpf_tiled.proofs.Parts.{HasLinks, OfTiled, RingsStart, RingsTogether, FirstRings, FirstEdges}
-use Rattle.vpf_follow.specs.DartLaws.{code-sign, code-edge}
-use Rattle.vpf_tiled.proofs.RankLemmas.{numbered_many, filter_one, filter_none}
+use Rattle.vpf_wing.specs.DartLaws.{code-sign, code-edge}
 use Rattle.std.proofs.lemmas.List.Elements.{filter-append}
-use Rattle.vpf_tiled.proofs.NumberLemmas.{no_edge_zero}
 use Rattle.vpf_tiled.proofs.CopyLemmas.{CopyAt, copy_at, copies_have_links}
 use Rattle.vpf_tiled.proofs.FollowLemmas.{library_links, tail_at}
 use Rattle.vpf_tiled.proofs.NameLemmas.{present_side}
@@ -29,6 +26,8 @@ use Rattle.vpf_tiled.proofs.RowLemmas.{item_numbered, made_from}
 use Rattle.vpf_tiled.proofs.PlaceLemmas.{all_item, Passing, passing, FirstRow, first_numbered}
 use Rattle.vpf_tiled.proofs.ReferenceLemmas.{faces_many, rings_many, rings_are, nodes_many}
 use Rattle.vpf_tiled.proofs.TableLemmas.{RingDart, ring_darts, no_one, ring_at, face_at, node_at, names_node, start_is, end_is, node_named}
+use Rattle.vpf_tiling.specs.PresenceLaws.{no_edge_zero}
+use Rattle.vpf_tiling.specs.RankLaws.{filter_none, filter_one, numbered_many, rank-step, up-last, weight}
 
 -- a copy of a ring's dart starts the ring
 pub starts_at : (c : Primitives) (plan : ℕ → ℕ) (tiles : ℕ) → IsTileable c plan tiles → (t k : ℕ) → is_made c plan tiles t ≡ true

@@ -8,17 +8,18 @@ use Rattle.vpf_darts.specs.Maps.{DartMap, turn, is_of_any, without, without_edge
 use Rattle.vpf_prims.specs.Primitives.{Primitives}
 use Rattle.vpf_wing.specs.Walks.{Steps, LeadsTo}
 use Rattle.vpf_wing.specs.Links.{DartLinks, tail_node, local_next, local_map}
-use Rattle.vpf_tiled.specs.Presence.{untiled_links, coverage_map, next_of, tail_of, face_of, holds_face, is_within, is_present, copy_in, absent_darts, tile_map}
+use Rattle.vpf_tiling.specs.Presence.{untiled_links, coverage_map, next_of, tail_of, face_of, holds_face, is_within, is_present, copy_in, absent_darts, tile_map}
 use Rattle.vpf_wing.specs.WellFormed.{IsDartOf}
-use Rattle.vpf_tiled.specs.Plans.{IsTileable}
+use Rattle.vpf_tiling.specs.Plans.{IsTileable}
 use Rattle.vpf_tiled.proofs.Parts.{HasLinks, OfTiled, OneNode, SidesMeet}
-use Rattle.vpf_follow.specs.DartLaws.{never_both}
-use Rattle.vpf_tiled.proofs.Facts.{MapLaws, in_zero}
-use Rattle.vpf_tiled.proofs.CopyLemmas.{copies_have_links, present_has, present_flip}
-use Rattle.vpf_tiled.proofs.SideLemmas.{source_next, face_next, node_apart}
+use Rattle.vpf_wing.specs.DartLaws.{never_both}
+use Rattle.vpf_tiled.proofs.Facts.{MapLaws}
+use Rattle.vpf_tiled.proofs.CopyLemmas.{copies_have_links}
+use Rattle.vpf_tiled.proofs.SideLemmas.{node_apart}
 use Rattle.vpf_tiled.proofs.FollowLemmas.{tile_next, present_stays, next_is_first, copy_flip, library_links, tail_at}
 use Rattle.vpf_tiled.proofs.NextLemmas.{face_id, sides_apart, tile_arrives, tile_next_is_local}
 use Rattle.vpf_tiled.proofs.AcrossLemmas.{CopyHere, copy_here}
+use Rattle.vpf_tiling.specs.PresenceLaws.{face_next, in_zero, present_flip, present_has, source_next}
 
 pub without_flip : (m : DartMap) (es : List ℕ) → (without m es).flip ≡ m.flip
 unfolding without_edge

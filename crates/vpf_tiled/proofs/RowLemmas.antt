@@ -8,12 +8,12 @@ use Rattle.std.proofs.lemmas.Bool.{cases_Bool, cases_eq, and_parts, and_from, eq
 use Rattle.vpf_triplet.specs.declared.triplets.Triplet.{Triplet}
 use Rattle.vpf_darts.specs.Darts.{tile_in, edge_in, flip}
 use Rattle.vpf_prims.specs.Lists.{kth}
-use Rattle.vpf_tiled.specs.Ranks.{rank, up_to, numbered_from, numbered}
+use Rattle.vpf_tiling.specs.Ranks.{rank, up_to, numbered_from, numbered}
 use Rattle.vpf_prims.specs.Primitives.{Primitives, Library, EdgePrimitive, EntityPrimitive, untiled, absent_edge, absent_face, absent_entity, absent_node, edges_in, faces_in, nodes_in, entities_in, tile_edges, tile_faces, tile_entities, edge_count, node_count, has_tables, is_there}
 use Rattle.vpf_prims.specs.References.{id_of}
 use Rattle.vpf_wing.specs.Links.{link_of, node_by, is_minus}
-use Rattle.vpf_tiled.specs.Presence.{untiled_links, next_of, tail_of, head_of, home, is_present, has_node, present_edges, held_faces, held_entities, local_node, copy_in}
-use Rattle.vpf_tiled.specs.Tiles.{tiled_edge, tiled_edges, numbered_node, numbered_entity, tiled_primitives, tiled_library, is_made}
+use Rattle.vpf_tiling.specs.Presence.{untiled_links, next_of, tail_of, head_of, home, is_present, has_node, present_edges, held_faces, held_entities, local_node, copy_in}
+use Rattle.vpf_tiling.specs.Tiles.{tiled_edge, tiled_edges, numbered_node, numbered_entity, tiled_primitives, tiled_library, is_made}
 use Rattle.vpf_cross.specs.Agreeing.{AreInhabited}
 use Rattle.vpf_findings.specs.Firsts.{unless}
 use Rattle.vpf_findings.specs.FirstLaws.{over_none}
@@ -21,15 +21,16 @@ use Rattle.vpf_cross.specs.CarriedLines.{first_passing, first_tile, node_carried
 use Rattle.vpf_prims.specs.Numbering.{IsRowOf, IsReference, IsEdgeOf}
 use Rattle.vpf_prims.specs.Libraries.{IsLibrary}
 use Rattle.vpf_wing.specs.WellFormed.{IsWellFormed}
-use Rattle.vpf_tiled.specs.Plans.{IsTileable}
+use Rattle.vpf_tiling.specs.Plans.{IsTileable}
 use Rattle.vpf_tiled.proofs.Parts.{HasLinks, OfTiled, NodeCarried, UniverseCarried, TiledAcross}
-use Rattle.vpf_follow.specs.DartLaws.{never_both, none_is_some, same_some, some-or-none, IsThere, has-there, flip-has}
-use Rattle.vpf_tiled.proofs.Facts.{MapLaws, Passes, any_at, in_zero}
-use Rattle.vpf_tiled.proofs.RankLemmas.{count_is, rank_rises, row_of_number, numbered_many}
-use Rattle.vpf_tiled.proofs.CopyLemmas.{copy_at, copies_have_links, present_has, present_flip, held, made, tile_is, edges_are}
-use Rattle.vpf_tiled.proofs.SideLemmas.{source_next, tail_next, present_home, node_there, above}
+use Rattle.vpf_wing.specs.DartLaws.{never_both, none_is_some, same_some, some-or-none, IsThere, has-there, flip-has}
+use Rattle.vpf_tiled.proofs.Facts.{MapLaws}
+use Rattle.vpf_tiled.proofs.CopyLemmas.{copy_at, copies_have_links, made, tile_is, edges_are}
+use Rattle.vpf_tiled.proofs.SideLemmas.{present_home, node_there, above}
 use Rattle.vpf_tiled.proofs.FollowLemmas.{library_links, reference_id, link_here, link_there}
 use Rattle.vpf_tiled.proofs.AcrossLemmas.{at_each, one_inside, inside_plain, outside_part, same_part, follows, follow_apart, home_flip, home_sign, home_mark, home_carried, goes_on, tiled_loops}
+use Rattle.vpf_tiling.specs.PresenceLaws.{InNodes, Passes, any_at, held, in_zero, no_node_zero, present_flip, present_has, source_next, tail_in, tail_next}
+use Rattle.vpf_tiling.specs.RankLaws.{count_is, numbered_many, rank_rises, row_of_number}
 
 pub numbered_at : {X R : Type 0} → (row : ℕ → X → R) (k : ℕ) (xs : List X) (j : ℕ) (d : R) (x : X) → j < length xs
     → get_or (numbered_from k row xs) j d ≡ row (j + k) (get_or xs j x)
@@ -50,58 +51,6 @@ pub rank_row : (p : ℕ → Bool) → p 0 ≡ false → (n e : ℕ) → p e ≡ 
 rank_row p z n e h le =
     (let many : length (filter p (up_to n)) ≡ rank p (suc n) = count_is p z n in let r : rank p e < rank p (suc n) = rank_rises p e n h le in
     (omega arith, omega arith))
-
--- the node of a dart is a node of the coverage
-pub record InNodes (c : Primitives) (n : ℕ) : Type 0 where
-  pub from_one : 1 ≤ n
-  pub to_last : n ≤ length c.nodes
-
-pub plain_nodes : (c : Primitives) (r : Triplet) → IsReference (untiled c) (node_count (untiled c)) 0 r → InNodes c (id_of r)
-plain_nodes c r h = elim h [
-  | inl p ↦
-      (let e : id_of r ≡ p.id = ap id_of p.is in
-      record { from_one = subst (λ z. 1 ≤ z) (sym e) p.from_low; to_last = subst (λ z. z ≤ length c.nodes) (sym e) p.to_last })
-  | inr x ↦ absurd (never_both false x.of_tiles refl)
-]
-
-pub in_nodes : (c : Primitives) → IsWellFormed c → (d : ℕ) → (untiled_links c).has d ≡ true → InNodes c ((untiled_links c).node d).id
-in_nodes c w d h = (
-    let L : Library = untiled c in
-    let i : IsThere L d = has-there L d h in
-    let z : tile_in d ≡ 0 = (in_zero c d h).tile in
-    let e : IsEdgeOf L 0 (edge_in d) (kth (tile_edges L 0) (edge_in d) absent_edge) =
-    w.numbered.edges (edge_in d) (i.from_one, subst (λ t. edge_in d ≤ edge_count L t) z i.to_count) in
-    let r : IsEdgeOf L 0 (edge_in d) (kth (tile_edges L (tile_in d)) (edge_in d) absent_edge) =
-    subst (λ t. IsEdgeOf L 0 (edge_in d) (kth (tile_edges L t) (edge_in d) absent_edge)) (sym z) e in
-    side (is_minus d) (kth (tile_edges L (tile_in d)) (edge_in d) absent_edge) r)
-  where
-    side : (m : Bool) (row : EdgePrimitive) → IsEdgeOf (untiled c) 0 (edge_in d) row → InNodes c (link_of (node_by m row)).id
-    side true row r = plain_nodes c row.start_node r.start_node
-    side false row r = plain_nodes c row.end_node r.end_node
-
-pub tail_in : (c : Primitives) → IsWellFormed c → (d : ℕ) → (untiled_links c).has d ≡ true → InNodes c (tail_of c d)
-tail_in c w d h = in_nodes c w (flip d) (flip-has (untiled c) d h)
-
--- a present dart that begins at a present node
-pub record AtNode (c : Primitives) (plan : ℕ → ℕ) (t n : ℕ) : Type 0 where
-  pub dart : ℕ
-  pub present : is_present c plan t dart ≡ true
-  pub tail : tail_of c dart ≡ n
-
-pub at_node : (c : Primitives) (plan : ℕ → ℕ) (t n : ℕ) → has_node c plan t n ≡ true → AtNode c plan t n
-at_node c plan t n h = (
-    let a : Passes (λ d. is_present c plan t d && eqb (tail_of c d) n) (untiled_links c).darts =
-    any_at (λ d. is_present c plan t d && eqb (tail_of c d) n) (untiled_links c).darts h in
-    let p = and_parts (is_present c plan t a.one) (eqb (tail_of c a.one) n) a.passes in
-    record { dart = a.one; present = p.0; tail = eqb-true (tail_of c a.one) n p.1 })
-
-pub no_node_zero : (c : Primitives) (plan : ℕ → ℕ) → IsWellFormed c → (t : ℕ) → has_node c plan t 0 ≡ false
-no_node_zero c plan w t = elim (cases_Bool (has_node c plan t 0)) [
-  | inl h ↦
-      (let a : AtNode c plan t 0 = at_node c plan t 0 h in let b = (tail_in c w a.dart (present_has c plan t a.dart a.present)).from_one in let e = a.tail in
-      absurd (omega arith))
-  | inr f ↦ f
-]
 
 pub made_at : (c : Primitives) (plan : ℕ → ℕ) (tiles : ℕ) → IsTileable c plan tiles → (t d : ℕ) → is_present c plan t d ≡ true → is_made c plan tiles t ≡ true
 made_at c plan tiles w t d h = made c plan tiles t w.plans (held c plan t d h)

@@ -5,70 +5,19 @@ use Rattle.std.proofs.lemmas.Bool.{cases_eq, cases_order, and_parts, and_from, o
 use Rattle.vpf_triplet.specs.declared.triplets.Triplet.{Triplet}
 use Rattle.vpf_darts.specs.Darts.{tile_in, edge_in, flip}
 use Rattle.vpf_prims.specs.Lists.{kth}
-use Rattle.vpf_tiled.specs.Ranks.{rank}
+use Rattle.vpf_tiling.specs.Ranks.{rank}
 use Rattle.vpf_prims.specs.Primitives.{Primitives, Library, EdgePrimitive, untiled, absent_edge, tile_edges, edge_count}
 use Rattle.vpf_prims.specs.References.{id_of}
 use Rattle.vpf_wing.specs.Links.{Beyond, DartLinks, link_of, is_minus, face_by, local_next, local_map}
 use Rattle.vpf_follow.specs.Following.{same_beyond, face_beyond}
-use Rattle.vpf_tiled.specs.Presence.{untiled_links, next_of, tail_of, head_of, face_of, holds_face, home, is_within, is_present, has_node, local_node, local_face}
-use Rattle.vpf_tiled.specs.Tiles.{tiled_face}
+use Rattle.vpf_tiling.specs.Presence.{untiled_links, next_of, tail_of, head_of, face_of, holds_face, home, is_within, is_present, has_node, local_node, local_face}
+use Rattle.vpf_tiling.specs.Tiles.{tiled_face}
 use Rattle.vpf_prims.specs.Numbering.{IsFace, IsEdgeOf}
 use Rattle.vpf_wing.specs.WellFormed.{IsWellFormed}
-use Rattle.vpf_tiled.specs.Plans.{IsTileable}
-use Rattle.vpf_follow.specs.DartLaws.{never_both, IsThere, has-there, darts-stand, flip-flip, flip-has}
-use Rattle.vpf_tiled.proofs.Facts.{any_from, NextIs, next_is, in_zero}
-use Rattle.vpf_tiled.proofs.RankLemmas.{rank_rises}
-use Rattle.vpf_tiled.proofs.CopyLemmas.{present_has}
-
--- the next of a dart of a well-formed coverage
-pub source_next : (c : Primitives) → IsWellFormed c → (d : ℕ) → (untiled_links c).has d ≡ true → NextIs (untiled_links c) d (next_of c d)
-source_next c w d h = (
-    let e = w.cycles.next d (in_zero c d h) in
-    let is : next_of c d ≡ e.0 = next_at (untiled_links c) d h e.0 e.1 in
-    subst (NextIs (untiled_links c) d) (sym is) (next_is (untiled_links c) d e.0 e.1))
-  where
-    next_at : (C : DartLinks) (d : ℕ) → C.has d ≡ true → (e : ℕ) → local_next C d ≡ Some e → (local_map C).next d ≡ e
-    next_at C d h e is = ap (λ b. cond b (unwrap_or (local_next C d) d) d) h ∙ ap (λ o. unwrap_or o d) is
-
-pub face_next : (c : Primitives) → IsWellFormed c → (d : ℕ) → (untiled_links c).has d ≡ true → face_of c (next_of c d) ≡ face_of c d
-face_next c w d h = (source_next c w d h).face
-
-pub tail_next : (c : Primitives) → IsWellFormed c → (d : ℕ) → (untiled_links c).has d ≡ true → tail_of c (next_of c d) ≡ head_of c d
-tail_next c w d h = (source_next c w d h).tail ∙ ap (λ x. ((untiled_links c).node x).id) (sym (flip-flip d))
-
--- the face of a dart is a face of the coverage
-pub record InFaces (c : Primitives) (f : ℕ) : Type 0 where
-  pub from_one : 1 ≤ f
-  pub to_last : f ≤ length c.faces
-
-pub plain_faces : (c : Primitives) (r : Triplet) → IsFace (untiled c) 0 r → InFaces c (id_of r)
-plain_faces c r h = elim h [
-  | inl p ↦
-      (let e : id_of r ≡ p.id = ap id_of p.is in
-      record { from_one = subst (λ z. 1 ≤ z) (sym e) p.from_low; to_last = subst (λ z. z ≤ length c.faces) (sym e) p.to_last })
-  | inr x ↦ absurd (never_both false x.0.of_tiles refl)
-]
-
-pub in_faces : (c : Primitives) → IsWellFormed c → (d : ℕ) → (untiled_links c).has d ≡ true → InFaces c (face_of c d)
-in_faces c w d h = (
-    let L : Library = untiled c in
-    let i : IsThere L d = has-there L d h in
-    let z : tile_in d ≡ 0 = (in_zero c d h).tile in
-    let e : IsEdgeOf L 0 (edge_in d) (kth (tile_edges L 0) (edge_in d) absent_edge) =
-    w.numbered.edges (edge_in d) (i.from_one, subst (λ t. edge_in d ≤ edge_count L t) z i.to_count) in
-    let r : IsEdgeOf L 0 (edge_in d) (kth (tile_edges L (tile_in d)) (edge_in d) absent_edge) =
-    subst (λ t. IsEdgeOf L 0 (edge_in d) (kth (tile_edges L t) (edge_in d) absent_edge)) (sym z) e in
-    side (is_minus d) (kth (tile_edges L (tile_in d)) (edge_in d) absent_edge) r)
-  where
-    side : (m : Bool) (row : EdgePrimitive) → IsEdgeOf (untiled c) 0 (edge_in d) row → InFaces c (link_of (face_by m row)).id
-    side true row r = plain_faces c row.left_face r.left_face
-    side false row r = plain_faces c row.right_face r.right_face
-
-pub holds_from : (c : Primitives) (plan : ℕ → ℕ) (t f : ℕ) → InFaces c f → f ≢ 1 → plan f ≡ t → holds_face c plan t f ≡ true
-holds_from c plan t f i ne p =
-    (let a = i.from_one in
-    and_from (leb 2 f && leb f (length c.faces)) (eqb (plan f) t)
-    (and_from (leb 2 f) (leb f (length c.faces)) (le-leb 2 f (omega arith)) (le-leb f (length c.faces) i.to_last)) (eq-eqb (plan f) t p))
+use Rattle.vpf_tiling.specs.Plans.{IsTileable}
+use Rattle.vpf_wing.specs.DartLaws.{never_both, IsThere, has-there, darts-stand, flip-flip, flip-has}
+use Rattle.vpf_tiling.specs.PresenceLaws.{InFaces, NextIs, any_from, holds_from, in_faces, in_zero, next_is, present_has}
+use Rattle.vpf_tiling.specs.RankLaws.{rank_rises}
 
 pub within_from : (c : Primitives) (plan : ℕ → ℕ) → IsWellFormed c → (t d : ℕ) → (untiled_links c).has d ≡ true → face_of c d ≢ 1 → plan (face_of c d) ≡ t
     → is_within c plan t d ≡ true

@@ -5,25 +5,26 @@ use Rattle.std.specs.List.{list_any, AllByRecursion}
 use Rattle.std.proofs.lemmas.Bool.{not-true, cases_Bool, cases_eq, and_parts, and_from, or_left, or_right, eqb-true, eq-eqb, ne_eqb, leb-true}
 use Rattle.vpf_darts.specs.Darts.{code, edge_in, flip}
 use Rattle.vpf_prims.specs.Lists.{kth, first_item}
-use Rattle.vpf_tiled.specs.Ranks.{up_to, leasts}
+use Rattle.vpf_tiling.specs.Ranks.{up_to, leasts}
 use Rattle.vpf_prims.specs.Primitives.{Primitives, Library, EdgePrimitive, RingPrimitive, untiled, absent_edge, absent_face, absent_ring, absent_node, absent_entity, faces_in, nodes_in, tile_faces, tile_rings, tile_nodes, tile_entities, edge_count, face_count, ring_count, node_count}
 use Rattle.vpf_prims.specs.References.{id_of}
-use Rattle.vpf_tiled.specs.Presence.{untiled_links, tail_of, face_of, holds_face, is_within, is_present, has_node, present_nodes, held_faces, held_entities, holds_entity, containing_face, local_edge, local_node, local_face, tile_map}
-use Rattle.vpf_tiled.specs.Tiles.{Ring, reference_to, tiled_edge, tiled_edges, outer_darts, outer_rings, face_rings, tiled_rings, numbered_ring, numbered_face, first_edge_at, numbered_node, tiled_library, is_made}
+use Rattle.vpf_tiling.specs.Presence.{untiled_links, tail_of, face_of, holds_face, is_within, is_present, has_node, present_nodes, held_faces, held_entities, holds_entity, containing_face, local_edge, local_node, local_face, tile_map}
+use Rattle.vpf_tiling.specs.Tiles.{Ring, reference_to, tiled_edge, tiled_edges, outer_darts, outer_rings, face_rings, tiled_rings, numbered_ring, numbered_face, first_edge_at, numbered_node, tiled_library, is_made}
 use Rattle.vpf_prims.specs.Numbering.{IsRowOf, IsFaceOf, IsRingOf, IsNodeOf, IsEntityOf}
 use Rattle.vpf_wing.specs.WellFormed.{IsWellFormed, StartsRing}
-use Rattle.vpf_tiled.specs.Plans.{IsTileable}
+use Rattle.vpf_tiling.specs.Plans.{IsTileable}
 use Rattle.vpf_tiled.proofs.Parts.{OfTiled, AllNumbered}
-use Rattle.vpf_tiled.proofs.Facts.{all_join, MapLaws, up_stands}
-use Rattle.vpf_follow.specs.DartLaws.{stands_in, flip-flip}
+use Rattle.vpf_tiled.proofs.Facts.{all_join, MapLaws}
+use Rattle.vpf_wing.specs.DartLaws.{stands_in, flip-flip}
 use Rattle.vpf_tiled.proofs.NumberLemmas.{edges_by_number}
-use Rattle.vpf_tiled.proofs.CopyLemmas.{tile_is, edges_are, edge_present, present_has, stands_filter, plus_or, dart_is, other-code}
-use Rattle.vpf_tiled.proofs.SideLemmas.{InFaces, in_faces, within_is, Within}
+use Rattle.vpf_tiled.proofs.CopyLemmas.{tile_is, edges_are}
+use Rattle.vpf_tiled.proofs.SideLemmas.{within_is, Within}
 use Rattle.vpf_tiled.proofs.NextLemmas.{face_id, id_within, id_not}
-use Rattle.vpf_tiled.proofs.RowLemmas.{item_numbered, AtNode, at_node, no_node_zero, made_at, made_from, EntityAt, entity_at}
+use Rattle.vpf_tiled.proofs.RowLemmas.{item_numbered, made_at, made_from, EntityAt, entity_at}
 use Rattle.vpf_tiled.proofs.RoundLemmas.{within_present}
 use Rattle.vpf_tiled.proofs.PlaceLemmas.{all_item, all_from, all_of, all_flat, all_passing, stands_passing, Passing, passing, first_last, first_some, some_first, FirstRow, first_row, any_right, any_flat, any_passing, any_item}
 use Rattle.vpf_tiled.proofs.ReferenceLemmas.{nodes_many, faces_many, rings_are, rings_many, edge_to, edge_row_in, FaceHere, face_here, universe_in, edges_numbered}
+use Rattle.vpf_tiling.specs.PresenceLaws.{AtNode, InFaces, at_node, dart_is, edge_present, in_faces, no_node_zero, other-code, plus_or, present_has, stands_filter, up_stands}
 
 -- what a ring of a tile goes round: the cycle of a present dart, which has its edge and its face
 pub record RingDart (c : Primitives) (plan : ℕ → ℕ) (t : ℕ) (r : Ring) : Type 0 where

@@ -6,22 +6,20 @@ use Rattle.std.proofs.lemmas.Bool.{cases_Bool, and_parts, and_from, or_cases, or
 use Rattle.vpf_darts.specs.Darts.{edge_in}
 use Rattle.vpf_darts.specs.Laws.{RemovalLeavesAMap, DartLiesOnCycle}
 use Rattle.vpf_prims.specs.Lists.{kth, first_item}
-use Rattle.vpf_tiled.specs.Ranks.{up_to, is_least, leasts}
+use Rattle.vpf_tiling.specs.Ranks.{up_to, is_least, leasts}
 use Rattle.vpf_prims.specs.Primitives.{Primitives, RingPrimitive, untiled, absent_ring, ring_count}
 use Rattle.vpf_prims.specs.References.{id_of}
 use Rattle.vpf_wing.specs.Walks.{LeadsTo, least_after}
 use Rattle.vpf_wing.specs.Links.{links_of, local_map}
-use Rattle.vpf_tiled.specs.Presence.{untiled_links, next_of, face_of, holds_face, is_within, is_present, held_faces, local_edge, local_face, copy_in, tile_map}
-use Rattle.vpf_tiled.specs.Tiles.{Ring, outer_darts, outer_rings, face_rings, tiled_rings, tiled_library, is_made}
+use Rattle.vpf_tiling.specs.Presence.{untiled_links, next_of, face_of, holds_face, is_within, is_present, held_faces, local_edge, local_face, copy_in, tile_map}
+use Rattle.vpf_tiling.specs.Tiles.{Ring, outer_darts, outer_rings, face_rings, tiled_rings, tiled_library, is_made}
 use Rattle.vpf_prims.specs.Numbering.{IsRowOf}
 use Rattle.vpf_wing.specs.WellFormed.{GoesRound}
-use Rattle.vpf_tiled.specs.Plans.{IsTileable}
+use Rattle.vpf_tiling.specs.Plans.{IsTileable}
 use Rattle.vpf_tiled.specs.Laws.{TiledAgrees}
 use Rattle.vpf_tiled.proofs.Parts.{OfTiled, CyclesRinged, TiledCycles}
-use Rattle.vpf_follow.specs.DartLaws.{never_both, stands_in}
-use Rattle.vpf_tiled.proofs.Facts.{MapLaws, up_stands, in_zero}
-use Rattle.vpf_tiled.proofs.CopyLemmas.{present_has, stands_filter}
-use Rattle.vpf_tiled.proofs.SideLemmas.{source_next, face_next}
+use Rattle.vpf_wing.specs.DartLaws.{never_both, stands_in}
+use Rattle.vpf_tiled.proofs.Facts.{MapLaws}
 use Rattle.vpf_tiled.proofs.NextLemmas.{id_within, id_not, face_id}
 use Rattle.vpf_tiled.proofs.AcrossLemmas.{CopyHere, copy_here, has_nexts, nexts_apart, tiled_loops}
 use Rattle.vpf_tiled.proofs.RowLemmas.{made_from, tiled_across, tiled_is_library}
@@ -33,6 +31,7 @@ use Rattle.vpf_tiled.proofs.RingLemmas.{starts_at, rings_start, rings_together, 
 use Rattle.vpf_tiled.proofs.WalkLemmas.{steps_keep, least_on, least_is}
 use Rattle.vpf_tiled.proofs.InnerLemmas.{face_ring}
 use Rattle.vpf_tiled.proofs.OnceLemmas.{Outer, outer_next, outer_stands, steps_ahead, rings_once}
+use Rattle.vpf_tiling.specs.PresenceLaws.{face_next, in_zero, present_has, source_next, stands_filter, up_stands}
 
 pub any_both : {X Y : Type 0} → (q : Y → Bool) (g : X → Y) (p r : X → Bool) (xs : List X) → ((x : X) → r x ≡ true → p x ≡ true)
     → ((x : X) → r x ≡ true → q (g x) ≡ true) → list_any r xs ≡ true → list_any q (map g (filter p xs)) ≡ true

@@ -6,8 +6,8 @@ use Rattle.std.specs.List.{AllByRecursion}
 use Rattle.std.proofs.lemmas.Bool.{cases_Bool, cases_lt, or_cases, or_left, or_right, eqb-true, eq-eqb}
 use Rattle.vpf_darts.specs.Cycles.{IsCycle, first_of}
 use Rattle.vpf_wing.specs.Walks.{Steps, LeadsTo, least_after}
-use Rattle.vpf_tiled.specs.Ranks.{is_least}
-use Rattle.vpf_follow.specs.DartLaws.{never_both, stands_in}
+use Rattle.vpf_tiling.specs.Ranks.{is_least}
+use Rattle.vpf_wing.specs.DartLaws.{never_both, stands_in}
 use Rattle.vpf_tiled.proofs.PlaceLemmas.{all_from, all_get, all_passing}
 
 pub steps_keep : (f : ℕ → ℕ) (P : ℕ → Type 0) → ((x : ℕ) → P x → P (f x)) → (k x y : ℕ) → P x → Steps f k x y → P y

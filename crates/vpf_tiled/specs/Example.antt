@@ -5,7 +5,7 @@ use Rattle.vpf_darts.specs.Darts.{code}
 use Rattle.vpf_prims.specs.References.{plain}
 use Rattle.vpf_prims.specs.Primitives.{EdgePrimitive, FacePrimitive, RingPrimitive, NodePrimitive, Primitives, cross}
 use Rattle.vpf_wing.specs.Links.{links_of}
-use Rattle.vpf_tiled.specs.Tiles.{tiled_library}
+use Rattle.vpf_tiling.specs.Tiles.{tiled_library}
 use Rattle.vpf_trace.specs.Tracing.{tile_lines, traced_map}
 
 -- an edge: its nodes, faces and wings, and its mark

@@ -1,6 +1,5 @@
 -- What is so of every well-formed coverage and every plan: its tiled library is the same map with its darts renamed, and agrees.
-use Rattle.std.specs.List.{range_with_len}
-use Rattle.std.specs.Prelude.{count_by, ◌+◌, ◌≡◌, ◌↔◌, ℕ, true, List, map, Some}
+use Rattle.std.specs.Prelude.{◌≡◌, ◌↔◌, ℕ, true, List, map, Some}
 use Rattle.vpf_darts.specs.Cycles.{AreCycles, IsListing}
 use Rattle.vpf_darts.specs.Laws.{ComesTo}
 use Rattle.vpf_darts.specs.Darts.{flip}
@@ -10,26 +9,11 @@ use Rattle.vpf_wing.specs.Links.{links_of}
 use Rattle.vpf_wing.specs.WellFormed.{IsWellFormed}
 use Rattle.vpf_follow.specs.Following.{follow, home_copy, library_map}
 use Rattle.vpf_cross.specs.Agreeing.{LibraryAgrees}
-use Rattle.vpf_tiled.specs.Presence.{has_edge, has_node, holds_face, local_edge, local_node, local_face, untiled_links, coverage_map, next_of, is_present, copy_in, dart_name, absent_darts, tile_map}
-use Rattle.vpf_tiled.specs.Tiles.{tiled_library}
+use Rattle.vpf_tiling.specs.Presence.{untiled_links, coverage_map, next_of, is_present, copy_in, dart_name, absent_darts, tile_map}
+use Rattle.vpf_tiling.specs.Tiles.{tiled_library}
 use Rattle.vpf_trace.specs.Tracing.{tile_lines, traced_map}
 use Rattle.vpf_tiled.specs.Names.{named_map}
-use Rattle.vpf_tiled.specs.Plans.{IsTileable}
-
--- the number of an edge in a tile is how many present edges there are up to it
-abbrev pub EdgesAreCounted : Type 0
-EdgesAreCounted = (c : Primitives) (plan : ℕ → ℕ) (t e : ℕ) → has_edge c plan t e ≡ true
-    → local_edge c plan t e ≡ count_by (has_edge c plan t) (range_with_len 1 e)
-
--- the same of a node
-abbrev pub NodesAreCounted : Type 0
-NodesAreCounted = (c : Primitives) (plan : ℕ → ℕ) → IsWellFormed c → (t n : ℕ) → has_node c plan t n ≡ true
-    → local_node c plan t n ≡ count_by (has_node c plan t) (range_with_len 1 n)
-
--- that of a face is one more, since the universe is 1
-abbrev pub FacesAreCounted : Type 0
-FacesAreCounted = (c : Primitives) (plan : ℕ → ℕ) (t f : ℕ) → holds_face c plan t f ≡ true
-    → local_face c plan t f ≡ count_by (holds_face c plan t) (range_with_len 1 f) + 1
+use Rattle.vpf_tiling.specs.Plans.{IsTileable}
 
 -- each copy of a dart is followed by the home copy of the dart's next
 abbrev pub FollowingIsNext : Type 0

@@ -4,7 +4,7 @@ use Rattle.vpf_darts.specs.Darts.{code, tile_in, edge_in, sign_in}
 use Rattle.vpf_darts.specs.Maps.{DartMap}
 use Rattle.vpf_prims.specs.Lists.{kth}
 use Rattle.vpf_prims.specs.Primitives.{Primitives}
-use Rattle.vpf_tiled.specs.Presence.{home, present_edges, dart_name}
+use Rattle.vpf_tiling.specs.Presence.{home, present_edges, dart_name}
 
 -- the dart of the coverage whose copy in a tile has this number
 abbrev pub dart_behind : Primitives → (ℕ → ℕ) → ℕ → ℕ

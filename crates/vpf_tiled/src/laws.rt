@@ -1,8 +1,7 @@
 //! What is so of every coverage that may be tiled, and of every plan.
 
 ghost use Rattle.vpf_tiled.specs.Example.{IsTiled, IsTraced, coverage, plan};
-ghost use Rattle.vpf_tiled.specs.Plans.{IsTileable};
-ghost use Rattle.vpf_tiled.specs.Laws.{EdgesAreCounted, FacesAreCounted, NodesAreCounted};
+ghost use Rattle.vpf_tiling.specs.Plans.{IsTileable};
 ghost use Rattle.vpf_tiled.specs.Laws.{CyclesAreNamed, FollowingIsNext, HomeIsName, ListingIsNamed, MapIsNamed, TiledAgrees, TileNextIsFirstPresent};
 
 use vpf_darts::laws::{
@@ -23,13 +22,6 @@ pub fn example_may_be_tiled()
     loops_decide();
     cycles_decide();
 }
-
-/// The number of an edge or of a node in a tile is how many of those that are present there are up to it, and that of a face is one more.
-pub fn local_numbers_count()
-    ensures edges { EdgesAreCounted }
-    ensures nodes { NodesAreCounted }
-    ensures faces { FacesAreCounted }
-{}
 
 /// Each copy of a dart is followed by the home copy of the dart's next, and the next edge in a tile is the first that is present there
 /// among the next, the one after it round the node, and so on.

@@ -15,7 +15,7 @@ use Rattle.vpf_numbers.specs.TableLines.{coverage_numbers}
 use Rattle.vpf_wing.specs.CycleLines.{cycles_finding, loops_finding}
 use Rattle.vpf_wing.specs.Laws.{CyclesDecide}
 use Rattle.vpf_wing.specs.Links.{DartLinks, is_minus}
-use Rattle.vpf_follow.specs.DartLaws.{code-minus, code-sign, never_both, sign-small}
+use Rattle.vpf_wing.specs.DartLaws.{code-minus, code-sign, never_both, sign-small}
 use Rattle.vpf_follow.specs.FollowLaws.{outside_has}
 use Rattle.vpf_follow.specs.FollowLines.{follows_finding}
 use Rattle.vpf_follow.specs.Following.{home_copy, is_outside}

@@ -1,9 +1,6 @@
 pub mod UntiledLemmas
 pub mod LineLemmas
 pub mod AgreeLemmas
-pub mod RankLemmas
-pub mod SearchLemmas
-pub mod KeptLemmas
 pub mod GatherLemmas
 pub mod CheckedLemmas
 pub mod WalkLemmas

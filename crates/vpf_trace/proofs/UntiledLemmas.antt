@@ -13,7 +13,7 @@ use Rattle.vpf_wing.specs.Links.{DartLinks, Link, edge_of_dart, face_by, is_minu
 use Rattle.vpf_wing.specs.WellFormed.{HasCycles, IsDartOf}
 use Rattle.vpf_follow.specs.Following.{face_beyond, face_name, follow, follow_to, home_copy, is_far_face, is_home, is_named, library_map, same_beyond}
 use Rattle.vpf_follow.specs.Sided.{HasFollowers}
-use Rattle.vpf_follow.specs.DartLaws.{IsThere, never_both, has-there, flip-has, flip-tile, code-tile}
+use Rattle.vpf_wing.specs.DartLaws.{IsThere, never_both, has-there, flip-has, flip-tile, code-tile}
 use Rattle.vpf_follow.specs.FollowLaws.{home_has, home_self}
 use Rattle.vpf_trace.specs.Laws.{SameDarts}
 

@@ -7,7 +7,7 @@ use Rattle.vpf_darts.specs.Maps.{is_of_any}
 use Rattle.vpf_darts.proofs.WithoutLemmas.{without-is_map}
 use Rattle.vpf_prims.specs.Primitives.{Library}
 use Rattle.vpf_wing.specs.Links.{links_of}
-use Rattle.vpf_follow.specs.DartLaws.{flip-has, never_both}
+use Rattle.vpf_wing.specs.DartLaws.{flip-has, never_both}
 use Rattle.vpf_follow.specs.FollowLaws.{home_has, home_self}
 use Rattle.vpf_follow.specs.Following.{follow, home_copy, is_home}
 use Rattle.vpf_follow.specs.Laws.{HomesExist}

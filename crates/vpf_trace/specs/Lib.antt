@@ -1,4 +1,3 @@
 pub mod Tracing
 pub mod Laws
-pub mod Kept
 pub mod Gathering

@@ -4,7 +4,6 @@
 
 mod gathering;
 pub mod laws;
-mod listing;
 mod stepping;
 mod tracing;
 

@@ -1,4 +1,4 @@
-//! Trials of the crates on topology, and of `check` and `trace`, over tables and coverages in memory: no function but tests. They stand apart, since a crate
+//! Trials of the crates on topology, and of `check`, `trace` and `tile`, over tables and coverages in memory: no function but tests. They stand apart, since a crate
 //! with tests is proved once more with them.
 #![tactic(auto)]
 
@@ -14,6 +14,8 @@ mod libraries;
 mod tiled;
 #[cfg(test)]
 mod tiles;
+#[cfg(test)]
+mod tilings;
 #[cfg(test)]
 mod traces;
 #[cfg(test)]

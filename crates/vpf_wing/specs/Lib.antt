@@ -12,3 +12,4 @@ pub mod Nodes
 pub mod Boundaries
 pub mod Laws
 pub mod Errors
+pub mod DartLaws

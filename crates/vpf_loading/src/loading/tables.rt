@@ -160,7 +160,9 @@ fn files_of_table<T: Tree>(
     Ok(listed(alloc, name, bytes, index)?)
 }
 
-/// The files of the table of this name, which has to be there.
+/// The files of the table of this name, which has to be there: its own, and its variable-length index where its rows vary.
+///
+/// The stops are those of `load_coverage`, but for those of the table of tiles.
 pub fn required_table<T: Tree>(
     alloc: Global,
     tree: &mut T,

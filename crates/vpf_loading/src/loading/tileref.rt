@@ -37,8 +37,8 @@ fn opened<'a>(
     }
 }
 
-/// The table in a file, with the index in the next one, where there is one.
-fn table_in<'a>(alloc: Global, files: &'a [File]) -> Result<TableView<'a>, AllocError>
+/// The table in a file, with the index in the next one, where there is one, as `required_table` gives them.
+pub fn table_in<'a>(alloc: Global, files: &'a [File]) -> Result<TableView<'a>, AllocError>
     requires { (name : List ℕ) × (grid : Grid) × AreFilesOf name grid files.now }
     ensures { (name : List ℕ) (grid : Grid) → AreFilesOf name grid files.now → IfOk result (λ table. table ≡ grid) }
 {
@@ -77,7 +77,10 @@ fn paths_in(alloc: Global, name: &str, files: &[File]) -> Result<TilePaths, Load
     }
 }
 
-/// Adds the files of the table of tiles of a library to none. The paths that it names.
+/// Adds the files of the table of tiles of a library to none: `tileref/tileref.aft`, and its index where its rows vary. The paths of the tiles
+/// that it names (MIL-STD-2407, 5.3, tile reference coverage).
+///
+/// It is looked at when it is read. The stops are those of `load_coverage`.
 pub fn load_tileref<T: Tree>(
     alloc: Global,
     tree: &mut T,

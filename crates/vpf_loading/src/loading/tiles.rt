@@ -121,7 +121,9 @@ fn load_tile<T: Tree>(
     Ok(true)
 }
 
-/// Adds the files of a folder in another one, and tells whether it has tables.
+/// Adds the files of the tables of primitives of a folder in another one, and tells whether it has tables: without edges it has none.
+///
+/// The stops are those of `load_coverage`, but for those of the table of tiles.
 pub fn load_folder<T: Tree>(
     alloc: Global,
     tree: &mut T,

@@ -33,3 +33,7 @@ returns-clause-traced g c files request loaded cycles e f agrees lists =
 pub returns-clause-traceable : goal.returns-clause-traceable
 returns-clause-traceable g c files request bytes e f done =
     run_traces c.traces_list_cycles.ensures.some c.traces_list_cycles.ensures.only (map string_bytes c.args.words.now) files request _ _ _ bytes e f done c.do_words.ensures.answer
+
+pub returns-clause-tiled : goal.returns-clause-tiled
+returns-clause-tiled g c files request parts tables e f cut =
+    c.do_words.ensures.answer _ (words_said _ _ _ files _ e f (c.tiles_are_made.ensures files request parts tables cut))

@@ -3,7 +3,7 @@ use Rattle.vpf_darts.specs.Darts.{flip, tile_dart_code}
 use Rattle.vpf_darts.proofs.DartLemmas.{flip-tile_dart}
 use Rattle.vpf_prims.specs.Libraries.{library_of}
 use Rattle.vpf_wing.specs.Links.{links_of}
-use Rattle.vpf_follow.specs.DartLaws.{flip-has}
+use Rattle.vpf_wing.specs.DartLaws.{flip-has}
 use Rattle.vpf_follow.specs.FollowLaws.{home_has}
 use Rattle.vpf_trace.proofs.WalkLemmas.{flip_tiled, flip_untiled}
 use Rattle.vpf_trace.proofs.stepping.PastLinesWalk.flip.Goals as goal

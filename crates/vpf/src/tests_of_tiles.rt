@@ -1,0 +1,59 @@
+//! `tile` through `run`, over a coverage in memory.
+
+use crate::running::run;
+use crate::status::Status;
+use crate::testing::words_of;
+use crate::tests_of_checks::{CND, EDG, FAC, RNG};
+use std::alloc::{AllocError, Global};
+use std::test::Fail;
+use vpf_source::{MemSink, MemTree};
+
+/// The table of tiles of the library.
+const TILES: &[u8] =
+    b"\x3a\0\0\0L;Tiles;-;id=I,1,P,Id,-,-,-,:tile_name=T,8,N,Name,-,-,-,:;\x01\0\0\0t1      \x02\0\0\0t2      ";
+
+/// The plan of the coverage.
+const PLAN: &[u8] =
+    b"\x39\0\0\0L;Plan;-;id=I,1,P,Face,-,-,-,:tile_id=I,1,N,Tile,-,-,-,:;\x02\0\0\0\x01\0\0\0\x03\0\0\0\x02\0\0\0";
+
+/// A tree with the library, of which these calls fail.
+fn library_tree(alloc: Global, failing: Vec<u64>) -> Result<MemTree, AllocError> {
+    let mut tree = MemTree::new(alloc, 4096, failing);
+    tree.put("lib/cov/edg", EDG)?;
+    tree.put("lib/cov/fac", FAC)?;
+    tree.put("lib/cov/rng", RNG)?;
+    tree.put("lib/cov/cnd", CND)?;
+    tree.put("lib/tileref/tileref.aft", TILES)?;
+    tree.put("lib/cov/plan", PLAN)?;
+    Ok(tree)
+}
+
+/// What `tile lib cov out` prints over a tree, and its status.
+fn tiled(alloc: Global, tree: &mut MemTree) -> Result<(Status, MemSink), AllocError> {
+    let words = words_of(alloc, &["tile", "lib", "cov", "out"])?;
+    let mut out = MemSink::new(alloc, 4096, Vec::new(alloc));
+    let status = run(alloc, &words, tree, &mut out);
+    Ok((status, out))
+}
+
+#[test]
+fn stops_where_the_third_file_is_not_made(rt: HostRuntime) -> Result<(), Fail> {
+    let alloc = rt.alloc();
+    let mut whole = library_tree(alloc, Vec::new(alloc))?;
+    let (status, _) = tiled(alloc, &mut whole)?;
+    assert_eq!(rt; status, Status::Done);
+    // The first call whose fault leaves the second file whole is that which makes the third.
+    for call in 1..100u64 {
+        let mut tree = library_tree(alloc, vec![in alloc; call]?)?;
+        let (status, out) = tiled(alloc, &mut tree)?;
+        if tree.file("out/cov/t1/edg") == whole.file("out/cov/t1/edg") {
+            assert_eq!(rt; status, Status::TreeFault);
+            assert_eq!(rt; out.bytes().len(), 0);
+            let tiles = "out/tileref/tileref.aft";
+            assert_eq!(rt; tree.file(tiles), whole.file(tiles));
+            assert_eq!(rt; tree.file("out/cov/t1/fac"), None);
+            return Ok(());
+        }
+    }
+    Err("no call makes the third file")?
+}

@@ -1,0 +1,10 @@
+pub mod OrderLemmas
+pub mod LeastLemmas
+pub mod DartLemmas
+pub mod SideLemmas
+pub mod OuterLemmas
+pub mod PlaceLemmas
+pub mod FirstLemmas
+pub mod WithinLemmas
+pub mod BeginLemmas
+pub mod FewLemmas

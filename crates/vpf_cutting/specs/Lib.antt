@@ -1,0 +1,4 @@
+pub mod Cuts
+pub mod Sides
+pub mod Rows
+pub mod WalkLaws

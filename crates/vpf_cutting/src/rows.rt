@@ -1,0 +1,161 @@
+//! The cells of the rows of a tile that name other primitives.
+
+ghost use Rattle.std.specs.Prelude.{◌≡◌, ℕ, ◌+◌, ◌<◌, ◌^◌, true, length};
+ghost use Rattle.vpf_cutting.specs.Cuts.{plan_by};
+ghost use Rattle.vpf_cutting.specs.Rows.{HasSmallReferences, references_of};
+ghost use Rattle.vpf_darts.specs.Darts.{dart_code};
+ghost use Rattle.vpf_prims.specs.Numbering.{IsRowOf};
+ghost use Rattle.vpf_prims.specs.Primitives.{cross};
+ghost use Rattle.vpf_prims.specs.References.{plain};
+ghost use Rattle.vpf_tiling.specs.Presence.{containing_face, has_edge, holds_entity, is_present, local_edge, local_face};
+ghost use Rattle.vpf_triplet.specs.Canonical.{HasSmallParts};
+ghost use Rattle.vpf_tiling.specs.Tiles.{reference_to, tiled_edge, tiled_face, tiled_node, tiled_wing};
+
+use crate::cut::Cut;
+use vpf_darts::{Dart, flip};
+use vpf_triplet::Triplet;
+
+/// What a row of edges of a tile names: its nodes and wings, which go on in another tile where the next dart has its home there, and its
+/// faces, of which those of other tiles are named with their tiles (MIL-STD-2407, 5.2.3, cross-tile topology).
+#[derive(Clone, Copy, Debug, PartialEq, Eq)]
+pub struct CutEdge {
+    /// The node where it begins.
+    pub start_node: Triplet,
+    /// The node where it ends.
+    pub end_node: Triplet,
+    /// The face on its right.
+    pub right_face: Triplet,
+    /// The face on its left.
+    pub left_face: Triplet,
+    /// The wing about its end node: the edge that follows it round its right face.
+    pub right_edge: Triplet,
+    /// The wing about its start node: the edge that follows it, run back, round its left face.
+    pub left_edge: Triplet,
+}
+
+/// A reference within a tile.
+fn plain(id: u32) -> Triplet
+    requires { id < 2 ^ 31 }
+    ensures value { result ≡ plain id }
+    ensures small { HasSmallParts result }
+{
+    Triplet {
+        id: Some(id),
+        tile: None,
+        ext: None,
+    }
+}
+
+/// A reference that goes on in another tile, and its number there.
+fn cross(id: u32, tile: u32, ext: u32) -> Triplet
+    requires id { id < 2 ^ 31 }
+    requires tile { tile < 2 ^ 31 }
+    requires ext { ext < 2 ^ 31 }
+    ensures value { result ≡ cross id tile ext }
+    ensures small { HasSmallParts result }
+{
+    Triplet {
+        id: Some(id),
+        tile: Some(tile),
+        ext: Some(ext),
+    }
+}
+
+/// A number in this tile, and where the thing has its home in another, that tile and its number there.
+fn reference_to(tile: u32, home: u32, here: u32, there: u32) -> Triplet
+    requires home { home < 2 ^ 31 }
+    requires here { here < 2 ^ 31 }
+    requires there { there < 2 ^ 31 }
+    ensures value { result ≡ reference_to tile home here there }
+    ensures small { HasSmallParts result }
+{
+    if home == tile {
+        plain(here)
+    } else {
+        cross(here, home, there)
+    }
+}
+
+impl<'c, 'a> Cut<'c, 'a> {
+    /// The head node of a dart in a tile, with its number in the home of the next dart.
+    fn node_cell(&self, tile: u32, dart: Dart) -> Triplet
+        requires { is_present self.now.source (plan_by self.now.plan) tile (dart_code dart) ≡ true }
+        ensures value { result ≡ tiled_node self.now.source (plan_by self.now.plan) tile (dart_code dart) }
+        ensures small { HasSmallParts result }
+    {
+        self.is_planned();
+        let next = self.next(dart);
+        let home = self.home(next);
+        let node = self.head(dart);
+        let here = self.local_node(tile, node);
+        let there = self.local_node(home, node);
+        reference_to(tile, home, here, there)
+    }
+
+    /// The wing of a dart in a tile: the next edge there, with the edge of the next dart in its home.
+    fn wing_cell(&self, tile: u32, dart: Dart) -> Triplet
+        requires { is_present self.now.source (plan_by self.now.plan) tile (dart_code dart) ≡ true }
+        ensures value { result ≡ tiled_wing self.now.source (plan_by self.now.plan) tile (dart_code dart) }
+        ensures small { HasSmallParts result }
+    {
+        self.is_planned();
+        let next = self.next(dart);
+        let home = self.home(next);
+        let first = self.next_in(tile, dart);
+        let here = self.local_edge(tile, first.edge);
+        let there = self.local_edge(home, next.edge);
+        reference_to(tile, home, here, there)
+    }
+
+    /// A face in a tile: its number there, or 1 with its own tile and its number there, or 1 alone for the universe.
+    fn face_cell(&self, tile: u32, face: u32) -> Triplet
+        requires { IsRowOf (length self.now.source.faces) face }
+        ensures value { result ≡ tiled_face self.now.source (plan_by self.now.plan) tile face }
+        ensures small { HasSmallParts result }
+    {
+        self.is_planned();
+        if face == 1 {
+            return plain(1);
+        }
+        let own = self.tile_of_face(face);
+        let number = self.local_face(own, face);
+        if own == tile {
+            plain(number)
+        } else {
+            cross(1, own, number)
+        }
+    }
+
+    /// What the row of an edge that is in a tile names there.
+    pub fn edge(&self, tile: u32, edge: u32) -> CutEdge
+        requires { has_edge self.now.source (plan_by self.now.plan) tile edge ≡ true }
+        ensures value { (k : ℕ) → result ≡ references_of (tiled_edge self.now.source (plan_by self.now.plan) tile k edge) }
+        ensures small { HasSmallReferences result }
+    {
+        let plus = Dart { edge, minus: false };
+        let minus = flip(plus);
+        let start_node = self.node_cell(tile, minus);
+        let end_node = self.node_cell(tile, plus);
+        let right = self.face(plus);
+        let left = self.face(minus);
+        CutEdge {
+            start_node,
+            end_node,
+            right_face: self.face_cell(tile, right),
+            left_face: self.face_cell(tile, left),
+            right_edge: self.wing_cell(tile, plus),
+            left_edge: self.wing_cell(tile, minus),
+        }
+    }
+
+    /// The face that an entity node of a tile lies in, by its number there.
+    pub fn entity(&self, tile: u32, entity: u32) -> u32
+        requires { holds_entity self.now.source (plan_by self.now.plan) tile entity ≡ true }
+        ensures value { result ≡ local_face self.now.source (plan_by self.now.plan) tile (containing_face self.now.source entity) }
+        ensures few { result < 2 ^ 24 + 1 }
+    {
+        let source = self.source();
+        let face = source.containing_face(entity);
+        self.local_face(tile, face)
+    }
+}

@@ -1,0 +1,6 @@
+//! The darts that a walk keeps, and the listing of their cycles: those of a combinatorial map without some of its edges.
+#![tactic(auto)]
+
+mod listing;
+
+pub use listing::list_kept;

@@ -1,0 +1,148 @@
+-- The files that `tile` reads, one load after another.
+use Rattle.std.proofs.Common.{Vec, Global, ◌≡◌, ◌∙◌, ℕ, List, Ok, Err, refl, sym, subst}
+use Rattle.std.specs.Prelude.{IsErrOf}
+use Rattle.vpf_base.specs.Results.{Told}
+use Rattle.vpf_source.specs.Files.{Files}
+use Rattle.vpf_source.specs.declared.file.File.{File}
+use Rattle.vpf_loading.specs.declared.loading.LoadStop.{LoadStop}
+use Rattle.vpf_loading.specs.declared.loading.LoadStop.TheVariants as stops
+use Rattle.vpf_loading.specs.Holding.{AreUntiledFiles}
+use Rattle.vpf_loading.specs.Loading.{CountsAs, LoadedCoverage, LoadedTable, Read, ◌and_then◌, loaded_read, read_tileref, stop_seen, tileref_name}
+use Rattle.vpf_loading.specs.Loads.{LoadsTileref, ReadsStop, ReadsValue}
+use Rattle.vpf_plan.specs.PlanLoads.{AreOfPlan, ArePlanFiles, read_plan}
+use Rattle.vpf_plan.specs.Untiled.{AreOfUntiled, read_untiled}
+use Rattle.vpf_library_commands.specs.declared.tiling.TileFiles.{TileFiles}
+use Rattle.vpf_library_commands.specs.Tile.{TileParts, plan_name, read_parts}
+use Rattle.vpf_library_commands.specs.TileFiles.{ArePartsFiles, ArePartsOf}
+
+-- ---- what stops a load
+
+-- a stop that is seen ends reading
+ends_read : (read : Read LoadedCoverage) (stop : LoadStop) (n : ℕ) → loaded_read read ≡ Err stop → n ≡ read.1 → read ≡ (Err stop, n)
+ends_read (Ok c, k) stop n e counted = absurd cc
+ends_read (Err other, k) stop n e counted = let same : other ≡ stop = cc in rw (same, counted) refl
+
+pub untiled_ends : (read : Read LoadedCoverage) (stop : LoadStop) (n : ℕ) → Told (stop_seen stop) (loaded_read read)
+    → CountsAs {V = Vec File Global} (Err stop) read n → ReadsStop stop n read
+untiled_ends read stops.Fault n told counted = tt
+untiled_ends read stops.NoMemory n told counted = tt
+untiled_ends read (stops.Missing name) n told counted = ends_read read (stops.Missing name) n told counted
+untiled_ends read (stops.Place name place) n told counted = ends_read read (stops.Place name place) n told counted
+untiled_ends read (stops.Limit name limit) n told counted = ends_read read (stops.Limit name limit) n told counted
+untiled_ends read (stops.Finding name f) n told counted = ends_read read (stops.Finding name f) n told counted
+
+-- what stops the first step stops both
+both_end : {V W : Type 0} (read : Read V) (next : V → ℕ → Read W) (seen : LoadStop) (n : ℕ) → read ≡ (Err seen, n) → (read and_then next) ≡ (Err seen, n)
+both_end read next seen n e = rw e refl
+
+pub ends_first : {V W : Type 0} (read : Read V) (next : V → ℕ → Read W) (stop : LoadStop) (n : ℕ) → ReadsStop stop n read → ReadsStop stop n (read and_then next)
+ends_first read next stops.Fault n e = tt
+ends_first read next stops.NoMemory n e = tt
+ends_first read next (stops.Missing name) n e = both_end read next (stops.Missing name) n e
+ends_first read next (stops.Place name place) n e = both_end read next (stops.Place name place) n e
+ends_first read next (stops.Limit name limit) n e = both_end read next (stops.Limit name limit) n e
+ends_first read next (stops.Finding name f) n e = both_end read next (stops.Finding name f) n e
+
+-- two steps, the first of which comes to a value
+goes_on : {V W : Type 0} (read : Read V) (next : V → ℕ → Read W) (v : V) (n : ℕ) → read ≡ (Ok v, n) → (read and_then next) ≡ next v n
+goes_on read next v n e = rw e refl
+
+pub ends_next : {V W : Type 0} (read : Read V) (next : V → ℕ → Read W) (v : V) (m : ℕ) (stop : LoadStop) (n : ℕ) → read ≡ (Ok v, m)
+    → ReadsStop stop n (next v m) → ReadsStop stop n (read and_then next)
+ends_next read next v m stop n e h = subst (ReadsStop stop n) (sym (goes_on read next v m e)) h
+
+-- what is no fault is none of another call
+pub no_fault : {V W : Type 0} (stop : LoadStop) → ¬ IsErrOf {T = W} {E = LoadStop} (Err stop) stops.Fault → ¬ IsErrOf {T = V} {E = LoadStop} (Err stop) stops.Fault
+no_fault stop h e = let same : stop ≡ stops.Fault = cc in h (rw same refl)
+
+-- ---- the coverage
+
+-- the untiled coverage that is read
+came : (lib cov : List ℕ) (files : List File) (read : Read LoadedCoverage) (n : ℕ) → loaded_read read ≡ Ok files → n ≡ read.1
+    → ((c : LoadedCoverage) (k : ℕ) → read ≡ (Ok c, k) → AreUntiledFiles lib cov c.coverage files)
+    → (c : LoadedCoverage) × (read ≡ (Ok c, n)) × (files ≡ c.files) × AreUntiledFiles lib cov c.coverage files
+came lib cov files (Ok c, k) n told counted held =
+    let same : c.files ≡ files = cc in
+    (c, rw counted refl, sym same, held c k refl)
+came lib cov files (Err stop, k) n told counted held = absurd cc
+
+-- the same of what was loaded
+abbrev pub CameTo : (lib cov : List ℕ) → List File → Read LoadedCoverage → ℕ → Type 0
+CameTo lib cov files read n = (c : LoadedCoverage) × (read ≡ (Ok c, n)) × (files ≡ c.files) × AreUntiledFiles lib cov c.coverage files
+
+pub untiled_comes : (lib cov : List ℕ) (v : Vec File Global) (read : Read LoadedCoverage) (n : ℕ) → loaded_read read ≡ Ok v.items → CountsAs (Ok v) read n
+    → ((c : LoadedCoverage) (k : ℕ) → read ≡ (Ok c, k) → AreUntiledFiles lib cov c.coverage v.items) → CameTo lib cov v.items read n
+untiled_comes lib cov v read n told counted held = came lib cov v.items read n told counted held
+
+-- ---- all three
+
+-- the parts of these
+abbrev parts_of : LoadedCoverage → LoadedTable → LoadedTable → TileParts
+parts_of c t p = record { coverage = c; tileref = t; plan = p }
+
+-- what is read behind the table of tiles
+abbrev after_tileref : Files → (lib cov : List ℕ) → LoadedCoverage → LoadedTable → ℕ → Read TileParts
+after_tileref held lib cov c t n = read_plan held (plan_name lib cov) n and_then λ p k. (Ok (parts_of c t p), k)
+
+-- .. and behind the coverage
+abbrev after_coverage : Files → (lib cov : List ℕ) → LoadedCoverage → ℕ → Read TileParts
+after_coverage held lib cov c n = read_tileref held lib n and_then after_tileref held lib cov c
+
+pub coverage_stops : (held : Files) (lib cov : List ℕ) (old n : ℕ) (stop : LoadStop) → ReadsStop stop n (read_untiled held lib cov old)
+    → ReadsStop stop n (read_parts held lib cov old)
+coverage_stops held lib cov old n stop h = ends_first (read_untiled held lib cov old) (after_coverage held lib cov) stop n h
+
+pub tileref_stops : (held : Files) (lib cov : List ℕ) (files : List File) (old m n : ℕ) (stop : LoadStop) → CameTo lib cov files (read_untiled held lib cov old) m
+    → ReadsStop stop n (read_tileref held lib m) → ReadsStop stop n (read_parts held lib cov old)
+tileref_stops held lib cov files old m n stop (c, e, listed, are) h =
+    ends_next (read_untiled held lib cov old) (after_coverage held lib cov) c m stop n e (ends_first (read_tileref held lib m) (after_tileref held lib cov c) stop n h)
+
+pub plan_stops : (held : Files) (lib cov : List ℕ) (files : List File) (t : LoadedTable) (old m k n : ℕ) (stop : LoadStop) → CameTo lib cov files (read_untiled held lib cov old) m
+    → read_tileref held lib m ≡ (Ok t, k) → ReadsStop stop n (read_plan held (plan_name lib cov) k) → ReadsStop stop n (read_parts held lib cov old)
+plan_stops held lib cov files t old m k n stop (c, e, listed, are) f h =
+    ends_next (read_untiled held lib cov old) (after_coverage held lib cov) c m stop n e
+    (ends_next (read_tileref held lib m) (after_tileref held lib cov c) t k stop n f
+    (ends_first (read_plan held (plan_name lib cov) k) (λ p j. (Ok (parts_of c t p), j)) stop n h))
+
+parts_come : (held : Files) (lib cov : List ℕ) (c : LoadedCoverage) (t p : LoadedTable) (old m k n : ℕ) → read_untiled held lib cov old ≡ (Ok c, m)
+    → read_tileref held lib m ≡ (Ok t, k) → read_plan held (plan_name lib cov) k ≡ (Ok p, n) → read_parts held lib cov old ≡ (Ok (parts_of c t p), n)
+parts_come held lib cov c t p old m k n e f g =
+    goes_on (read_untiled held lib cov old) (after_coverage held lib cov) c m e
+    ∙ (goes_on (read_tileref held lib m) (after_tileref held lib cov c) t k f
+    ∙ goes_on (read_plan held (plan_name lib cov) k) (λ p j. (Ok (parts_of c t p), j)) p n g)
+
+-- the files of the table of tiles that was read
+abbrev IsTilerefIn : (lib : List ℕ) → List File → List (List ℕ) → LoadedTable → Type 0
+IsTilerefIn lib files paths table = LoadsTileref (tileref_name lib) files paths table
+
+-- the files are those of what was read
+their_files : (lib cov : List ℕ) (files : TileFiles) (c : LoadedCoverage) (paths : List (List ℕ)) (t p : LoadedTable) → files.coverage.items ≡ c.files
+    → AreUntiledFiles lib cov c.coverage files.coverage.items → IsTilerefIn lib files.tileref.items paths t → ArePlanFiles (plan_name lib cov) p.grid files.plan.items
+    → ArePartsFiles lib cov files (parts_of c t p)
+their_files lib cov files c paths t p listed are tiles plan = record {
+  coverage = are;
+  listed = listed;
+  tileref = rw tiles.all tiles.are;
+  goes_on = tiles.goes_on;
+  plan = plan;
+}
+
+pub parts_read : (held : Files) (lib cov : List ℕ) (files : TileFiles) (paths : List (List ℕ)) (t : LoadedTable) (old m k n : ℕ)
+    → CameTo lib cov files.coverage.items (read_untiled held lib cov old) m
+    → read_tileref held lib m ≡ (Ok t, k) → IsTilerefIn lib files.tileref.items paths t
+    → ReadsValue (λ (v : Vec File Global) (p : LoadedTable). p.files ≡ v.items) files.plan n (read_plan held (plan_name lib cov) k)
+    → ((p : LoadedTable) (j : ℕ) → read_plan held (plan_name lib cov) k ≡ (Ok p, j) → ArePlanFiles (plan_name lib cov) p.grid files.plan.items)
+    → ReadsValue (λ files parts. ArePartsFiles lib cov files parts) files n (read_parts held lib cov old)
+parts_read held lib cov files paths t old m k n (c, e, listed, are) f tiles plan plan_are = record {
+  value = parts_of c t plan.value;
+  comes = parts_come held lib cov c t plan.value old m k n e f plan.comes;
+  is = their_files lib cov files c paths t plan.value listed are tiles (plan_are plan.value n plan.comes);
+}
+
+-- files that were loaded are those of something
+pub parts_are : (lib cov : List ℕ) (files : TileFiles) (paths : List (List ℕ)) (t : LoadedTable) → AreOfUntiled lib cov files.coverage.items
+    → IsTilerefIn lib files.tileref.items paths t → AreOfPlan (plan_name lib cov) files.plan.items → ArePartsOf lib cov files
+parts_are lib cov files paths t coverage tiles plan =
+    let c : LoadedCoverage = record { coverage = coverage.0; files = files.coverage.items } in
+    let p : LoadedTable = record { grid = plan.0; files = files.plan.items } in
+    (parts_of c t p, their_files lib cov files c paths t p refl coverage.1 tiles plan.1)

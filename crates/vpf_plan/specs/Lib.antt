@@ -1,0 +1,5 @@
+pub mod Plans
+pub mod Named
+pub mod Untiled
+pub mod PlanLoads
+pub mod Laws

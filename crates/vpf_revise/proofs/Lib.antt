@@ -1,0 +1,4 @@
+pub mod Placing
+pub mod Lasting
+pub mod Turns
+pub mod FittingRows

@@ -1,0 +1,6 @@
+pub mod ColumnLemmas
+pub mod CountedRows
+pub mod NewCellLemmas
+pub mod RingLemmas
+pub mod TileLemmas
+pub mod FormLemmas

@@ -1,0 +1,13 @@
+use Rattle.std.proofs.Common.{subst}
+use Rattle.vpf_prims.specs.Reading.{PrimitiveTables}
+use Rattle.vpf_write.specs.Writing.{Writes}
+use Rattle.vpf_cutting.specs.Cuts.{plan_by}
+use Rattle.vpf_tile_tables.specs.Grids.{edges_made}
+use Rattle.vpf_tile_tables.proofs.FormLemmas.{edge_rows}
+use Rattle.vpf_tile_tables.proofs.forms.Forms.edges.Goals as goal
+
+pub write-requires-clause-rows : goal.write-requires-clause-rows
+write-requires-clause-rows c = edge_rows c.args.cut.now.source c.self.inside c.args.self.now c.requires c.self.view_is
+
+pub returns : goal.returns
+returns c = subst (λ (t : PrimitiveTables). Writes (edges_made t.edg c.args.cut.now.source (plan_by c.args.cut.now.plan) c.args.tile) c.write.result) c.self.view_is c.write.ensures

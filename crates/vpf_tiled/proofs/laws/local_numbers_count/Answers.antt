@@ -1,5 +1,0 @@
-use Rattle.vpf_tiled.proofs.CountLemmas as lemmas
-use Rattle.vpf_tiled.proofs.laws.local_numbers_count.Goals as goal
-
-pub returns : goal.returns
-returns c = record { edges = lemmas.edges_are_counted; nodes = lemmas.nodes_are_counted; faces = lemmas.faces_are_counted }

@@ -1,0 +1,5 @@
+pub mod AddLemmas
+pub mod TileLemmas
+pub mod LibraryLemmas
+pub mod SourceLemmas
+pub mod CutLemmas

@@ -1,0 +1,4 @@
+pub mod Adding
+pub mod Tables
+pub mod CutBy
+pub mod Making

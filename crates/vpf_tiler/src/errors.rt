@@ -1,0 +1,50 @@
+//! Why a coverage isn't tiled.
+
+use std::alloc::{AllocError, AllocFailed};
+use vpf_source::Name;
+use vpf_table::Limit;
+use vpf_tileable::Refusal;
+
+/// Why a coverage isn't tiled.
+#[derive(Debug, Drop)]
+pub enum TileError {
+    /// There is a cause against tiling it.
+    Refused(Refusal),
+    /// The file of this name would pass a bound.
+    Limit(Name, Limit),
+    /// There was too little memory.
+    NoMemory,
+}
+
+impl From<AllocError> for TileError {
+    ghost use Rattle.std.specs.Prelude.{◌≡◌};
+    ghost use Rattle.vpf_tiler.specs.declared.errors.TileError.TheVariants as errors;
+
+    ghost from_gives = { λ _ e. e ≡ errors.NoMemory };
+
+    fn from(_: AllocError) -> Self {
+        TileError::NoMemory
+    }
+}
+
+impl<T: Drop> From<AllocFailed<T>> for TileError {
+    ghost use Rattle.std.specs.Prelude.{◌≡◌};
+    ghost use Rattle.vpf_tiler.specs.declared.errors.TileError.TheVariants as errors;
+
+    ghost from_gives = { λ _ e. e ≡ errors.NoMemory };
+
+    fn from(_: AllocFailed<T>) -> Self {
+        TileError::NoMemory
+    }
+}
+
+impl From<Refusal> for TileError {
+    ghost use Rattle.std.specs.Prelude.{◌≡◌};
+    ghost use Rattle.vpf_tiler.specs.declared.errors.TileError.TheVariants as errors;
+
+    ghost from_gives = { λ refusal e. e ≡ errors.Refused refusal };
+
+    fn from(refusal: Refusal) -> Self {
+        TileError::Refused(refusal)
+    }
+}

@@ -1,0 +1,12 @@
+//! An untiled coverage cut into tiles: the files of its tiled library, or why there are none (MIL-STD-2407, 5.2.3, tiled coverages and
+//! cross-tile topology).
+#![tactic(auto)]
+
+mod adding;
+mod errors;
+mod making;
+mod sources;
+mod tiling;
+
+pub use errors::TileError;
+pub use tiling::tile;
