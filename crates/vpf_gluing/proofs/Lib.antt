@@ -1,0 +1,9 @@
+pub mod ListLemmas
+pub mod DartLemmas
+pub mod FaceLemmas
+pub mod EntityLemmas
+pub mod WholeLemmas
+pub mod PlaceLemmas
+pub mod EdgeNumbers
+pub mod FaceNumbers
+pub mod NodeNumbers

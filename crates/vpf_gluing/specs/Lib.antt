@@ -1,0 +1,4 @@
+pub mod Whole
+pub mod Glued
+pub mod Gluing
+pub mod Renumbering
