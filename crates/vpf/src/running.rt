@@ -17,10 +17,12 @@ ghost use Rattle.vpf_loading.specs.Loading.{LoadedCoverage};
 ghost use Rattle.vpf_library_commands.specs.declared.checking.CheckRequest.{CheckRequest};
 ghost use Rattle.vpf_library_commands.specs.declared.tiling.TileRequest.{TileRequest};
 ghost use Rattle.vpf_library_commands.specs.Agreeing.{Agrees, IsAgreeing};
-ghost use Rattle.vpf_library_commands.specs.Tile.{TileParts};
+ghost use Rattle.vpf_library_commands.specs.Tile.{TileParts, tile_answer};
 ghost use Rattle.vpf_prims.specs.Tables.{TileTables};
 ghost use Rattle.vpf_replies.specs.Making.{made_answer};
-ghost use Rattle.vpf.specs.Cutting.{IsCutFrom, cut_files};
+ghost use Rattle.vpf.specs.Cutting.{IsTiling};
+ghost use Rattle.vpf_tilings.specs.Cutting.{IsCutFrom, cut_files};
+ghost use Rattle.vpf_tilings.specs.Tilings.{StandsAlone};
 ghost use Rattle.vpf_library_commands.specs.Check.{agrees_text};
 ghost use Rattle.vpf_darts.specs.declared.darts.TileDart.{TileDart};
 ghost use Rattle.vpf_darts.specs.Listings.{numbers_of};
@@ -50,6 +52,7 @@ use vpf_source::{DeviceError, Sink, Tree, make_all, put_all};
 use vpf_table::laws::opened_is_read;
 use vpf_table_commands::laws::{indexes_are_elsewhere, made_indexes_serve};
 use vpf_table_commands::{cycles, index, rows, show, swap, table};
+use vpf_tilings::laws::{requests_have_names, tilings_agree};
 
 /// The reply of a command over a tree.
 fn obey<T: Tree>(alloc: Global, command: &Command, tree: &mut T) -> Result<Reply, Halt>
@@ -207,6 +210,13 @@ pub fn run<T: Tree, O: Sink>(alloc: Global, words: &[String], tree: &mut T, out:
         → Carries (made_answer (cut_files request parts tables)) result (record { files = T.files tree.old; written = O.written out.old })
         (record { files = T.files tree.new; written = O.written out.new }) }
 
+    // And what it makes is that coverage: where `tile` is done, no file stood in its folder before, no two of those that it makes have one name,
+    // and they have no more bytes in all than a run reads, then `check` accepts the library that was made, and `trace` lists exactly the boundary
+    // cycles of the coverage without its lines between tiles, each dart called by its name in the tiles.
+    ensures rejoined { (before after : Files) (request : TileRequest) → HoldsBytes before → HoldsBytes after
+        → command_of (map string_bytes words.now) ≡ Some (Tile request) → T.files tree.old ≡ Some before → T.files tree.new ≡ Some after
+        → result ≡ Status.Done → StandsAlone before request.out (tile_answer before request).made → IsTiling before after request }
+
     // A fault is answered exactly where its count rose in this call; where neither rose, the run is completed.
     ensures tree_fault { result ≡ Status.TreeFault → Rose (T.faults tree.old) (T.faults tree.new) }
     ensures tree_stood { result ≢ Status.TreeFault → Stood (T.faults tree.old) (T.faults tree.new) }
@@ -227,6 +237,8 @@ pub fn run<T: Tree, O: Sink>(alloc: Global, words: &[String], tree: &mut T, out:
     checks_decide();
     traces_list_cycles();
     tiles_are_made();
+    tilings_agree();
+    requests_have_names();
     plain_answers();
     one_answer();
     made_indexes_serve();

@@ -1,10 +1,10 @@
-use Rattle.std.proofs.Common.{◌≡◌, List, ℕ, ◌∙◌, sym, ap, Option}
+use Rattle.std.proofs.Common.{List, ℕ, ◌∙◌, sym, ap, Option}
 use Rattle.vpf_table.specs.declared.limit.Limit.{Limit as Passed}
 use Rattle.vpf_prims.specs.Tables.{TileTables}
 use Rattle.vpf_tileable.specs.declared.refusals.Refusal.{Refusal}
 use Rattle.vpf_tiler.specs.Making.{unless_limited, unless_refused}
 use Rattle.vpf_library_commands.specs.Tile.{parts_answer, tables_answer, tiled_answer, tiling_answer}
-use Rattle.vpf.specs.Cutting.{cut_tables}
+use Rattle.vpf_tilings.specs.Cutting.{cut_tables}
 use Rattle.vpf.proofs.laws.tiles_are_made.Goals as goal
 
 pub returns : goal.returns

@@ -1,0 +1,11 @@
+pub mod ChangeLemmas
+pub mod EachLemmas
+pub mod CellLemmas
+pub mod CarriedLemmas
+pub mod KindLemmas
+pub mod OwnLemmas
+pub mod RowLemmas
+pub mod NumberLemmas
+pub mod TableLemmas
+pub mod SameLemmas
+pub mod ColumnLemmas

@@ -1,0 +1,172 @@
+-- What is cut into tiles is an untiled coverage: its tables are those of some bytes, their columns are right, and what they say is well formed.
+use Rattle.std.proofs.Common.{◌≡◌, ℕ, zero, suc, false, List, Option, None, Some, Ok, Err, refl, sym, ap, ◌∙◌, subst}
+use mathlib.Core.Path.{fun_ext}
+use Rattle.std.proofs.Math.Dec.{eqb-suc-zero}
+use Rattle.vpf_source.specs.Files.{Files}
+use Rattle.vpf_findings.specs.Findings.{Disagreement}
+use Rattle.vpf_prims.specs.Coverages.{tile_at, untiled_coverage}
+use Rattle.vpf_prims.specs.Laws.{AreFilled}
+use Rattle.vpf_prims.specs.Libraries.{library_of}
+use Rattle.vpf_prims.specs.Primitives.{Library, Primitives, untiled}
+use Rattle.vpf_prims.specs.Reading.{PrimitiveTables, primitives_of}
+use Rattle.vpf_prims.specs.Suiting.{HasColumns}
+use Rattle.vpf_prims.specs.Tables.{TileTables}
+use Rattle.vpf_tileref.specs.Laws.{StopsDecide}
+use Rattle.vpf_tileref.specs.Stops.{IsBounded, TilerefStop, tileref_stop}
+use Rattle.vpf_tileref.specs.Tileref.{IsTileref}
+use Rattle.vpf_loading.specs.Holding.{HoldsBytes, bytes_in}
+use Rattle.vpf_loading.specs.Laws.{AreNamedApart, FilesAreWhole, HeldIsRead}
+use Rattle.vpf_loading.specs.Loading.{LoadedCoverage, LoadedTable, LoadedTile, Read, ◌and_then◌, read_coverage, read_table, read_tile, read_tileref}
+use Rattle.vpf_loading.specs.Loading.{tileref_name, unless_stopped, untiled_loaded, untiled_or_tiled, within}
+use Rattle.vpf_plan.specs.PlanLoads.{read_plan}
+use Rattle.vpf_plan.specs.Untiled.{read_untiled, tables_or_missing}
+use Rattle.vpf_wing.specs.WellFormed.{IsWellFormed}
+use Rattle.vpf_cross.specs.Agreeing.{LibraryAgrees}
+use Rattle.vpf_replies.specs.declared.verdict.Verdict.TheVariants.{Done}
+use Rattle.vpf_library_commands.specs.declared.checking.CheckRequest.{CheckRequest}
+use Rattle.vpf_library_commands.specs.declared.tiling.TileRequest.{TileRequest}
+use Rattle.vpf_library_commands.specs.Agreeing.{CheckDecides, IsAgreeing}
+use Rattle.vpf_library_commands.specs.Check.{check_answer, coverage_finding, found_answer, read_answer}
+use Rattle.vpf_library_commands.specs.Tile.{TileParts, plan_name, read_parts}
+use Rattle.vpf_tilings.specs.Cutting.{IsCutFrom}
+use Rattle.vpf_tilings.proofs.ReadLemmas.{AreReadGrids, IsReadGrid, OpenedIsRead, grid_read, then_ok, tile_read}
+
+-- an untiled coverage as it was read
+pub record IsUntiledRead (files : Files) (lib cov : List ℕ) (c : LoadedCoverage) : Type 0 where
+  pub tile : LoadedTile
+  pub loaded : ℕ
+  pub is : untiled_loaded tile ≡ c
+  pub grids : AreReadGrids tile.tables
+  pub read : read_coverage files lib cov 0 ≡ (Ok c, loaded)
+
+-- what was read of a tree
+pub record AreRead (files : Files) (lib cov : List ℕ) (parts : TileParts) : Type 0 where
+  pub coverage : IsUntiledRead files lib cov parts.coverage
+  pub tileref : IsReadGrid parts.tileref.grid
+  pub goes_on : tileref_stop parts.tileref.grid ≡ None
+
+untiled_read : OpenedIsRead → (files : Files) (lib cov : List ℕ) (c : LoadedCoverage) → HoldsBytes files → (read_untiled files lib cov 0).0 ≡ Ok c
+    → IsUntiledRead files lib cov c
+untiled_read opened files lib cov c all h =
+    let t = then_ok (read_tile files (within lib cov) 0) (tables_or_missing (within lib cov)) c h in
+    by t.value t.loaded t.first_is t.next_is
+  where
+    by : (o : Option LoadedTile) (n : ℕ) → read_tile files (within lib cov) 0 ≡ (Ok o, n) → (tables_or_missing (within lib cov) o n).0 ≡ Ok c
+        → IsUntiledRead files lib cov c
+    by None n first next = absurd cc
+    by (Some tile) n first next =
+        let same : untiled_loaded tile ≡ c = cc in
+        record {
+          tile = tile;
+          loaded = n;
+          is = same;
+          grids = tile_read opened files (within lib cov) 0 tile all (ap (λ r. r.0) first);
+          read = ap (λ (r : Read (Option LoadedTile)). r and_then untiled_or_tiled files lib cov) first ∙ ap (λ (x : LoadedCoverage). (Ok x, n)) same;
+        }
+
+goes_on : (name : List ℕ) (stop : Option TilerefStop) (v table : LoadedTable) (n : ℕ) → (unless_stopped name stop v n).0 ≡ Ok table
+    → (stop ≡ None) × (v ≡ table)
+goes_on name None v table n h = (refl, cc)
+goes_on name (Some stop) v table n h = absurd cc
+
+-- the table of tiles that was read is one of bytes, and nothing ends its reading
+tileref_read : OpenedIsRead → (files : Files) (lib : List ℕ) (loaded : ℕ) (table : LoadedTable) → HoldsBytes files
+    → (read_tileref files lib loaded).0 ≡ Ok table
+    → IsReadGrid table.grid × (tileref_stop table.grid ≡ None)
+tileref_read opened files lib loaded table all h =
+    let t = then_ok (read_table files (tileref_name lib) loaded) (λ table n. unless_stopped (tileref_name lib) (tileref_stop table.grid) table n) table h in
+    let g : (tileref_stop t.value.grid ≡ None) × (t.value ≡ table) = goes_on (tileref_name lib) (tileref_stop t.value.grid) t.value table t.loaded t.next_is in
+    subst (λ (v : LoadedTable). IsReadGrid v.grid × (tileref_stop v.grid ≡ None)) g.1
+    (grid_read opened files (tileref_name lib) loaded t.value all (ap (λ r. r.0) t.first_is), g.0)
+
+-- all parts that were read
+pub parts_read : OpenedIsRead → (files : Files) (lib cov : List ℕ) (parts : TileParts) → HoldsBytes files → (read_parts files lib cov 0).0 ≡ Ok parts
+    → AreRead files lib cov parts
+parts_read opened files lib cov parts all h =
+    let c = then_ok (read_untiled files lib cov 0) _ parts h in
+    let t = then_ok (read_tileref files lib c.loaded) _ parts c.next_is in
+    let p = then_ok (read_plan files (plan_name lib cov) t.loaded) _ parts t.next_is in
+    let same : record { coverage = c.value; tileref = t.value; plan = p.value } ≡ parts = cc in
+    let tiles = tileref_read opened files lib c.loaded t.value all (ap (λ r. r.0) t.first_is) in
+    subst (λ (x : TileParts). AreRead files lib cov x) same (record {
+      coverage = untiled_read opened files lib cov c.value all (ap (λ r. r.0) c.first_is);
+      tileref = tiles.0;
+      goes_on = tiles.1;
+    })
+
+-- ---- what is so of the source
+
+-- the tables of an untiled coverage, the table of tiles, and what is so of them
+pub record IsSource (T : PrimitiveTables) (parts : TileParts) : Type 0 where
+  pub columns : HasColumns T
+  pub filled : AreFilled T
+  pub apart : AreNamedApart T
+  pub grids : AreReadGrids T
+  pub well_formed : IsWellFormed (primitives_of T)
+  pub tileref : IsTileref parts.tileref.grid
+  pub bounded : IsBounded parts.tileref.grid
+  pub tileref_grid : IsReadGrid parts.tileref.grid
+
+-- the coverage that was read, or another one
+value_or : LoadedCoverage → Read LoadedCoverage → LoadedCoverage
+value_or d (Ok c, n) = c
+value_or d (Err stop, n) = d
+
+same_read : (x c : LoadedCoverage) (k n : ℕ) (r : Read LoadedCoverage) → r ≡ (Ok x, k) → r ≡ (Ok c, n) → x ≡ c
+unfolding value_or
+same_read x c k n r a b = ap (value_or c) (sym a ∙ b)
+
+-- the coverage that is read is the one that is held
+agreeing : CheckDecides → HeldIsRead → (files : Files) (request : CheckRequest) (c : LoadedCoverage) (n : ℕ) → HoldsBytes files
+    → read_coverage files request.lib request.cov 0 ≡ (Ok c, n) → coverage_finding c.coverage ≡ None → IsAgreeing files request c
+agreeing check held files request c n all read none =
+    let answered : (check_answer files request).verdict ≡ Done =
+    ap (λ (r : Read LoadedCoverage). (read_answer r.0).verdict) read ∙ ap (λ (f : Option Disagreement). (found_answer c.files c.coverage f).verdict) none in
+    let found = (check files request all).0 answered in
+    let same : found.0 ≡ c =
+    same_read found.0 c (bytes_in found.0.files) n (read_coverage files request.lib request.cov 0)
+    (held files request.lib request.cov found.0 found.1.held) read in
+    subst (λ (x : LoadedCoverage). IsAgreeing files request x) same found.1
+
+tile_alone : (T : TileTables) (t : ℕ) → (library_of (untiled_coverage T)).tile t ≡ (untiled (primitives_of T.tables)).tile t
+tile_alone T zero = refl
+tile_alone T (suc t) = sym (rw (eqb-suc-zero t) refl)
+
+-- it is the library of what its tables say
+library_alone : (T : TileTables) → library_of (untiled_coverage T) ≡ untiled (primitives_of T.tables)
+library_alone T = ap (λ (tile : ℕ → Option Primitives). record { is_tiled = false; last = 0; tile = tile }) (fun_ext (tile_alone T))
+
+well_formed : (c : Primitives) (L : Library) → L ≡ untiled c → LibraryAgrees L → IsWellFormed c
+well_formed c L same agrees =
+    let own : LibraryAgrees (untiled c) = subst LibraryAgrees same agrees in
+    record { numbered = own.numbered 0 refl; loops = own.loops; cycles = own.cycles 0 refl }
+
+some_tables : (a b : TileTables) → Some a ≡ Some b → a ≡ b
+some_tables a b e = cc
+
+-- what is cut into tiles is an untiled coverage that agrees
+pub source : OpenedIsRead → StopsDecide → CheckDecides → HeldIsRead → FilesAreWhole
+    → (files : Files) (request : TileRequest) (parts : TileParts) (T : TileTables)
+    → HoldsBytes files → IsCutFrom files request parts T → IsSource T.tables parts
+source opened stops check held whole files request parts T all cut =
+    let r = parts_read opened files request.lib request.cov parts all cut.read in
+    let asked : CheckRequest = record { lib = request.lib; cov = request.cov } in
+    let agrees : IsAgreeing files asked parts.coverage = agreeing check held files asked parts.coverage r.coverage.loaded all r.coverage.read cut.agrees in
+    let own : TileTables = record { first = 0; tables = r.coverage.tile.tables } in
+    let same : own ≡ T = some_tables own T (ap (λ (c : LoadedCoverage). tile_at c.coverage 0) r.coverage.is ∙ cut.tables) in
+    let library : library_of parts.coverage.coverage ≡ untiled (primitives_of T.tables) =
+    sym (ap (λ (c : LoadedCoverage). library_of c.coverage) r.coverage.is) ∙ library_alone own
+    ∙ ap (λ (t : TileTables). untiled (primitives_of t.tables)) same in
+    let filled : AreFilled T.tables × AreNamedApart T.tables =
+    whole request.lib request.cov parts.coverage.coverage parts.coverage.files agrees.held.are 0 T cut.tables in
+    let tiles : IsTileref parts.tileref.grid × IsBounded parts.tileref.grid = (stops parts.tileref.grid).0 r.goes_on in
+    record {
+      columns = agrees.columns.suit 0 T cut.tables;
+      filled = filled.0;
+      apart = filled.1;
+      grids = subst (λ (t : TileTables). AreReadGrids t.tables) same r.coverage.grids;
+      well_formed = well_formed (primitives_of T.tables) (library_of parts.coverage.coverage) library agrees.rows;
+      tileref = tiles.0;
+      bounded = tiles.1;
+      tileref_grid = r.tileref;
+    }

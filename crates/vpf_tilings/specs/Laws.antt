@@ -1,0 +1,23 @@
+-- What is so of every tiled library that is made, and of the names that words spell.
+use Rattle.std.specs.Prelude.{◌≡◌, ℕ, IsUtf8, List, Some, length}
+use Rattle.std.specs.List.{AllByRecursion}
+use Rattle.vpf_source.specs.Files.{Files}
+use Rattle.vpf_source.specs.Making.{with_all}
+use Rattle.vpf_prims.specs.Reading.{primitives_of}
+use Rattle.vpf_prims.specs.Tables.{TileTables}
+use Rattle.vpf_loading.specs.Holding.{HoldsBytes}
+use Rattle.vpf_library_commands.specs.declared.tiling.TileRequest.{TileRequest}
+use Rattle.vpf_library_commands.specs.Tile.{TileParts, tile_request}
+use Rattle.vpf_tilings.specs.Cutting.{IsCutFrom, cut_files, cut_plan}
+use Rattle.vpf_tilings.specs.Tilings.{HasNames, HoldsTiling, StandsAlone, made_request}
+
+-- where the files of the tiled library are made, and stand alone, the tree holds that library; names are text, and files hold bytes
+abbrev pub TilingsAgree : Type 0
+TilingsAgree = (files after : Files) (request : TileRequest) (parts : TileParts) (T : TileTables) → HoldsBytes files → HoldsBytes after → HasNames request
+    → IsCutFrom files request parts T → StandsAlone files request.out (cut_files request parts T)
+    → with_all (cut_files request parts T) (Some files) ≡ Some after
+    → HoldsTiling after (made_request request) (primitives_of T.tables) (cut_plan parts T) (length parts.tileref.grid.rows)
+
+-- words of text spell requests whose names are text
+abbrev pub RequestsHaveNames : Type 0
+RequestsHaveNames = (words : List (List ℕ)) (request : TileRequest) → AllByRecursion IsUtf8 words → tile_request words ≡ Some request → HasNames request
