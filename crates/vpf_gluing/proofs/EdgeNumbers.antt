@@ -25,7 +25,7 @@ use Rattle.vpf_tiled.proofs.RowLemmas.{item_numbered}
 use Rattle.vpf_tiled.proofs.SideLemmas.{present_home}
 use Rattle.vpf_tiled.proofs.TableLemmas.{flip-plus}
 use Rattle.vpf_gluing.specs.Whole.{Whole, face_place, whole_named}
-use Rattle.vpf_gluing.specs.Glued.{edge_number, face_number, glued_edge, node_number, place_in, plus_darts}
+use Rattle.vpf_gluing.specs.Glued.{edge_number, face_number, glued_edge, node_number, listed_at, plus_darts}
 use Rattle.vpf_gluing.specs.Renumbering.{EdgesAreMoved, EdgesStayApart, new_edge, new_edge_row, new_face}
 use Rattle.vpf_gluing.proofs.DartLemmas.{order_is_named}
 use Rattle.vpf_gluing.proofs.PlaceLemmas.{Placed, place_apart, placed}
@@ -85,9 +85,9 @@ plus_stands c plan tiles w d h s =
 
 -- the number of an edge is the place of the name of its + dart
 edge_place : (c : Primitives) (plan : ℕ → ℕ) (tiles : ℕ) → IsTileable c plan tiles → (d : ℕ) → (untiled_links c).has d ≡ true → sign_in d ≡ 0
-    → edge_number (whole_named c plan tiles) (dart_name c plan d) ≡ place_in (dart_name c plan d) (plus_darts (whole_named c plan tiles))
+    → edge_number (whole_named c plan tiles) (dart_name c plan d) ≡ listed_at (dart_name c plan d) (plus_darts (whole_named c plan tiles))
 edge_place c plan tiles w d h s =
-    ap (λ b. place_in (cond b (dart_name c plan d) ((whole_named c plan tiles).darts.flip (dart_name c plan d))) (plus_darts (whole_named c plan tiles)))
+    ap (λ b. listed_at (cond b (dart_name c plan d) ((whole_named c plan tiles).darts.flip (dart_name c plan d))) (plus_darts (whole_named c plan tiles)))
     (eq-eqb (sign_in (dart_name c plan d)) 0 (name_sign c plan tiles w d h ∙ s))
 
 -- the number of the edge of any dart
@@ -103,8 +103,8 @@ edge_of_name c plan tiles w d h = (
           let a : flip d ≡ p = ap flip (sym is ∙ ap (code 0 (edge_in d)) o) ∙ other-code (edge_in d) in
           let hp : (untiled_links c).has p ≡ true = ap (untiled_links c).has (sym a) ∙ flip-has (untiled c) d h in
           let sd : eqb (sign_in (dart_name c plan d)) 0 ≡ false = ap (λ v. eqb v 0) (name_sign c plan tiles w d h ∙ o) in
-          ap (λ b. place_in (cond b (dart_name c plan d) (W.darts.flip (dart_name c plan d))) (plus_darts W)) sd
-          ∙ ap (λ x. place_in x (plus_darts W)) (named_flip c plan tiles w (coverage_map c) d h ∙ ap (dart_name c plan) a)
+          ap (λ b. listed_at (cond b (dart_name c plan d) (W.darts.flip (dart_name c plan d))) (plus_darts W)) sd
+          ∙ ap (λ x. listed_at x (plus_darts W)) (named_flip c plan tiles w (coverage_map c) d h ∙ ap (dart_name c plan) a)
           ∙ sym (edge_place c plan tiles w p hp (code-sign 0 (edge_in d) 0 (omega arith))))
     ])
 
@@ -136,10 +136,10 @@ edges_are_moved c plan tiles w e r = (
     let x : ℕ = dart_name c plan (code 0 e 0) in
     let p : Plus c e = plus c w.few e r in
     let a : Placed x (plus_darts W) = placed x (plus_darts W) (plus_stands c plan tiles w (code 0 e 0) p.has p.sign) in
-    let is : new_edge c plan tiles e ≡ place_in x (plus_darts W) = edge_place c plan tiles w (code 0 e 0) p.has p.sign in
+    let is : new_edge c plan tiles e ≡ listed_at x (plus_darts W) = edge_place c plan tiles w (code 0 e 0) p.has p.sign in
     let many : length (numbered (glued_edge W) (plus_darts W)) ≡ length (plus_darts W) = numbered_many (glued_edge W) 1 (plus_darts W) in
     let row : new_edge_row c plan tiles e ≡ glued_edge W (new_edge c plan tiles e) x =
-    edge_row_is c plan tiles w e r (place_in x (plus_darts W)) is a.row a.item in
+    edge_row_is c plan tiles w e r (listed_at x (plus_darts W)) is a.row a.item in
     let turned : W.darts.flip x ≡ dart_name c plan (code 0 e 1) =
     named_flip c plan tiles w (coverage_map c) (code 0 e 0) p.has ∙ ap (dart_name c plan) (flip-plus e) in
     record {

@@ -18,18 +18,18 @@ use Rattle.vpf_tiled.proofs.CopyLemmas.{tile_is}
 use Rattle.vpf_tiled.proofs.RowLemmas.{first_made}
 use Rattle.vpf_tiled.proofs.SideLemmas.{above}
 use Rattle.vpf_tiled.proofs.TableLemmas.{HeldFace, held_is}
-use Rattle.vpf_gluing.specs.Whole.{WholeEntity, face_in, face_place, has_entities, named_entity, tiles_in, whole_entities, whole_of}
+use Rattle.vpf_gluing.specs.Whole.{WholeEntity, face_here, face_place, has_entities, named_entity, tiles_in, whole_entities, whole_of}
 use Rattle.vpf_gluing.specs.Gluing.{EntitiesAreNamed}
 use Rattle.vpf_gluing.proofs.ListLemmas.{filter_empty, map_numbered, map_passing, none_passes}
 use Rattle.vpf_gluing.proofs.FaceLemmas.{none_held}
 
 -- an entity node by the number of its face in its tile
 entity_named : (c : Primitives) (plan : ℕ → ℕ) (t n : ℕ) (rows : List EntityPrimitive) → holds_entity c plan t n ≡ true
-    → record { face = face_in t (local_face c plan t (containing_face c n)); carried = (kth rows n absent_entity).carried } ≡ named_entity c plan rows n
+    → record { face = face_here t (local_face c plan t (containing_face c n)); carried = (kth rows n absent_entity).carried } ≡ named_entity c plan rows n
 entity_named c plan t n rows h = (
     let f : ℕ = containing_face c n in
     let k : HeldFace c plan t f = held_is c plan t f (and_parts (leb 1 n) (holds_face c plan t f) h).1 in
-    let e : face_in t (local_face c plan t f) ≡ face_place c plan f =
+    let e : face_here t (local_face c plan t f) ≡ face_place c plan f =
     ap (λ b. cond b None (Some (record { tile = t; id = local_face c plan t f }))) (ne_eqb (local_face c plan t f) 1 (above _))
     ∙ ap (λ s. Some (record { tile = s; id = local_face c plan s f })) (sym k.planned)
     ∙ sym (ap (λ b. cond b None (Some (record { tile = plan f; id = local_face c plan (plan f) f }))) (ne_eqb f 1 k.other)) in
@@ -56,10 +56,10 @@ tile_entities_named c plan tiles w rows e t = elim (cases_Bool (is_made c plan t
 ]
   where
     read : ℕ → EntityPrimitive → WholeEntity
-    read s row = record { face = face_in s (id_of row.containing_face); carried = row.carried }
+    read s row = record { face = face_here s (id_of row.containing_face); carried = row.carried }
 
     at_rank : ℕ → WholeEntity
-    at_rank n = record { face = face_in t (local_face c plan t (containing_face c n)); carried = (kth rows n absent_entity).carried }
+    at_rank n = record { face = face_here t (local_face c plan t (containing_face c n)); carried = (kth rows n absent_entity).carried }
 
     none : (n : ℕ) → is_made c plan tiles t ≡ false → holds_entity c plan t n ≡ false
     none n g = elim (cases_Bool (holds_entity c plan t n)) [

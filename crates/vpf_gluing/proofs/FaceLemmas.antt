@@ -20,7 +20,7 @@ use Rattle.vpf_tiled.proofs.FollowLemmas.{library_links}
 use Rattle.vpf_tiled.proofs.ReferenceLemmas.{rings_are}
 use Rattle.vpf_tiled.proofs.SideLemmas.{home_plain, rank_apart, same_plus}
 use Rattle.vpf_tiled.proofs.TableLemmas.{HeldFace, SourceRing, held_is, source_ring}
-use Rattle.vpf_gluing.specs.Whole.{WholeFace, dart_of, named_face, rest_of, whole_face, whole_faces, whole_rings}
+use Rattle.vpf_gluing.specs.Whole.{WholeFace, ring_start_dart, named_face, rest_of, whole_face, whole_faces, whole_rings}
 use Rattle.vpf_gluing.specs.Gluing.{FacesAreNamed}
 use Rattle.vpf_gluing.proofs.ListLemmas.{filter_empty, flat_one, map_rings, map_twice, numbered_by_rank, numbered_twice, picked, picked_all, picked_append}
 use Rattle.vpf_gluing.proofs.ListLemmas.{picked_flat, picked_none, picked_rows}
@@ -66,7 +66,7 @@ face_test c plan t f g h i = (
 -- the dart of a ring's start edge in a tile
 dart_at : (c : Primitives) (plan : ℕ → ℕ) (tiles t f e : ℕ) → IsTileable c plan tiles → holds_face c plan t f ≡ true
     → (untiled_links c).has (code 0 e 0) ≡ true → is_present c plan t (code 0 e 0) ≡ true → edge_in (code 0 e 0) ≡ e → edge_in (code 0 e 1) ≡ e
-    → dart_of (library_links c plan tiles) t (local_edge c plan t e) (local_face c plan t f)
+    → ring_start_dart (library_links c plan tiles) t (local_edge c plan t e) (local_face c plan t f)
     ≡ cond (eqb (face_of c (code 0 e 0)) f) (copy_in c plan t (code 0 e 0)) (copy_in c plan t (code 0 e 1))
 dart_at c plan tiles t f e w h has p e0 e1 = (
     let C : DartLinks = library_links c plan tiles in
@@ -102,8 +102,8 @@ sides d a h = record { which = h; edge = elim h [ inl q ↦ ap edge_in q | inr q
 -- the dart of a ring in its face's tile is named by the dart of the ring
 ring_dart : (c : Primitives) (plan : ℕ → ℕ) (tiles t f d : ℕ) → IsTileable c plan tiles → holds_face c plan t f ≡ true → (untiled_links c).has d ≡ true
     → face_of c d ≡ f
-    → dart_of (library_links c plan tiles) t (local_edge c plan t (edge_in d)) (local_face c plan t f)
-    ≡ dart_name c plan (dart_of (untiled_links c) 0 (edge_in d) f)
+    → ring_start_dart (library_links c plan tiles) t (local_edge c plan t (edge_in d)) (local_face c plan t f)
+    ≡ dart_name c plan (ring_start_dart (untiled_links c) 0 (edge_in d) f)
 ring_dart c plan tiles t f d w h hd fd = (
     let e : ℕ = edge_in d in
     let a : ℕ = code 0 e 0 in
@@ -138,7 +138,7 @@ rings_named : (c : Primitives) (plan : ℕ → ℕ) (tiles t f : ℕ) → IsTile
     → whole_rings (tiled_library c plan tiles) t (local_face c plan t f) ≡ map (dart_name c plan) (whole_rings (untiled c) 0 f)
 rings_named c plan tiles t f w m h = (
     let l : ℕ = local_face c plan t f in
-    let g : ℕ → ℕ = λ e. dart_of (library_links c plan tiles) t e l in
+    let g : ℕ → ℕ = λ e. ring_start_dart (library_links c plan tiles) t e l in
     let k : HeldFace c plan t f = held_is c plan t f h in
     let outer : picked g l (outer_rings c plan t) ≡ [] = picked_none g l 1 _ (λ q. (omega arith)) _ in
     let own : picked g l (face_rings c plan t f)
@@ -153,18 +153,19 @@ rings_named c plan tiles t f w m h = (
     (λ x hx ne. picked_none g l (local_face c plan t x) _ (λ q. ne (rank_apart (holds_face c plan t) x f hx h (same_plus _ _ 2 q))) _)
     h k.faces.from_one (length c.faces) k.faces.to_last
     ∙ own
-    ∙ map_rings (λ r. g (local_edge c plan t (id_of r.start_edge))) (λ r. dart_name c plan (dart_of (untiled_links c) 0 (id_of r.start_edge) f))
+    ∙ map_rings (λ r. g (local_edge c plan t (id_of r.start_edge))) (λ r. dart_name c plan (ring_start_dart (untiled_links c) 0 (id_of r.start_edge) f))
     (λ r. eqb (id_of r.face) f) absent_ring c.rings same
-    ∙ sym (map_twice (dart_name c plan) (λ r. dart_of (untiled_links c) 0 (id_of r.start_edge) f) (filter (λ r. eqb (id_of r.face) f) c.rings)))
+    ∙ sym (map_twice (dart_name c plan) (λ r. ring_start_dart (untiled_links c) 0 (id_of r.start_edge) f) (filter (λ r. eqb (id_of r.face) f) c.rings)))
   where
     same : (j : ℕ) → j < length c.rings → eqb (id_of (get_or c.rings j absent_ring).face) f ≡ true
-        → dart_of (library_links c plan tiles) t (local_edge c plan t (id_of (get_or c.rings j absent_ring).start_edge)) (local_face c plan t f)
-        ≡ dart_name c plan (dart_of (untiled_links c) 0 (id_of (get_or c.rings j absent_ring).start_edge) f)
+        → ring_start_dart (library_links c plan tiles) t (local_edge c plan t (id_of (get_or c.rings j absent_ring).start_edge)) (local_face c plan t f)
+        ≡ dart_name c plan (ring_start_dart (untiled_links c) 0 (id_of (get_or c.rings j absent_ring).start_edge) f)
     same j lt q = (
         let s : SourceRing c (get_or c.rings j absent_ring) = source_ring c w.well_formed j lt in
         let face : face_of c s.dart ≡ f = s.face ∙ eqb-true (id_of (get_or c.rings j absent_ring).face) f q in
         subst (λ e.
-        dart_of (library_links c plan tiles) t (local_edge c plan t e) (local_face c plan t f) ≡ dart_name c plan (dart_of (untiled_links c) 0 e f))
+        ring_start_dart (library_links c plan tiles) t (local_edge c plan t e) (local_face c plan t f)
+        ≡ dart_name c plan (ring_start_dart (untiled_links c) 0 e f))
         s.edge (ring_dart c plan tiles t f s.dart w h s.has face))
 
 faces_are : (c : Primitives) (plan : ℕ → ℕ) (tiles t : ℕ) → is_made c plan tiles t ≡ true

@@ -18,7 +18,7 @@ use Rattle.vpf_tiled.proofs.LineLemmas.{Behind, behind, behind_name, name_is_nam
 use Rattle.vpf_tiled.proofs.RowLemmas.{item_numbered}
 use Rattle.vpf_tiled.proofs.WalkLemmas.{few_steps, leads_join, least_below, least_is, least_on, steps_keep}
 use Rattle.vpf_gluing.specs.Whole.{Whole, whole_named}
-use Rattle.vpf_gluing.specs.Glued.{glued_edges, glued_node, node_darts, place_in}
+use Rattle.vpf_gluing.specs.Glued.{glued_edges, glued_node, first_darts, listed_at}
 use Rattle.vpf_gluing.specs.Renumbering.{NodesAreMoved, NodesStayApart, new_node}
 use Rattle.vpf_gluing.proofs.PlaceLemmas.{Placed, place_apart, placed}
 use Rattle.vpf_gluing.proofs.EdgeNumbers.{name_stands}
@@ -108,7 +108,7 @@ least_named c plan tiles w d h = (
     (least_at c plan tiles d) (named_at c plan tiles w d h) l.1)
 
 least_stands : (c : Primitives) (plan : ℕ → ℕ) (tiles : ℕ) → IsTileable c plan tiles → (d : ℕ) → (untiled_links c).has d ≡ true
-    → stands_in (least_at c plan tiles d) (node_darts (whole_named c plan tiles)) ≡ true
+    → stands_in (least_at c plan tiles d) (first_darts (whole_named c plan tiles)) ≡ true
 least_stands c plan tiles w d h =
     stands_filter (is_least (named_turn c plan tiles) (length (whole_named c plan tiles).order)) (least_at c plan tiles d) (whole_named c plan tiles).order
     (least_is (named_turn c plan tiles) (IsNamedAt c plan (tail_of c d)) (whole_named c plan tiles).order (turn_keeps c plan tiles w (tail_of c d))
@@ -119,11 +119,11 @@ pub nodes_stay_apart : NodesStayApart
 nodes_stay_apart c plan tiles w d e hd he = (
   λ same. (
       let least : least_at c plan tiles d ≡ least_at c plan tiles e =
-      place_apart (least_at c plan tiles d) (least_at c plan tiles e) (node_darts (whole_named c plan tiles)) (least_stands c plan tiles w d hd)
+      place_apart (least_at c plan tiles d) (least_at c plan tiles e) (first_darts (whole_named c plan tiles)) (least_stands c plan tiles w d hd)
       (least_stands c plan tiles w e he) same in
       sym (least_named c plan tiles w d hd).tail ∙ ap (λ x. tail_of c (dart_behind c plan x)) least ∙ (least_named c plan tiles w e he).tail),
   λ tails.
-      ap (λ x. place_in x (node_darts (whole_named c plan tiles)))
+      ap (λ x. listed_at x (first_darts (whole_named c plan tiles)))
       (least_same (named_turn c plan tiles) (IsNamedAt c plan (tail_of c d)) (whole_named c plan tiles).order (turn_keeps c plan tiles w (tail_of c d))
       (named_stands c plan tiles w (tail_of c d)) (dart_name c plan d) (dart_name c plan e) (named_at c plan tiles w d hd)
       (subst (λ n. IsNamedAt c plan n (dart_name c plan e)) (sym tails) (named_at c plan tiles w e he))
@@ -134,14 +134,14 @@ pub nodes_are_moved : NodesAreMoved
 nodes_are_moved c plan tiles w d h = (
     let W : Whole = whole_named c plan tiles in
     let m : ℕ = least_at c plan tiles d in
-    let a : Placed m (node_darts W) = placed m (node_darts W) (least_stands c plan tiles w d h) in
-    let many : length (numbered (glued_node W (glued_edges W)) (node_darts W)) ≡ length (node_darts W) =
-    numbered_many (glued_node W (glued_edges W)) 1 (node_darts W) in
+    let a : Placed m (first_darts W) = placed m (first_darts W) (least_stands c plan tiles w d h) in
+    let many : length (numbered (glued_node W (glued_edges W)) (first_darts W)) ≡ length (first_darts W) =
+    numbered_many (glued_node W (glued_edges W)) 1 (first_darts W) in
     let k : IsNamedAt c plan (tail_of c d) m = least_named c plan tiles w d h in
     record {
       number = subst (λ n. IsRowOf n (new_node c plan tiles d)) (sym many) a.row;
       carried =
-          ap (λ row. row.carried) (item_numbered (glued_node W (glued_edges W)) (node_darts W) (place_in m (node_darts W)) absent_node 0 a.row)
+          ap (λ row. row.carried) (item_numbered (glued_node W (glued_edges W)) (first_darts W) (listed_at m (first_darts W)) absent_node 0 a.row)
           ∙ ap W.node a.item
           ∙ ap (λ b. cond b (node_carried (untiled c) 0 (tail_of c (dart_behind c plan m))) []) k.name
           ∙ ap (λ n. (kth c.nodes n absent_node).carried) k.tail;

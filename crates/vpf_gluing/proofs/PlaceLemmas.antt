@@ -7,20 +7,20 @@ use Rattle.vpf_prims.specs.Numbering.{IsRowOf}
 use Rattle.vpf_wing.specs.DartLaws.{never_both, stands_in}
 use Rattle.vpf_tiling.specs.PresenceLaws.{any_from}
 use Rattle.vpf_tiled.proofs.PlaceLemmas.{FirstRow, first_row}
-use Rattle.vpf_gluing.specs.Glued.{place_in}
+use Rattle.vpf_gluing.specs.Glued.{listed_at}
 
 -- a number that stands in a list stands at its place
 pub record Placed (x : ℕ) (xs : List ℕ) : Type 0 where
-  pub row : IsRowOf (length xs) (place_in x xs)
-  pub item : kth xs (place_in x xs) 0 ≡ x
+  pub row : IsRowOf (length xs) (listed_at x xs)
+  pub item : kth xs (listed_at x xs) 0 ≡ x
 
 pub placed : (x : ℕ) (xs : List ℕ) → stands_in x xs ≡ true → Placed x xs
 placed x xs h =
-    let r : FirstRow (λ y. eqb y x) xs 0 (place_in x xs) = first_row (λ y. eqb y x) 0 xs (any_from (λ y. eqb y x) xs x h (eq-eqb x x refl)) in
+    let r : FirstRow (λ y. eqb y x) xs 0 (listed_at x xs) = first_row (λ y. eqb y x) 0 xs (any_from (λ y. eqb y x) xs x h (eq-eqb x x refl)) in
     record { row = r.row; item = eqb-true _ x r.passes }
 
 -- two numbers that stand at one place are one
-pub place_apart : (x y : ℕ) (xs : List ℕ) → stands_in x xs ≡ true → stands_in y xs ≡ true → place_in x xs ≡ place_in y xs → x ≡ y
+pub place_apart : (x y : ℕ) (xs : List ℕ) → stands_in x xs ≡ true → stands_in y xs ≡ true → listed_at x xs ≡ listed_at y xs → x ≡ y
 place_apart x y xs hx hy e = sym (placed x xs hx).item ∙ ap (λ k. kth xs k 0) e ∙ (placed y xs hy).item
 
 -- what is made of one that stands in a list passes

@@ -6,7 +6,7 @@ use Rattle.vpf_wing.specs.Links.{Beyond}
 use Rattle.vpf_tiling.specs.Tiles.{tiled_library}
 use Rattle.vpf_tiled.specs.Laws.{MapIsNamed}
 use Rattle.vpf_gluing.specs.Whole.{Whole, WholeEntity, WholeFace, whole_named, whole_of}
-use Rattle.vpf_gluing.specs.Glued.{coverage_of, tiles_of_faces}
+use Rattle.vpf_gluing.specs.Glued.{whole_coverage, tiles_of_faces}
 use Rattle.vpf_gluing.specs.Gluing.{GluingGivesRenumbered, WholeIsNamed}
 use Rattle.vpf_gluing.proofs.DartLemmas.{carried_are_named, faces_of_darts_are_named, marks_are_named, nodes_are_named, order_is_named, universe_is_named}
 use Rattle.vpf_gluing.proofs.FaceLemmas.{faces_are_named}
@@ -131,4 +131,4 @@ whole_is_named named c plan tiles w =
 pub gluing_gives_renumbered : MapIsNamed → GluingGivesRenumbered
 gluing_gives_renumbered named c plan tiles w = (
     let e : whole_of (tiled_library c plan tiles) ≡ whole_named c plan tiles = whole_is_named named c plan tiles w in
-    (ap coverage_of e, ap tiles_of_faces e))
+    (ap whole_coverage e, ap tiles_of_faces e))

@@ -15,8 +15,8 @@ use Rattle.vpf_tiling.specs.Tiles.{Ring, first_edge_at, numbered_ring}
 use Rattle.vpf_gluing.specs.Whole.{Whole, WholeEntity, WholeFace, whole_named, whole_of}
 
 -- where a number stands in a list, counted from 1, 0 where it doesn't
-abbrev pub place_in : ℕ → List ℕ → ℕ
-place_in x xs = first_item (λ y. y == x) xs
+abbrev pub listed_at : ℕ → List ℕ → ℕ
+listed_at x xs = first_item (λ y. y == x) xs
 
 -- the edges, each by its + dart, in their order
 abbrev pub plus_darts : Whole → List ℕ
@@ -24,7 +24,7 @@ plus_darts w = filter (λ d. sign_in d == 0) w.order
 
 -- the number of a dart's edge: the place of its + dart
 abbrev pub edge_number : Whole → ℕ → ℕ
-edge_number w d = place_in (if sign_in d == 0 then d else w.darts.flip d) (plus_darts w)
+edge_number w d = listed_at (if sign_in d == 0 then d else w.darts.flip d) (plus_darts w)
 
 -- the number of a face: 1 for the universe, and the others after it by tile and number
 abbrev pub face_number : Whole → Option Beyond → ℕ
@@ -32,12 +32,12 @@ face_number w None = 1
 face_number w (Some p) = 1 + first_item (λ f. same_beyond f.at p) w.faces
 
 -- the nodes, each by the least dart that begins there, in their order
-abbrev pub node_darts : Whole → List ℕ
-node_darts w = leasts (turn w.darts) w.order
+abbrev pub first_darts : Whole → List ℕ
+first_darts w = leasts (turn w.darts) w.order
 
 -- the number of the node where a dart begins
 abbrev pub node_number : Whole → ℕ → ℕ
-node_number w d = place_in (least_after (turn w.darts) (length w.order) d) (node_darts w)
+node_number w d = listed_at (least_after (turn w.darts) (length w.order) d) (first_darts w)
 
 -- row k of edges, of the + dart d
 abbrev pub glued_edge : Whole → ℕ → ℕ → EdgePrimitive
@@ -83,18 +83,18 @@ abbrev pub glued_entity : Whole → ℕ → WholeEntity → EntityPrimitive
 glued_entity w k e = record { id = Some k; containing_face = plain (face_number w e.face); carried = e.carried }
 
 -- the coverage that a map says
-abbrev pub coverage_of : Whole → Primitives
-coverage_of w = record {
+abbrev pub whole_coverage : Whole → Primitives
+whole_coverage w = record {
   edges = glued_edges w;
   faces = numbered (glued_face (glued_rings w)) (w.universe ∷ map (λ f. f.carried) w.faces);
   rings = numbered numbered_ring (glued_rings w);
-  nodes = numbered (glued_node w (glued_edges w)) (node_darts w);
+  nodes = numbered (glued_node w (glued_edges w)) (first_darts w);
   entities = option_map (numbered (glued_entity w)) w.entities;
 }
 
 -- the glued coverage of a library
 abbrev pub glued : Library → Primitives
-glued L = coverage_of (whole_of L)
+glued L = whole_coverage (whole_of L)
 
 -- the plan of a library: the tile of each face of its glued coverage but the universe
 abbrev pub tiles_of_faces : Whole → List ℕ
@@ -102,4 +102,4 @@ tiles_of_faces w = map (λ f. f.at.tile) w.faces
 
 -- the coverage in the numbering that the names of its darts in the tiles of a plan give
 abbrev pub renumbered : Primitives → (ℕ → ℕ) → ℕ → Primitives
-renumbered c plan tiles = coverage_of (whole_named c plan tiles)
+renumbered c plan tiles = whole_coverage (whole_named c plan tiles)

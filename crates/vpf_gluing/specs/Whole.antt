@@ -45,12 +45,12 @@ pub record Whole : Type 0 where
   pub entities : Option (List WholeEntity)
 
 -- the dart of an edge of a tile that has this face of the tile
-abbrev pub dart_of : DartLinks → (tile edge face : ℕ) → ℕ
-dart_of C t e f = if (C.face (code t e 0)).id == f then code t e 0 else code t e 1
+abbrev pub ring_start_dart : DartLinks → (tile edge face : ℕ) → ℕ
+ring_start_dart C t e f = if (C.face (code t e 0)).id == f then code t e 0 else code t e 1
 
 -- the rings of a face of a tile
 abbrev pub whole_rings : Library → ℕ → ℕ → List ℕ
-whole_rings L t f = map (λ r. dart_of (links_of L) t (id_of r.start_edge) f) (filter (λ r. id_of r.face == f) (tile_rings L t))
+whole_rings L t f = map (λ r. ring_start_dart (links_of L) t (id_of r.start_edge) f) (filter (λ r. id_of r.face == f) (tile_rings L t))
 
 -- a face of a tile by its row
 abbrev pub whole_face : Library → ℕ → ℕ → FacePrimitive → WholeFace
@@ -66,12 +66,12 @@ abbrev pub whole_faces : Library → ℕ → List WholeFace
 whole_faces L t = numbered_from 2 (whole_face L t) (rest_of (tile_faces L t))
 
 -- a face by its number in a tile
-abbrev pub face_in : ℕ → ℕ → Option Beyond
-face_in t f = if f == 1 then None else Some (record { tile = t; id = f })
+abbrev pub face_here : ℕ → ℕ → Option Beyond
+face_here t f = if f == 1 then None else Some (record { tile = t; id = f })
 
 -- the entity nodes of a tile
 abbrev pub whole_entities : Library → ℕ → List WholeEntity
-whole_entities L t = map (λ row. record { face = face_in t (id_of row.containing_face); carried = row.carried }) (tile_entities L t)
+whole_entities L t = map (λ row. record { face = face_here t (id_of row.containing_face); carried = row.carried }) (tile_entities L t)
 
 -- the tiles of a library, rising
 abbrev pub tiles_in : Library → List ℕ
