@@ -5,4 +5,5 @@ pub mod Halves
 pub mod Held
 pub mod Loading
 pub mod Making
+pub mod Sure
 pub mod Writing

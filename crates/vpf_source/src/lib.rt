@@ -11,6 +11,7 @@ mod memory_sink;
 mod memory_tree;
 mod sink;
 mod steps;
+mod sure_tree;
 #[cfg(test)]
 mod tests;
 mod tree;
@@ -24,4 +25,5 @@ pub use memory_sink::MemSink;
 pub use memory_tree::MemTree;
 pub use sink::{Sink, put_all};
 pub use steps::Steps;
+pub use sure_tree::SureTree;
 pub use tree::Tree;
