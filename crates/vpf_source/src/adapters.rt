@@ -1,6 +1,6 @@
 //! The folders of the computer and its standard output, which tell contracts nothing of what they hold.
 
-ghost use Rattle.std.specs.Prelude.{◌≡◌, ◌≤◌, ℕ, None, OnOk};
+ghost use Rattle.std.specs.Prelude.{◌≡◌, ◌≤◌, ℕ, None, OnOk, is_some, nat_lt};
 ghost use Rattle.std.specs.Io.{ReadsAtMost, WritesAtMost};
 ghost use Rattle.std.specs.Io.KnownBytes.{Appends};
 ghost use Rattle.vpf_source.specs.Causes.{next_count};
@@ -8,6 +8,8 @@ ghost use Rattle.vpf_source.specs.Causes.{next_count};
 use crate::error::{DeviceError, Failed};
 use crate::sink::Sink;
 use crate::tree::Tree;
+use crate::trouble::Trouble;
+use std::alloc::Global;
 use std::io::{ErrorKind, Read, Seek, SeekFrom, Write};
 use std::marker::Model;
 use std::rt::Files;
@@ -16,12 +18,15 @@ use std::{fs, io};
 /// The files of the computer. A name is a path under the working folder, or from the root where it begins with `/`.
 ///
 /// A file is absent exactly where the system says that it is not found. Each other error of the system is a fault, as an
-/// interrupted call or a path through a file, and so is the size of a folder. A contract sees a `FolderTree` as its
-/// count of faults.
+/// interrupted call or a path through a file, and so is the size of a folder. What the system said of the last fault is
+/// kept, to be told. A contract sees a `FolderTree` as its count of faults.
 #[derive(Drop)]
 pub struct FolderTree<R: Files> {
+    alloc: Global,
     rt: R,
     faults: u64,
+    trouble: Option<Trouble>,
+    ghost told: { is_some trouble ≡ nat_lt 0 faults },
 }
 
 impl<R: Files> Model for FolderTree<R> {
@@ -32,17 +37,31 @@ impl<R: Files> Model for FolderTree<R> {
 
 impl<R: Files> FolderTree<R> {
     /// The files that this runtime reaches, with no fault so far.
-    pub fn new(rt: R) -> Self
+    pub fn new(alloc: Global, rt: R) -> Self
         ensures { result ≡ 0 }
     {
-        FolderTree { rt, faults: 0 }
+        FolderTree {
+            alloc,
+            rt,
+            faults: 0,
+            trouble: None,
+        }
     }
 
-    /// Counts a fault.
-    fn fault(&mut self) -> Failed
+    /// What the system said of the last call that failed: there is a word exactly where one has.
+    pub fn trouble(&self) -> Option<&Trouble>
+        ensures { is_some result ≡ nat_lt 0 self.now }
+    {
+        self.trouble.as_ref()
+    }
+
+    /// Counts a fault, and keeps what the system said of the file of this name.
+    fn fault(&mut self, name: &str, error: io::Error) -> Failed
         ensures counted { self.new ≡ next_count self.old }
         ensures later { self.old ≤ self.new }
     {
+        let name = String::from_str(self.alloc, name).ok();
+        self.trouble = Some(Trouble::new(name, error));
         self.faults = self.faults.saturating_add(1);
         Failed
     }
@@ -91,9 +110,10 @@ impl<R: Files> Tree for FolderTree<R> {
 
     fn size(&mut self, name: &str) -> Result<Option<u64>, Failed> {
         match fs::metadata(&self.rt, name) {
-            Ok(data) if !data.is_dir() => Ok(Some(data.len())),
+            Ok(data) if data.is_dir() => Err(self.fault(name, ErrorKind::IsADirectory.into())),
+            Ok(data) => Ok(Some(data.len())),
             Err(e) if e.kind() == ErrorKind::NotFound => Ok(None),
-            _ => Err(self.fault()),
+            Err(e) => Err(self.fault(name, e)),
         }
     }
 
@@ -101,14 +121,14 @@ impl<R: Files> Tree for FolderTree<R> {
         match self.read_here(name, at, buf) {
             Ok(count) => Ok(count),
             Err(e) if e.kind() == ErrorKind::NotFound => Ok(0),
-            Err(_) => Err(self.fault()),
+            Err(e) => Err(self.fault(name, e)),
         }
     }
 
     fn make(&mut self, name: &str, bytes: &[u8]) -> Result<(), DeviceError> {
         match self.make_here(name, bytes) {
             Ok(()) => Ok(()),
-            Err(_) => Err(self.fault().into()),
+            Err(e) => Err(self.fault(name, e).into()),
         }
     }
 }
@@ -116,11 +136,13 @@ impl<R: Files> Tree for FolderTree<R> {
 /// The standard output. A contract sees it as its count of faults.
 ///
 /// Each write is flushed. An error of the system is a fault, a failed flush among them, and so is a write that takes no
-/// byte of a piece that is not empty.
+/// byte of a piece that is not empty. What the system said of the last fault is kept, to be told.
 #[derive(Drop)]
 pub struct StdSink<R: Print> {
     rt: R,
     faults: u64,
+    trouble: Option<io::Error>,
+    ghost told: { is_some trouble ≡ nat_lt 0 faults },
 }
 
 impl<R: Print> Model for StdSink<R> {
@@ -134,15 +156,27 @@ impl<R: Print> StdSink<R> {
     pub fn new(rt: R) -> Self
         ensures { result ≡ 0 }
     {
-        StdSink { rt, faults: 0 }
+        StdSink {
+            rt,
+            faults: 0,
+            trouble: None,
+        }
     }
 
-    /// Counts a fault.
-    fn fault(&mut self) -> DeviceError
+    /// What the system said of the last write that failed: there is a word exactly where one has.
+    pub fn trouble(&self) -> Option<io::Error>
+        ensures { is_some result ≡ nat_lt 0 self.now }
+    {
+        self.trouble
+    }
+
+    /// Counts a fault, and keeps what the system said.
+    fn fault(&mut self, error: io::Error) -> DeviceError
         ensures failed { result ≡ DeviceError.Failed }
         ensures counted { self.new ≡ next_count self.old }
         ensures later { self.old ≤ self.new }
     {
+        self.trouble = Some(error);
         self.faults = self.faults.saturating_add(1);
         DeviceError::Failed
     }
@@ -166,7 +200,8 @@ impl<R: Print> Sink for StdSink<R> {
     fn write(&mut self, piece: &[u8]) -> Result<usize, DeviceError> {
         match self.write_here(piece) {
             Ok(count) if count > 0 || piece.is_empty() => Ok(count),
-            _ => Err(self.fault()),
+            Ok(_) => Err(self.fault(ErrorKind::WriteZero.into())),
+            Err(e) => Err(self.fault(e)),
         }
     }
 }

@@ -15,6 +15,7 @@ mod sure_tree;
 #[cfg(test)]
 mod tests;
 mod tree;
+mod trouble;
 
 pub use adapters::{FolderTree, StdSink};
 pub use error::{DeviceError, Failed, LoadError};
@@ -27,3 +28,4 @@ pub use sink::{Sink, put_all};
 pub use steps::Steps;
 pub use sure_tree::SureTree;
 pub use tree::Tree;
+pub use trouble::Trouble;

@@ -270,8 +270,9 @@ fn makes_the_folders(rt: HostRuntime) -> Result<(), Fail> {
     let folder = format!(in alloc; "{root}/lib")?;
     // A run that was cut off may have left them.
     let _left = fs::remove_dir_all(&rt, root);
-    let mut tree = FolderTree::new(&rt);
+    let mut tree = FolderTree::new(alloc, &rt);
     assert_eq!(rt; tree.size(&name), Ok(None));
+    assert!(rt; tree.trouble().is_none());
     for (name, bytes, want) in [
         (name.as_str(), b"0123456789".as_slice(), Ok(())),
         (neighbour.as_str(), b"abc".as_slice(), Ok(())),
@@ -299,7 +300,7 @@ fn reads_the_folders(rt: HostRuntime) -> Result<(), Fail> {
     let path = env::temp_dir(&rt)?.join(alloc, "vpf_source_reads_the_folders")?;
     let name = path.as_str();
     fs::write(&rt, name, "0123456789")?;
-    let mut tree = FolderTree::new(&rt);
+    let mut tree = FolderTree::new(alloc, &rt);
     assert_eq!(rt; tree.size(name), Ok(Some(10)));
     let whole = load(alloc, &mut tree, name, 10)?.ok_or("absent")?;
     assert_eq!(rt; whole.as_slice(), b"0123456789".as_slice());
@@ -330,6 +331,15 @@ fn reads_the_folders(rt: HostRuntime) -> Result<(), Fail> {
         assert_eq!(rt; tree.size(name), size, "{name}");
         assert_eq!(rt; tree.read_at(name, 0, &mut buf), read, "{name}");
     }
+    let through = format!(in alloc; "{behind}: Not a directory (os error 20)")?;
+    for (name, told) in [
+        (behind.as_str(), through.as_str()),
+        ("/", "/: is a directory"),
+    ] {
+        assert_eq!(rt; tree.size(name), Err(Failed), "{name}");
+        let trouble = tree.trouble().ok_or("nothing is told")?;
+        assert_eq!(rt; format!(in alloc; "{trouble}")?.as_str(), told);
+    }
     fs::remove_file(&rt, name)?;
     Ok(())
 }
@@ -340,6 +350,7 @@ fn writes_standard_output(rt: HostRuntime) -> Result<(), Fail> {
     assert_eq!(rt; sink.write(b"standard output\n"), Ok(16));
     assert_eq!(rt; sink.write(b""), Ok(0));
     assert_eq!(rt; put_all(&mut sink, b"more of it\n"), Ok(()));
+    assert!(rt; sink.trouble().is_none());
     Ok(())
 }
 
