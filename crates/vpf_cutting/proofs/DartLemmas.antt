@@ -1,18 +1,22 @@
 -- The darts of a cut coverage: in which tiles their edges are, and what is next.
-use Rattle.std.proofs.Common.{◌≡◌, ℕ, zero, suc, ◌^◌, ◌<◌, ◌≤◌, Bool, true, false, not, refl, sym, ap, ◌∙◌, subst, arith, length}
+use Rattle.std.proofs.Common.{◌≡◌, ◌≢◌, ℕ, zero, suc, ◌^◌, ◌<◌, ◌≤◌, Bool, true, false, not, cond, refl, sym, ap, ◌∙◌, subst, arith, length}
+use Rattle.std.proofs.lemmas.Bool.{eq-eqb, ne_eqb}
 use Rattle.vpf_darts.specs.declared.darts.Dart.{Dart}
 use Rattle.vpf_darts.specs.declared.darts.TileDart.{TileDart}
 use Rattle.vpf_darts.specs.Darts.{code, dart_code, edge_in, flip, sign_of, tile_dart_code}
 use Rattle.vpf_darts.specs.Laws.{ComesTo, FirstKeptDart}
 use Rattle.vpf_darts.specs.Maps.{DartMap, IsMap, is_of_any}
 use Rattle.vpf_prims.specs.Numbering.{IsRowOf}
-use Rattle.vpf_prims.specs.Primitives.{Primitives}
+use Rattle.vpf_prims.specs.Primitives.{Primitives, cross}
+use Rattle.vpf_prims.specs.References.{plain}
 use Rattle.vpf_wing.specs.DartLaws.{code-edge, code-tile, sign-small}
 use Rattle.vpf_tiling.specs.Presence.{absent_darts, coverage_map, face_of, has_edge, has_node, head_of, home, is_present, local_edge, local_node, next_of, tail_of, tile_map, untiled_links}
 use Rattle.vpf_tiling.specs.PresenceLaws.{Held, InFaces, edge_present, held, in_faces, in_zero, present_has, source_next, tail_next}
 use Rattle.vpf_tiling.specs.Tiles.{reference_to, tiled_edge, tiled_face, tiled_node, tiled_wing}
 use Rattle.vpf_triplet.specs.declared.triplets.Triplet.{Triplet}
 use Rattle.vpf_cutting.specs.declared.rows.CutEdge.{CutEdge}
+use Rattle.vpf_cutting.specs.declared.rows.Onward.{Onward}
+use Rattle.vpf_cutting.specs.Onward.{IsOnward}
 use Rattle.vpf_cutting.specs.Rows.{references_of}
 use Rattle.vpf_cutting.specs.Cuts.{Cutting, IsPlanned, plan_by}
 use Rattle.vpf_cutting.specs.WalkLaws.{absent_edges, has_row, home_here, home_past, home_there, kept_present, passed_is, present_kept, present_other, row_has, tail_there}
@@ -182,3 +186,66 @@ edge_references c plan t k e minus right left a b f g u v is r l p q x y z w =
     (tiled_face c plan t (face_of c (code 0 e 1))) m v) z
     ∙ ap (λ m. cut_edge (tiled_node c plan t (code 0 e 1)) (tiled_node c plan t (code 0 e 0)) (tiled_face c plan t (face_of c (code 0 e 0)))
     (tiled_face c plan t (face_of c (code 0 e 1))) (tiled_wing c plan t (code 0 e 0)) m) (w ∙ ap (tiled_wing c plan t) is)
+
+-- ---- how the boundary goes on
+
+-- a thing that has its home here is named by its number, and any other with its home and its number there
+here_alone : (t s here there : ℕ) → s ≡ t → reference_to t s here there ≡ plain here
+here_alone t s here there e = ap (λ b. cond b (plain here) (cross here s there)) (eq-eqb s t e)
+
+with_home : (t s here there : ℕ) → s ≢ t → reference_to t s here there ≡ cross here s there
+with_home t s here there ne = ap (λ b. cond b (plain here) (cross here s there)) (ne_eqb s t ne)
+
+-- the cell of a node whose next dart has its home here
+pub node_here : (c : Primitives) (plan : ℕ → ℕ) (t d node here : ℕ) (o : Onward) → IsOnward c plan d o → o.home ≡ t → node ≡ head_of c d
+    → here ≡ local_node c plan t node → plain here ≡ tiled_node c plan t d
+node_here c plan t d node here o on at is number =
+    sym (here_alone t o.home here here at)
+    ∙ node_reference c plan t d (dart_code o.next) o.home node here here on.next on.home is number (number ∙ ap (λ z. local_node c plan z node) (sym at))
+
+-- and of one whose next dart has it elsewhere
+pub node_there : (c : Primitives) (plan : ℕ → ℕ) (t d node here there : ℕ) (o : Onward) → IsOnward c plan d o → o.home ≢ t → node ≡ head_of c d
+    → here ≡ local_node c plan t node → there ≡ local_node c plan o.home node → cross here o.home there ≡ tiled_node c plan t d
+node_there c plan t d node here there o on apart is number far =
+    sym (with_home t o.home here there apart) ∙ node_reference c plan t d (dart_code o.next) o.home node here there on.next on.home is number far
+
+-- where the next of a dart is present in a tile, it is its next there
+comes_at_once : (m : DartMap) (passed : ℕ → Bool) (n x y : ℕ) → passed x ≡ false → ComesTo m passed n x y → x ≡ y
+comes_at_once m passed zero x y kept h = h.1
+comes_at_once m passed (suc n) x y kept h = absurd (cc (sym h.0 ∙ kept))
+
+next_here : FirstKeptDart → (k : Cutting) → IsPlanned k → IsMap (coverage_map k.source) → (t d : ℕ) → is_present k.source (plan_by k.plan) t d ≡ true
+    → is_present k.source (plan_by k.plan) t (next_of k.source d) ≡ true → next_of k.source d ≡ (tile_map k.source (plan_by k.plan) t).next d
+next_here law k p m t d h there =
+    let plan : ℕ → ℕ = plan_by k.plan in
+    let r = law (coverage_map k.source) (absent_darts k.source plan t) d m (absent_edges k.source plan t p.tileable.few) (present_kept k.source plan t d h) in
+    comes_at_once (coverage_map k.source) (is_of_any flip (absent_darts k.source plan t)) r.0 (next_of k.source d) ((tile_map k.source plan t).next d)
+    (present_kept k.source plan t (next_of k.source d) there) r.2
+
+-- the cell of a wing whose next dart has its home here
+pub wing_here : FirstKeptDart → (k : Cutting) → IsPlanned k → IsMap (coverage_map k.source) → (t d here : ℕ) (o : Onward) → is_present k.source (plan_by k.plan) t d ≡ true
+    → IsOnward k.source (plan_by k.plan) d o → o.home ≡ t → here ≡ local_edge k.source (plan_by k.plan) t o.next.edge → plain here ≡ tiled_wing k.source (plan_by k.plan) t d
+wing_here law k p m t d here o h on at number =
+    let plan : ℕ → ℕ = plan_by k.plan in
+    let there : is_present k.source plan t (next_of k.source d) ≡ true = subst (λ z. is_present k.source plan t z ≡ true) on.next (subst (λ z. is_present k.source plan z (dart_code o.next) ≡ true) at on.there) in
+    let first : dart_code o.next ≡ (tile_map k.source plan t).next d = on.next ∙ next_here law k p m t d h there in
+    let edge : edge_in (dart_code o.next) ≡ o.next.edge = edge_is k p o.next on.row in
+    sym (here_alone t o.home here here at)
+    ∙ wing_reference k.source plan t d (dart_code o.next) o.home (dart_code o.next) o.next.edge o.next.edge here here on.next on.home first edge edge number
+    (number ∙ ap (λ z. local_edge k.source plan z o.next.edge) (sym at))
+
+-- and of one whose next dart has it elsewhere
+pub wing_there : (k : Cutting) → IsPlanned k → (t d here there : ℕ) (first : Dart) (o : Onward) → IsOnward k.source (plan_by k.plan) d o → o.home ≢ t
+    → dart_code first ≡ (tile_map k.source (plan_by k.plan) t).next d → IsRowOf (length k.source.edges) first.edge
+    → here ≡ local_edge k.source (plan_by k.plan) t first.edge → there ≡ local_edge k.source (plan_by k.plan) o.home o.next.edge
+    → cross here o.home there ≡ tiled_wing k.source (plan_by k.plan) t d
+wing_there k p t d here there first o on apart is row number far =
+    let plan : ℕ → ℕ = plan_by k.plan in
+    sym (with_home t o.home here there apart)
+    ∙ wing_reference k.source plan t d (dart_code o.next) o.home (dart_code first) first.edge o.next.edge here there on.next on.home is
+    (edge_is k p first row) (edge_is k p o.next on.row) number far
+
+-- the node at a dart's head is in the home of its next dart
+pub head_onward : (k : Cutting) → IsPlanned k → (d : Dart) (n : ℕ) (o : Onward) → IsRowOf (length k.source.edges) d.edge → IsOnward k.source (plan_by k.plan) (dart_code d) o
+    → n ≡ head_of k.source (dart_code d) → has_node k.source (plan_by k.plan) o.home n ≡ true
+head_onward k p d n o row on is = head_home k p d o.next o.home n row on.next on.there is

@@ -2,6 +2,7 @@
 
 ghost use Rattle.std.specs.Prelude.{◌≡◌, ℕ, ◌+◌, ◌<◌, ◌^◌, true, length};
 ghost use Rattle.vpf_cutting.specs.Cuts.{plan_by};
+ghost use Rattle.vpf_cutting.specs.Onward.{IsOnward};
 ghost use Rattle.vpf_cutting.specs.Rows.{HasSmallReferences, references_of};
 ghost use Rattle.vpf_darts.specs.Darts.{dart_code};
 ghost use Rattle.vpf_prims.specs.Numbering.{IsRowOf};
@@ -9,11 +10,13 @@ ghost use Rattle.vpf_prims.specs.Primitives.{cross};
 ghost use Rattle.vpf_prims.specs.References.{plain};
 ghost use Rattle.vpf_tiling.specs.Presence.{containing_face, has_edge, holds_entity, is_present, local_edge, local_face};
 ghost use Rattle.vpf_triplet.specs.Canonical.{HasSmallParts};
-ghost use Rattle.vpf_tiling.specs.Tiles.{reference_to, tiled_edge, tiled_face, tiled_node, tiled_wing};
+ghost use Rattle.vpf_tiling.specs.Tiles.{tiled_edge, tiled_face, tiled_node, tiled_wing};
 
 use crate::cut::Cut;
+use vpf_darts::laws::first_kept_dart;
 use vpf_darts::{Dart, flip};
 use vpf_triplet::Triplet;
+use vpf_wing::laws::well_formed_has_map;
 
 /// What a row of edges of a tile names: its nodes and wings, which go on in another tile where the next dart has its home there, and its
 /// faces, of which those of other tiles are named with their tiles (MIL-STD-2407, 5.2.3, cross-tile topology).
@@ -61,50 +64,59 @@ fn cross(id: u32, tile: u32, ext: u32) -> Triplet
     }
 }
 
-/// A number in this tile, and where the thing has its home in another, that tile and its number there.
-fn reference_to(tile: u32, home: u32, here: u32, there: u32) -> Triplet
-    requires home { home < 2 ^ 31 }
-    requires here { here < 2 ^ 31 }
-    requires there { there < 2 ^ 31 }
-    ensures value { result ≡ reference_to tile home here there }
-    ensures small { HasSmallParts result }
-{
-    if home == tile {
-        plain(here)
-    } else {
-        cross(here, home, there)
-    }
+/// How a boundary goes on behind a dart: the next dart round its face, and the home tile of that one.
+#[derive(Clone, Copy)]
+pub(crate) struct Onward {
+    pub(crate) next: Dart,
+    pub(crate) home: u32,
 }
 
 impl<'c, 'a> Cut<'c, 'a> {
+    /// How the boundary goes on behind a dart.
+    fn onward(&self, dart: Dart) -> Onward
+        requires { IsRowOf (length self.now.source.edges) dart.edge }
+        ensures { IsOnward self.now.source (plan_by self.now.plan) (dart_code dart) result }
+    {
+        let next = self.next(dart);
+        let home = self.home(next);
+        Onward { next, home }
+    }
+
     /// The head node of a dart in a tile, with its number in the home of the next dart.
-    fn node_cell(&self, tile: u32, dart: Dart) -> Triplet
-        requires { is_present self.now.source (plan_by self.now.plan) tile (dart_code dart) ≡ true }
+    fn node_cell(&self, tile: u32, dart: Dart, onward: Onward) -> Triplet
+        requires present { is_present self.now.source (plan_by self.now.plan) tile (dart_code dart) ≡ true }
+        requires onward { IsOnward self.now.source (plan_by self.now.plan) (dart_code dart) onward }
         ensures value { result ≡ tiled_node self.now.source (plan_by self.now.plan) tile (dart_code dart) }
         ensures small { HasSmallParts result }
     {
         self.is_planned();
-        let next = self.next(dart);
-        let home = self.home(next);
         let node = self.head(dart);
         let here = self.local_node(tile, node);
-        let there = self.local_node(home, node);
-        reference_to(tile, home, here, there)
+        if onward.home == tile {
+            return plain(here);
+        }
+        let there = self.local_node(onward.home, node);
+        cross(here, onward.home, there)
     }
 
     /// The wing of a dart in a tile: the next edge there, with the edge of the next dart in its home.
-    fn wing_cell(&self, tile: u32, dart: Dart) -> Triplet
-        requires { is_present self.now.source (plan_by self.now.plan) tile (dart_code dart) ≡ true }
+    fn wing_cell(&self, tile: u32, dart: Dart, onward: Onward) -> Triplet
+        requires present { is_present self.now.source (plan_by self.now.plan) tile (dart_code dart) ≡ true }
+        requires onward { IsOnward self.now.source (plan_by self.now.plan) (dart_code dart) onward }
         ensures value { result ≡ tiled_wing self.now.source (plan_by self.now.plan) tile (dart_code dart) }
         ensures small { HasSmallParts result }
     {
         self.is_planned();
-        let next = self.next(dart);
-        let home = self.home(next);
+        // A next dart that has its home here is the next one here.
+        if onward.home == tile {
+            well_formed_has_map();
+            first_kept_dart();
+            return plain(self.local_edge(tile, onward.next.edge));
+        }
         let first = self.next_in(tile, dart);
         let here = self.local_edge(tile, first.edge);
-        let there = self.local_edge(home, next.edge);
-        reference_to(tile, home, here, there)
+        let there = self.local_edge(onward.home, onward.next.edge);
+        cross(here, onward.home, there)
     }
 
     /// A face in a tile: its number there, or 1 with its own tile and its number there, or 1 alone for the universe.
@@ -134,8 +146,10 @@ impl<'c, 'a> Cut<'c, 'a> {
     {
         let plus = Dart { edge, minus: false };
         let minus = flip(plus);
-        let start_node = self.node_cell(tile, minus);
-        let end_node = self.node_cell(tile, plus);
+        let behind_plus = self.onward(plus);
+        let behind_minus = self.onward(minus);
+        let start_node = self.node_cell(tile, minus, behind_minus);
+        let end_node = self.node_cell(tile, plus, behind_plus);
         let right = self.face(plus);
         let left = self.face(minus);
         CutEdge {
@@ -143,8 +157,8 @@ impl<'c, 'a> Cut<'c, 'a> {
             end_node,
             right_face: self.face_cell(tile, right),
             left_face: self.face_cell(tile, left),
-            right_edge: self.wing_cell(tile, plus),
-            left_edge: self.wing_cell(tile, minus),
+            right_edge: self.wing_cell(tile, plus, behind_plus),
+            left_edge: self.wing_cell(tile, minus, behind_minus),
         }
     }
 

@@ -8,8 +8,15 @@ use Rattle.vpf_cutting.specs.WalkLaws.{has_edge_row}
 use Rattle.vpf_cutting.proofs.DartLemmas.{edge_references, side_is}
 use Rattle.vpf_cutting.proofs.cut.Cut.edge.Goals as goal
 
-pub node_cell-start_node-requires : goal.node_cell-start_node-requires
-node_cell-start_node-requires c =
+pub onward-behind_plus-requires : goal.onward-behind_plus-requires
+onward-behind_plus-requires c = has_edge_row c.args.self.now.source (plan_by c.args.self.now.plan) c.args.tile c.args.edge c.requires
+
+pub onward-behind_minus-requires : goal.onward-behind_minus-requires
+onward-behind_minus-requires c =
+    subst (λ (d : Dart). IsRowOf (length c.args.self.now.source.edges) d.edge) (sym c.flip-minus.ensures) (has_edge_row c.args.self.now.source (plan_by c.args.self.now.plan) c.args.tile c.args.edge c.requires)
+
+pub node_cell-start_node-requires-clause-present : goal.node_cell-start_node-requires-clause-present
+node_cell-start_node-requires-clause-present c =
     subst (λ (d : Dart). is_present c.args.self.now.source (plan_by c.args.self.now.plan) c.args.tile (dart_code d) ≡ true) (sym c.flip-minus.ensures)
     (side_is c.args.self.now.source (plan_by c.args.self.now.plan) c.args.tile c.args.edge true ∙ c.requires)
 
@@ -20,8 +27,8 @@ pub face-left-requires : goal.face-left-requires
 face-left-requires c =
     subst (λ (d : Dart). IsRowOf (length c.args.self.now.source.edges) d.edge) (sym c.flip-minus.ensures) (has_edge_row c.args.self.now.source (plan_by c.args.self.now.plan) c.args.tile c.args.edge c.requires)
 
-pub wing_cell-requires-2 : goal.wing_cell-requires-2
-wing_cell-requires-2 c =
+pub wing_cell-requires-2-clause-present : goal.wing_cell-requires-2-clause-present
+wing_cell-requires-2-clause-present c =
     subst (λ (d : Dart). is_present c.args.self.now.source (plan_by c.args.self.now.plan) c.args.tile (dart_code d) ≡ true) (sym c.flip-minus.ensures)
     (side_is c.args.self.now.source (plan_by c.args.self.now.plan) c.args.tile c.args.edge true ∙ c.requires)
 
