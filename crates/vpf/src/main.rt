@@ -25,8 +25,10 @@ mod tests_of_tiles;
 mod tests_of_varying_rows;
 
 use running::run;
+use status::Status;
 use std::io::ErrorKind;
 use std::process::ExitCode;
+use std::rt::Files;
 use vpf_source::{FolderTree, StdSink};
 
 /// The status where the words aren't texts.
@@ -35,20 +37,55 @@ const NOT_TEXT: u8 = 2;
 /// The status where the words can't be kept.
 const NO_MEMORY: u8 = 5;
 
-fn main(rt: HostRuntime) -> ExitCode {
-    let alloc = rt.alloc();
-    let mut words = Vec::new(alloc);
-    let args = match std::env::args(&rt) {
+/// The line on standard error where memory ran out.
+const RAN_OUT: &str = "vpf: out of memory";
+
+/// Tells a person on standard error, in one line, what ended a run early: the file or the output with the system's word on it, or that memory
+/// ran out. A run that came to its end tells nothing there.
+fn tell<R: Files, O: Print>(
+    rt: &HostRuntime,
+    status: Status,
+    tree: &FolderTree<R>,
+    out: &StdSink<O>,
+) -> std::io::Result<()> {
+    match (status, tree.trouble(), out.trouble()) {
+        (Status::TreeFault, Some(trouble), _) => eprintln!(rt; "vpf: {trouble}"),
+        (Status::SinkFault, _, Some(trouble)) => eprintln!(rt; "vpf: standard output: {trouble}"),
+        (Status::NoMemory, _, _) => eprintln!(rt; "{RAN_OUT}"),
+        _ => Ok(()),
+    }
+}
+
+/// The words that the program was called with, or the status where they can't be had.
+fn words(rt: &HostRuntime) -> Result<Vec<String>, u8> {
+    let mut words = Vec::new(rt.alloc());
+    let args = match std::env::args(rt) {
         Ok(args) => args,
-        Err(error) if error.kind() == ErrorKind::OutOfMemory => return ExitCode::from(NO_MEMORY),
-        Err(_) => return ExitCode::from(NOT_TEXT),
+        Err(error) if error.kind() == ErrorKind::OutOfMemory => return Err(NO_MEMORY),
+        Err(_) => return Err(NOT_TEXT),
     };
     for word in args.skip(1) {
         if words.push(word).is_err() {
-            return ExitCode::from(NO_MEMORY);
+            return Err(NO_MEMORY);
         }
     }
-    let mut tree = FolderTree::new(&rt);
+    Ok(words)
+}
+
+fn main(rt: HostRuntime) -> ExitCode {
+    let alloc = rt.alloc();
+    let words = match words(&rt) {
+        Ok(words) => words,
+        Err(status) => {
+            if status == NO_MEMORY {
+                let _told = eprintln!(rt; "{RAN_OUT}");
+            }
+            return ExitCode::from(status);
+        }
+    };
+    let mut tree = FolderTree::new(alloc, &rt);
     let mut out = StdSink::new(&rt);
-    ExitCode::from(run(alloc, &words, &mut tree, &mut out).code())
+    let status = run(alloc, &words, &mut tree, &mut out);
+    let _told = tell(&rt, status, &tree, &out);
+    ExitCode::from(status.code())
 }
