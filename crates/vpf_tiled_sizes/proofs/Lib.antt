@@ -1,0 +1,10 @@
+pub mod Pairs
+pub mod TableNames
+pub mod LibraryNames
+pub mod Counting
+pub mod PresentCounts
+pub mod RowSizes
+pub mod TableSizes
+pub mod FileSizes
+pub mod GridTables
+pub mod GridSizes
