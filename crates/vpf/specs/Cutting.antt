@@ -3,18 +3,10 @@ use Rattle.std.specs.Prelude.{length}
 use Rattle.vpf_source.specs.Files.{Files}
 use Rattle.vpf_prims.specs.Reading.{primitives_of}
 use Rattle.vpf_prims.specs.Tables.{TileTables}
-use Rattle.vpf_replies.specs.Making.{made_answer}
 use Rattle.vpf_library_commands.specs.declared.tiling.TileRequest.{TileRequest}
 use Rattle.vpf_library_commands.specs.Tile.{TileParts}
-use Rattle.vpf_tilings.specs.Cutting.{IsCutFrom, cut_files, cut_plan}
+use Rattle.vpf_tilings.specs.Cutting.{IsCutFrom, cut_plan}
 use Rattle.vpf_tilings.specs.Tilings.{HoldsTiling, made_request}
-use Rattle.vpf.specs.declared.command.Command.TheVariants.{Tile}
-use Rattle.vpf.specs.Commands.{IsAnswerTo}
-
--- where what was read can be cut, the answer of `tile` is to make the files of the tiled library
-abbrev pub TilesAreMade : Type 0
-TilesAreMade = (files : Files) (request : TileRequest) (parts : TileParts) (T : TileTables) → IsCutFrom files request parts T
-    → IsAnswerTo (Tile request) files (made_answer (cut_files request parts T))
 
 -- What was read before is an untiled coverage that agrees, a table of tiles and a plan that serves, and what is held after is its tiled library:
 -- `check` accepts it, and `trace` lists exactly the boundary cycles of the coverage without its lines between tiles, each dart called by its name.

@@ -2,7 +2,6 @@
 
 ghost use Rattle.vpf_library_commands.specs.Trace.{HasTraceAnswer};
 ghost use Rattle.vpf.specs.Checked.{AgreementIsSaid, CyclesAreSaid, OnlyAgreementIsDone, OnlyAgreementIsTraced};
-ghost use Rattle.vpf.specs.Cutting.{TilesAreMade};
 ghost use Rattle.vpf.specs.Deciding.{HasAnswer, OneAnswer};
 ghost use Rattle.vpf.specs.Grammar.{FaultsAreSaid, TablesAreSaid};
 ghost use Rattle.vpf.specs.Indexed.{PlainAnswers};
@@ -53,8 +52,3 @@ pub fn traces_list_cycles()
 {
     trace_lists_cycles();
 }
-
-/// Where an untiled coverage agrees and its plan serves, `tile` makes the files of its tiled library.
-pub fn tiles_are_made()
-    ensures { TilesAreMade }
-{}

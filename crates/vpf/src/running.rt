@@ -41,8 +41,7 @@ ghost use Rattle.vpf.specs.Run.{Carries, IsCompleted, Prints};
 
 use crate::command::{Command, read_command};
 use crate::laws::{
-    answers_follow_the_grammar, checks_decide, one_answer, plain_answers, tiles_are_made,
-    traces_list_cycles,
+    answers_follow_the_grammar, checks_decide, one_answer, plain_answers, traces_list_cycles,
 };
 use crate::status::Status;
 use std::alloc::Global;
@@ -52,7 +51,7 @@ use vpf_source::{DeviceError, Sink, Tree, make_all, put_all};
 use vpf_table::laws::opened_is_read;
 use vpf_table_commands::laws::{indexes_are_elsewhere, made_indexes_serve};
 use vpf_table_commands::{cycles, index, rows, show, swap, table};
-use vpf_tilings::laws::{requests_have_names, tilings_agree};
+use vpf_tilings::laws::{requests_have_names, tiles_are_made, tilings_agree};
 
 /// The reply of a command over a tree.
 fn obey<T: Tree>(alloc: Global, command: &Command, tree: &mut T) -> Result<Reply, Halt>

@@ -80,7 +80,7 @@ lines_same (x ∷ xs) (y ∷ ys) e =
     let both = lines_same xs ys rest in
     (rw (cycle_same x y first, both.0) refl, ap suc both.1)
 
-text_same : (xs ys : List (List TileDart)) → numbers_of xs ≡ numbers_of ys → listing_text xs ≡ listing_text ys
+pub text_same : (xs ys : List (List TileDart)) → numbers_of xs ≡ numbers_of ys → listing_text xs ≡ listing_text ys
 text_same xs ys e = let both = lines_same xs ys e in rw (both.0, both.1) refl
 
 both_are : (a b c : Answer) → a ≡ c → b ≡ c → a ≡ b
@@ -118,7 +118,7 @@ trace_decides reads held laws files request answer bytes is =
 -- ---- there is one, and it lists the cycles
 
 -- the darts of these numbers
-abbrev darts_of : List (List ℕ) → List (List TileDart)
+abbrev pub darts_of : List (List ℕ) → List (List TileDart)
 darts_of lists = map (map dart_of) lists
 
 number_is : (d : ℕ) → tile_dart_code (dart_of d) ≡ d
@@ -128,7 +128,7 @@ numbers_are : (ds : List ℕ) → map tile_dart_code (map dart_of ds) ≡ ds
 numbers_are [] = refl
 numbers_are (d ∷ ds) = rw (number_is d, numbers_are ds) refl
 
-lists_are : (lists : List (List ℕ)) → numbers_of (darts_of lists) ≡ lists
+pub lists_are : (lists : List (List ℕ)) → numbers_of (darts_of lists) ≡ lists
 lists_are [] = refl
 lists_are (ds ∷ lists) = rw (numbers_are ds, lists_are lists) refl
 

@@ -10,4 +10,5 @@ mod tracing;
 
 pub use checking::{CheckRequest, check};
 pub use tiling::{TileRequest, tile};
+pub use totals::{Totals, totals_of};
 pub use tracing::trace;

@@ -7,8 +7,8 @@ use vpf_coverage::Coverage;
 use vpf_prims::Tile;
 
 /// Numbers of primitives.
-#[derive(Clone, Copy)]
-pub(crate) struct Totals {
+#[derive(Clone, Copy, Debug, PartialEq, Eq)]
+pub struct Totals {
     /// Edges.
     pub edges: u64,
     /// Faces, the universe included.
@@ -78,8 +78,8 @@ fn counts_of(coverage: &Coverage<'_>, t: u32) -> Totals
     }
 }
 
-/// The numbers of all tiles of a coverage.
-pub(crate) fn totals_of(coverage: &Coverage<'_>) -> Totals
+/// The numbers of all tiles of a coverage: face 1, the universe, is counted in each.
+pub fn totals_of(coverage: &Coverage<'_>) -> Totals
     ensures { AreTotals coverage.now result }
 {
     let mut totals = Totals::NONE;

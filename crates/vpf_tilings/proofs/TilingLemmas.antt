@@ -47,7 +47,7 @@ use Rattle.vpf_library_commands.specs.Check.{coverage_finding}
 use Rattle.vpf_library_commands.specs.Trace.{HasTraceAnswer, IsReadTrace, IsTraceAnswer, IsTracedAnswer, TraceDecides}
 use Rattle.vpf_library_commands.specs.Tile.{TileParts}
 use Rattle.vpf_tilings.specs.Cutting.{IsCutFrom, cut_files, cut_plan, cut_tables}
-use Rattle.vpf_tilings.specs.Tilings.{HasNames, HoldsTiling, StandsAlone, made_request}
+use Rattle.vpf_tilings.specs.Tilings.{HasNames, HoldsTiled, HoldsTiling, StandsAlone, made_request}
 use Rattle.vpf_tilings.proofs.MadeLemmas.{exactly, few_within}
 use Rattle.vpf_tilings.proofs.ReadLemmas.{AreReadGrids, OpenedIsRead, grid_few, grid_writable}
 use Rattle.vpf_tilings.proofs.SourceLemmas.{IsSource, source}
@@ -156,13 +156,12 @@ traced k held request loaded bytes agrees =
     by answer None at done said = record { cycles = at.0; are = at.1; said = subst (λ (a : Answer). IsTraceAnswer held request a) at.2 said }
     by answer (Some d) at done said = absurd (let e : Refused ≡ Done = sym (ap (λ (a : Answer). a.verdict) at) ∙ done in cc)
 
--- the files that are made hold the tiled library
-pub tilings_agree : Known → (files after : Files) (request : TileRequest) (parts : TileParts) (T : TileTables) → HoldsBytes files → HoldsBytes after
-    → HasNames request
+-- the files that are made hold the tiled library, which agrees
+pub tilings_held : Known → (files after : Files) (request : TileRequest) (parts : TileParts) (T : TileTables) → HoldsBytes files → HasNames request
     → IsCutFrom files request parts T → StandsAlone files request.out (cut_files request parts T)
     → with_all (cut_files request parts T) (Some files) ≡ Some after
-    → HoldsTiling after (made_request request) (primitives_of T.tables) (cut_plan parts T) (length parts.tileref.grid.rows)
-tilings_agree k files after request parts T all bytes names cut alone made =
+    → HoldsTiled after (made_request request) (primitives_of T.tables) (cut_plan parts T) (length parts.tileref.grid.rows)
+tilings_held k files after request parts T all names cut alone made =
     let c : Primitives = primitives_of T.tables in
     let plan : ℕ → ℕ = cut_plan parts T in
     let tiles : ℕ = length parts.tileref.grid.rows in
@@ -178,14 +177,27 @@ tilings_agree k files after request parts T all bytes names cut alone made =
       columns = k.columns T.tables plan tiles held.loaded.coverage s.columns s.apart held.cut;
       rows = subst LibraryAgrees (sym is) (k.agree c plan tiles may);
     } in
-    let trace = traced k after (made_request request) held.loaded bytes agrees in
+    record { may_be = may; loaded = held.loaded; agrees = agrees; library = is }
+
+-- and its boundary cycles are those of the coverage, renamed
+pub tilings_agree : Known → (files after : Files) (request : TileRequest) (parts : TileParts) (T : TileTables) → HoldsBytes files → HoldsBytes after
+    → HasNames request
+    → IsCutFrom files request parts T → StandsAlone files request.out (cut_files request parts T)
+    → with_all (cut_files request parts T) (Some files) ≡ Some after
+    → HoldsTiling after (made_request request) (primitives_of T.tables) (cut_plan parts T) (length parts.tileref.grid.rows)
+tilings_agree k files after request parts T all bytes names cut alone made =
+    let c : Primitives = primitives_of T.tables in
+    let plan : ℕ → ℕ = cut_plan parts T in
+    let tiles : ℕ = length parts.tileref.grid.rows in
+    let held = tilings_held k files after request parts T all names cut alone made in
+    let trace = traced k after (made_request request) held.loaded bytes held.agrees in
     record {
-      may_be = may;
+      may_be = held.may_be;
       loaded = held.loaded;
-      agrees = agrees;
-      library = is;
-      checked = k.counts after (made_request request) held.loaded agrees;
+      agrees = held.agrees;
+      library = held.library;
+      checked = k.counts after (made_request request) held.loaded held.agrees;
       cycles = trace.cycles;
-      are = (k.listing c plan tiles may (numbers_of trace.cycles)).0 (subst (λ (L : Library). IsTrace L (numbers_of trace.cycles)) is trace.are);
+      are = (k.listing c plan tiles held.may_be (numbers_of trace.cycles)).0 (subst (λ (L : Library). IsTrace L (numbers_of trace.cycles)) held.library trace.are);
       traced = trace.said;
     }

@@ -45,6 +45,14 @@ made_request request = record { lib = request.out; cov = request.cov }
 abbrev pub AreNamedCycles : Primitives → (ℕ → ℕ) → List (List ℕ) → Type 0
 AreNamedCycles c plan lists = let M = named_map c plan (without (coverage_map c) (tile_lines (untiled c))) in IsListing M.next M.live lists
 
+-- a tree holds the tiled library of a coverage, which may be tiled by a plan into so many tiles: its tables, references and cycles agree, and it
+-- says what that library does
+pub record HoldsTiled (held : Files) (request : CheckRequest) (c : Primitives) (plan : ℕ → ℕ) (tiles : ℕ) : Type 0 where
+  pub may_be : IsTileable c plan tiles
+  pub loaded : LoadedCoverage
+  pub agrees : IsAgreeing held request loaded
+  pub library : library_of loaded.coverage ≡ tiled_library c plan tiles
+
 -- A tree holds the tiled library of a coverage, which may be tiled by a plan into so many tiles: `check` accepts it, since its tables, references
 -- and cycles agree, it says what that library does, and `trace` lists exactly the boundary cycles of the coverage without its lines between tiles,
 -- each dart called by its name.

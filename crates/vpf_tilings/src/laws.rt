@@ -1,6 +1,6 @@
 //! What is so of every tiled library that is made, and of the requests that words spell.
 
-ghost use Rattle.vpf_tilings.specs.Laws.{RequestsHaveNames, TilingsAgree};
+ghost use Rattle.vpf_tilings.specs.Laws.{RequestsHaveNames, TilesAreMade, TilingsAgree, TilingsAreHeld};
 
 use vpf_library_commands::laws::{check_decides_agreement, trace_lists_cycles};
 use vpf_loading::laws::{coverages_are_held, files_are_libraries};
@@ -12,11 +12,17 @@ use vpf_tiled::laws::{listing_is_named, tiled_agrees};
 use vpf_tiled_files::laws::made_is_held;
 use vpf_tileref::laws::stops_decide;
 
+/// Where an untiled coverage agrees and its plan serves, `tile` makes the files of its tiled library.
+pub fn tiles_are_made()
+    ensures { TilesAreMade }
+{}
+
 /// Where the files of a tiled library are made in an empty folder, no two under one name and not too many bytes in all, the tree holds that
 /// library: `check` accepts it, since its tables, references and cycles agree, and `trace` lists exactly the boundary cycles of the coverage without
 /// its lines between tiles, each dart called by its name in the tiles.
 pub fn tilings_agree()
-    ensures { TilingsAgree }
+    ensures held { TilingsAreHeld }
+    ensures listed { TilingsAgree }
 {
     opened_is_read();
     read_is_spelled();

@@ -1,3 +1,4 @@
+use Rattle.std.proofs.Common.{sym}
 use Rattle.std.specs.Prelude.{map, string_bytes}
 use Rattle.vpf.proofs.Answering.{words_answered}
 use Rattle.vpf.proofs.CheckedAnswers.{run_agrees, run_traces}
@@ -37,8 +38,8 @@ returns-clause-traceable g c files request bytes e f done =
 
 pub returns-clause-tiled : goal.returns-clause-tiled
 returns-clause-tiled g c files request parts tables e f cut =
-    c.do_words.ensures.answer _ (words_said _ _ _ files _ e f (c.tiles_are_made.ensures files request parts tables cut))
+    c.do_words.ensures.answer _ (words_said _ _ _ files _ e f (sym (c.tiles_are_made.ensures files request parts tables cut)))
 
 pub returns-clause-rejoined : goal.returns-clause-rejoined
 returns-clause-rejoined g c before after request bytes later e told left done alone =
-    run_tiles c.tilings_agree.ensures c.requests_have_names.ensures c.args.words.now before after request _ _ _ bytes later e told left done alone c.do_words.ensures.answer
+    run_tiles c.tilings_agree.ensures.listed c.requests_have_names.ensures c.args.words.now before after request _ _ _ bytes later e told left done alone c.do_words.ensures.answer
