@@ -5,3 +5,4 @@ pub mod Grammared
 pub mod CheckedAnswers
 pub mod StopLemmas
 pub mod TiledAnswers
+pub mod DrilledAnswers

@@ -26,6 +26,7 @@ use Rattle.vpf_library_commands.specs.Check.{coverage_finding}
 use Rattle.vpf_library_commands.specs.Tile.{TileParts, parts_answer, read_parts, tables_answer, tile_answer, tile_request}
 use Rattle.vpf_library_commands.specs.Tile.{tiled_answer, tiling_answer}
 use Rattle.vpf_library_commands.specs.Check.{check_request}
+use Rattle.vpf_drill.specs.Request.{drill_request}
 use Rattle.vpf_table_commands.specs.Accept.{table_request}
 use Rattle.vpf_table_commands.specs.Cycles.{cycles_request}
 use Rattle.vpf_table_commands.specs.Index.{index_request}
@@ -36,7 +37,7 @@ use Rattle.vpf_tilings.specs.Cutting.{IsCutFrom, cut_files, cut_tables}
 use Rattle.vpf_tilings.specs.Laws.{RequestsHaveNames, TilingsAgree}
 use Rattle.vpf_tilings.specs.Tilings.{HasNames, StandsAlone}
 use Rattle.vpf.specs.declared.command.Command.{Command}
-use Rattle.vpf.specs.declared.command.Command.TheVariants.{Show, Table, Cycles, Swap, Index, Rows, Check, Trace, Tile}
+use Rattle.vpf.specs.declared.command.Command.TheVariants.{Show, Table, Cycles, Swap, Index, Rows, Check, Trace, Tile, Drill}
 use Rattle.vpf.specs.declared.status.Status.{Status}
 use Rattle.vpf.specs.declared.status.Status.TheVariants as statuses
 use Rattle.vpf.specs.Commands.{IsAnswer, command_by, command_of}
@@ -62,6 +63,7 @@ last_verb request false o h = absurd cc
 tile_verb : (verb : List ℕ) (words : List (List ℕ)) (request : TileRequest) → command_by verb words ≡ Some (Tile request) → tile_request words ≡ Some request
 tile_verb verb words request h =
     last_verb request (bytes_eq verb (codes "tile")) (tile_request words)
+    (other_verb Drill (Tile request) (bytes_eq verb (codes "drill")) (drill_request words) _ (λ n e. cc)
     (other_verb Trace (Tile request) (bytes_eq verb (codes "trace")) (check_request words) _ (λ r e. cc)
     (other_verb Check (Tile request) (bytes_eq verb (codes "check")) (check_request words) _ (λ r e. cc)
     (other_verb Rows (Tile request) (bytes_eq verb (codes "rows")) (rows_request words) _ (λ r e. cc)
@@ -69,7 +71,7 @@ tile_verb verb words request h =
     (other_verb Swap (Tile request) (bytes_eq verb (codes "swap")) (swap_request words) _ (λ r e. cc)
     (other_verb Cycles (Tile request) (bytes_eq verb (codes "cycles")) (cycles_request words) _ (λ r e. cc)
     (other_verb Table (Tile request) (bytes_eq verb (codes "table")) (table_request words) _ (λ r e. cc)
-    (other_verb Show (Tile request) (bytes_eq verb (codes "show")) (show_request words) _ (λ r e. cc) h))))))))
+    (other_verb Show (Tile request) (bytes_eq verb (codes "show")) (show_request words) _ (λ r e. cc) h)))))))))
 
 -- the names of a request that words of text spell
 command_names : RequestsHaveNames → (words : List (List ℕ)) (request : TileRequest) → AllByRecursion IsUtf8 words → command_of words ≡ Some (Tile request)

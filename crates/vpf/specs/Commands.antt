@@ -13,8 +13,10 @@ use Rattle.vpf_table_commands.specs.Swap.{swap_answer, swap_request}
 use Rattle.vpf_library_commands.specs.Check.{check_answer, check_request}
 use Rattle.vpf_library_commands.specs.Tile.{tile_answer, tile_request}
 use Rattle.vpf_library_commands.specs.Trace.{IsTraceAnswer}
+use Rattle.vpf_drill.specs.Drill.{IsDrill}
+use Rattle.vpf_drill.specs.Request.{drill_request}
 use Rattle.vpf.specs.declared.command.Command.{Command}
-use Rattle.vpf.specs.declared.command.Command.TheVariants.{Show, Table, Cycles, Swap, Index, Rows, Check, Trace, Tile}
+use Rattle.vpf.specs.declared.command.Command.TheVariants.{Show, Table, Cycles, Swap, Index, Rows, Check, Trace, Tile, Drill}
 
 -- the command of a verb and the words after it
 abbrev pub command_by : List ℕ → List (List ℕ) → Option Command
@@ -27,6 +29,7 @@ command_by verb words =
     else if bytes_eq verb (codes "rows") then option_map Rows (rows_request words)
     else if bytes_eq verb (codes "check") then option_map Check (check_request words)
     else if bytes_eq verb (codes "trace") then option_map Trace (check_request words)
+    else if bytes_eq verb (codes "drill") then option_map Drill (drill_request words)
     else if bytes_eq verb (codes "tile") then option_map Tile (tile_request words)
     else None
 
@@ -46,10 +49,16 @@ IsAnswerTo (Rows request) files answer = answer ≡ rows_answer files request
 IsAnswerTo (Check request) files answer = answer ≡ check_answer files request
 IsAnswerTo (Trace request) files answer = IsTraceAnswer files request answer
 IsAnswerTo (Tile request) files answer = answer ≡ tile_answer files request
+IsAnswerTo (Drill n) files answer = IsDrill n answer
+
+-- the answer of a command that reads no file, whatever the tree holds; any other has none of its own
+abbrev pub IsAnswerAlone : Command → Answer → Type 0
+IsAnswerAlone (Drill n) answer = IsDrill n answer
+IsAnswerAlone command answer = ⊥
 
 -- The answer to words: usage where they are no command, over every tree, and else what the command answers over the files,
--- where the tree tells them.
+-- where the tree tells them; a command that reads none has its answer over every tree.
 abbrev pub IsAnswer : Option Command → Option Files → Answer → Type 0
 IsAnswer None told answer = answer ≡ usage_answer
-IsAnswer (Some command) None answer = ⊥
+IsAnswer (Some command) None answer = IsAnswerAlone command answer
 IsAnswer (Some command) (Some files) answer = IsAnswerTo command files answer

@@ -4,6 +4,7 @@ ghost use Rattle.std.specs.Prelude.{◌≡◌, IfOk, map, string_bytes};
 ghost use Rattle.vpf.specs.Commands.{command_by, command_of};
 
 use std::alloc::{AllocError, Global};
+use vpf_drill::DrillRequest;
 use vpf_library_commands::{CheckRequest, TileRequest};
 use vpf_table_commands::{
     CyclesRequest, IndexRequest, RowsRequest, ShowRequest, SwapRequest, TableRequest,
@@ -30,6 +31,8 @@ pub enum Command {
     Trace(CheckRequest),
     /// Writes the tiled library of an untiled coverage.
     Tile(TileRequest),
+    /// Makes a grid in memory, cuts it into tiles, checks and traces it.
+    Drill(DrillRequest),
 }
 
 /// The command of a verb and the words after it.
@@ -45,6 +48,7 @@ fn read_verb(alloc: Global, verb: &str, words: &[String]) -> Result<Option<Comma
         "rows" => Ok(RowsRequest::read(alloc, words)?.map(Command::Rows)),
         "check" => Ok(CheckRequest::read(alloc, words)?.map(Command::Check)),
         "trace" => Ok(CheckRequest::read(alloc, words)?.map(Command::Trace)),
+        "drill" => Ok(DrillRequest::read(words).map(Command::Drill)),
         "tile" => Ok(TileRequest::read(alloc, words)?.map(Command::Tile)),
         _ => Ok(None),
     }

@@ -6,6 +6,7 @@ ghost use Rattle.vpf.specs.Deciding.{HasAnswer, OneAnswer};
 ghost use Rattle.vpf.specs.Grammar.{FaultsAreSaid, TablesAreSaid};
 ghost use Rattle.vpf.specs.Indexed.{PlainAnswers};
 
+use vpf_drill::laws::{one_drill, requests_can_be_asked};
 use vpf_library_commands::laws::{check_decides_agreement, trace_lists_cycles};
 use vpf_table::laws::{refusals_are_first_faults, spelled_is_opened};
 use vpf_table_commands::laws::{one_cycles_answer, plain_rows};
@@ -17,6 +18,8 @@ pub fn one_answer()
 {
     one_cycles_answer();
     trace_lists_cycles();
+    one_drill();
+    requests_can_be_asked();
 }
 
 /// Where the thematic index of a column agrees with it, the answer of `rows` is that by a plain scan.

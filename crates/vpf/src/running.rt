@@ -1,6 +1,6 @@
 //! The whole program, over any tree and any sink.
 
-ghost use Rattle.std.specs.Prelude.{◌≡◌, ◌≢◌, ◌≤◌, ℕ, List, [], IfOk, IfSome, IsErrOf, None, Some, is_some, map, string_bytes};
+ghost use Rattle.std.specs.Prelude.{◌≡◌, ◌≢◌, ◌≤◌, ◌⊎◌, ℕ, List, [], IfOk, IfSome, IsErrOf, None, Some, is_some, map, string_bytes};
 ghost use Rattle.std.specs.Io.KnownBytes.{Keeps};
 ghost use Rattle.vpf_source.specs.Causes.{Rose, Stood};
 ghost use Rattle.vpf_source.specs.Files.{Files};
@@ -33,8 +33,8 @@ ghost use Rattle.vpf_table_commands.specs.declared.indexing.IndexRequest.{IndexR
 ghost use Rattle.vpf_table_commands.specs.declared.selecting.RowsRequest.{RowsRequest};
 ghost use Rattle.vpf_table_commands.specs.Rows.{IndexAgrees};
 ghost use Rattle.vpf.specs.declared.command.Command.{Command};
-ghost use Rattle.vpf.specs.declared.command.Command.TheVariants.{Check, Index, Rows, Tile, Trace};
-ghost use Rattle.vpf.specs.Commands.{command_of, IsAnswerTo, IsAnswer};
+ghost use Rattle.vpf.specs.declared.command.Command.TheVariants.{Check, Drill, Index, Rows, Tile, Trace};
+ghost use Rattle.vpf.specs.Commands.{command_of, IsAnswerTo, IsAnswer, IsAnswerAlone};
 ghost use Rattle.vpf.specs.Grammar.{HasFile, IsOver, SaysOfTable};
 ghost use Rattle.vpf.specs.Indexed.{AsksForIndexed, IsPlainAnswer};
 ghost use Rattle.vpf.specs.Run.{Carries, IsCompleted, Prints};
@@ -45,6 +45,8 @@ use crate::laws::{
 };
 use crate::status::Status;
 use std::alloc::Global;
+use vpf_drill::drill;
+use vpf_drill::laws::{one_drill, requests_can_be_asked};
 use vpf_library_commands::{check, tile, trace};
 use vpf_replies::{Halt, Reply, Stop, settle, usage};
 use vpf_source::{DeviceError, Sink, Tree, make_all, put_all};
@@ -56,6 +58,8 @@ use vpf_tilings::laws::{requests_have_names, tiles_are_made, tilings_agree};
 /// The reply of a command over a tree.
 fn obey<T: Tree>(alloc: Global, command: &Command, tree: &mut T) -> Result<Reply, Halt>
     ensures told { (files : Files) → T.files tree.old ≡ Some files → ComesTo (IsAnswerTo command.now files) result }
+    ensures alone { (answer : Answer) → IsAnswerAlone command.now answer → ComesTo (IsAnswerAlone command.now) result }
+    ensures drilled { (n : ℕ) → command.now ≡ Drill n → ¬ IsErrOf result (Halt.Stop Stop.TreeFault) }
     ensures fault { TellsFault result (Halt.Stop Stop.TreeFault) (T.faults tree.old) (T.faults tree.new) }
     ensures files { T.files tree.new ≡ T.files tree.old }
 {
@@ -69,6 +73,7 @@ fn obey<T: Tree>(alloc: Global, command: &Command, tree: &mut T) -> Result<Reply
         Command::Check(request) => check(alloc, request, tree),
         Command::Trace(request) => trace(alloc, request, tree),
         Command::Tile(request) => tile(alloc, request, tree),
+        Command::Drill(request) => Ok(drill(alloc, request)?),
     }
 }
 
@@ -78,6 +83,7 @@ fn reply_to<T: Tree>(alloc: Global, words: &[String], tree: &mut T) -> Result<Re
         → IfOk result (IsAnswer (command_of (map string_bytes words.now)) (T.files tree.old)) }
     ensures fault { TellsFault result Stop.TreeFault (T.faults tree.old) (T.faults tree.new) }
     ensures usage { command_of (map string_bytes words.now) ≡ None → ¬ IsErrOf result Stop.TreeFault }
+    ensures drilled { (n : ℕ) → command_of (map string_bytes words.now) ≡ Some (Drill n) → ¬ IsErrOf result Stop.TreeFault }
     ensures files { T.files tree.new ≡ T.files tree.old }
 {
     match read_command(alloc, words)? {
@@ -136,6 +142,7 @@ fn do_words<T: Tree, O: Sink>(alloc: Global, words: &[String], tree: &mut T, out
     ensures completed { (answer : Answer) → IsAnswer (command_of (map string_bytes words.now)) (T.files tree.old) answer
         → ¬ Rose (T.faults tree.old) (T.faults tree.new) → ¬ Rose (O.faults out.old) (O.faults out.new) → IsCompleted answer result }
     ensures usage { command_of (map string_bytes words.now) ≡ None → result ≢ Status.TreeFault }
+    ensures drilled { (n : ℕ) → command_of (map string_bytes words.now) ≡ Some (Drill n) → result ≢ Status.TreeFault }
     ensures silent { result ≡ Status.TreeFault → Keeps (O.written out.old) (O.written out.new) }
     ensures tells { TellsAsBefore (O.written out.old) (O.written out.new) }
     ensures tells_files { is_some (T.files tree.new) ≡ is_some (T.files tree.old) }
@@ -143,6 +150,8 @@ fn do_words<T: Tree, O: Sink>(alloc: Global, words: &[String], tree: &mut T, out
     ensures sink_later { O.faults out.old ≤ O.faults out.new }
 {
     one_answer();
+    one_drill();
+    requests_can_be_asked();
     match reply_to(alloc, words, tree) {
         Ok(reply) => carry_out(tree, out, &reply),
         Err(Stop::TreeFault) => Status::TreeFault,
@@ -224,8 +233,10 @@ pub fn run<T: Tree, O: Sink>(alloc: Global, words: &[String], tree: &mut T, out:
     ensures completed { (answer : Answer) → IsAnswer (command_of (map string_bytes words.now)) (T.files tree.old) answer
         → ¬ Rose (T.faults tree.old) (T.faults tree.new) → ¬ Rose (O.faults out.old) (O.faults out.new) → IsCompleted answer result }
 
-    // These hold over every tree.
+    // These hold over every tree. `drill` is done, unless the sink fails or memory runs out: its grid can be cut into tiles, and what comes of it agrees.
     ensures usage { command_of (map string_bytes words.now) ≡ None → result ≢ Status.TreeFault }
+    ensures drilled { (n : ℕ) → command_of (map string_bytes words.now) ≡ Some (Drill n)
+        → (result ≡ Status.Done) ⊎ ((result ≡ Status.SinkFault) ⊎ (result ≡ Status.NoMemory)) }
     ensures silent { result ≡ Status.TreeFault → Keeps (O.written out.old) (O.written out.new) }
     ensures tells { TellsAsBefore (O.written out.old) (O.written out.new) }
     ensures tells_files { is_some (T.files tree.new) ≡ is_some (T.files tree.old) }
@@ -240,6 +251,8 @@ pub fn run<T: Tree, O: Sink>(alloc: Global, words: &[String], tree: &mut T, out:
     requests_have_names();
     plain_answers();
     one_answer();
+    one_drill();
+    requests_can_be_asked();
     made_indexes_serve();
     indexes_are_elsewhere();
     opened_is_read();

@@ -56,7 +56,7 @@ const FAULTS: [(u64, u64, Status, &str); 7] = [
 ];
 
 /// Words that are no command.
-const NO_COMMANDS: [&[&str]; 12] = [
+const NO_COMMANDS: [&[&str]; 17] = [
     &[],
     &["show"],
     &["show", "t.tab", "t.tab"],
@@ -69,6 +69,11 @@ const NO_COMMANDS: [&[&str]; 12] = [
     &["--help"],
     &["tile", "lib", "cov", "lib/out"],
     &["glue", "lib", "cov", "out"],
+    &["drill"],
+    &["drill", "0"],
+    &["drill", "3"],
+    &["drill", "202"],
+    &["drill", "2", "2"],
 ];
 
 fn put_samples(tree: &mut MemTree) -> Result<(), AllocError> {

@@ -1,6 +1,7 @@
 use Rattle.std.proofs.Common.{sym}
 use Rattle.std.specs.Prelude.{map, string_bytes}
-use Rattle.vpf.proofs.Answering.{words_answered}
+use Rattle.vpf.proofs.Answering.{asked_side, words_answered}
+use Rattle.vpf.proofs.DrilledAnswers.{run_drills}
 use Rattle.vpf.proofs.CheckedAnswers.{run_agrees, run_traces}
 use Rattle.vpf.proofs.Grammared.{words_said}
 use Rattle.vpf.proofs.ServedAnswers.{index_serves}
@@ -43,3 +44,8 @@ returns-clause-tiled g c files request parts tables e f cut =
 pub returns-clause-rejoined : goal.returns-clause-rejoined
 returns-clause-rejoined g c before after request bytes later e told left done alone =
     run_tiles c.tilings_agree.ensures.listed c.requests_have_names.ensures c.args.words.now before after request _ _ _ bytes later e told left done alone c.do_words.ensures.answer
+
+pub returns-clause-drilled : goal.returns-clause-drilled
+returns-clause-drilled g c request e =
+    run_drills c.one_drill.ensures.some _ _ request _ _ _ e (asked_side c.requests_can_be_asked.ensures (map string_bytes c.args.words.now) request e)
+    (c.do_words.ensures.drilled request e) c.do_words.ensures.answer

@@ -1,0 +1,48 @@
+//! What is so of the grid, and of the answers of `drill`.
+
+ghost use Rattle.vpf_drill.specs.Laws.{GridIsTiled, HasDrill, OneDrill};
+ghost use Rattle.vpf_drill.specs.Request.{RequestsCanBeAsked};
+
+use vpf_grid_cutting::laws::{grid_is_held, grid_is_read_to_cut, grid_is_unfound, grid_serves};
+use vpf_library_commands::laws::check_decides_agreement;
+use vpf_loading::laws::coverages_are_held;
+use vpf_table::laws::opened_is_read;
+use vpf_tiled_sizes::laws::{grid_is_small, names_differ};
+use vpf_tileref::laws::stops_decide;
+use vpf_tilings::laws::{requests_have_names, tiles_are_made, tilings_agree};
+use vpf_trace::laws::one_trace;
+use vpf_vectors::laws::tables_say_grid;
+
+/// The coverage of each grid that can be asked for is read, what `tile` makes of it is read, and nothing is found in either.
+pub fn grid_is_tiled()
+    ensures { GridIsTiled }
+{
+    opened_is_read();
+    stops_decide();
+    coverages_are_held();
+    check_decides_agreement();
+    tables_say_grid();
+    grid_is_held();
+    grid_is_read_to_cut();
+    grid_is_unfound();
+    grid_serves();
+    names_differ();
+    grid_is_small();
+    requests_have_names();
+    tiles_are_made();
+    tilings_agree();
+}
+
+/// Each request of `drill` has exactly one answer.
+pub fn one_drill()
+    ensures some { HasDrill }
+    ensures one { OneDrill }
+{
+    grid_is_tiled();
+    one_trace();
+}
+
+/// Words of `drill` spell an even number from 2 to 200.
+pub fn requests_can_be_asked()
+    ensures { RequestsCanBeAsked }
+{}

@@ -1,0 +1,10 @@
+pub mod NameLemmas
+pub mod ByteLemmas
+pub mod TilerefLemmas
+pub mod HeldLemmas
+pub mod PlanLemmas
+pub mod ServingLemmas
+pub mod UnfoundLemmas
+pub mod LoadLemmas
+pub mod ReadLemmas
+pub mod WordLemmas
