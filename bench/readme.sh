@@ -1,13 +1,18 @@
 #!/usr/bin/env bash
-# Types the commands of the README's tour, in a folder of its own, and compares what they print with the lines there. Then words that are
-# no text have to end with status 2.
+# Types the commands of the README's tour and of docs/COMMANDS.md, each page in a folder of its own, and compares what they print with the lines there. Then
+# words that are no text have to end with status 2.
 . "$(dirname "$0")/common.sh"
-cp -R "$here/../examples" "$work"
-cd "$work"
-awk '/^## /{tour = $0 == "## A tour"} tour && /^    /{print substr($0, 5)}' "$here/../README.md" > tour
-type_page tour
+type_in() {
+  mkdir "$work/$1"
+  cp -R "$here/../examples" "$work/$1"
+  cd "$work/$1"
+  awk "$3" "$here/../$2" > page
+  type_page page
+  echo "$2 says what is printed"
+}
+type_in tour README.md '/^## /{tour = $0 == "## A tour"} tour && /^    /{print substr($0, 5)}'
+type_in commands docs/COMMANDS.md '/^```/{fenced = !fenced} !fenced && /^    /{print substr($0, 5)}'
 
 status=0
 "$vpf" show "$(printf '\377')" > printed 2>&1 || status=$?
 [ "$status" = 2 ] || { echo "words that are no text end with status $status" >&2; exit 1; }
-echo "the tour prints what the README says"
