@@ -16,6 +16,8 @@ mod tests_of_checks;
 #[cfg(test)]
 mod tests_of_cycles;
 #[cfg(test)]
+mod tests_of_drills;
+#[cfg(test)]
 mod tests_of_rows;
 #[cfg(test)]
 mod tests_of_swaps;
