@@ -16,14 +16,16 @@ use Rattle.vpf_prims.specs.Tables.{TileTables}
 use Rattle.vpf_loading.specs.Holding.{HoldsBytes}
 use Rattle.vpf_loading.specs.declared.loading.LoadStop.{LoadStop}
 use Rattle.vpf_tileable.specs.declared.refusals.Refusal.{Refusal}
-use Rattle.vpf_tiler.specs.Adding.{first_limit_of}
+use Rattle.vpf_table_files.specs.Adding.{first_limit_of}
 use Rattle.vpf_tiler.specs.CutBy.{plan_refusal}
-use Rattle.vpf_tiler.specs.Making.{unless_limited, unless_refused}
+use Rattle.vpf_tiler.specs.Making.{unless_tile_limited}
+use Rattle.vpf_tiler.specs.Making.{unless_refused}
 use Rattle.vpf_replies.specs.declared.verdict.Verdict.TheVariants.{Done}
 use Rattle.vpf_replies.specs.Answer.{Answer}
-use Rattle.vpf_library_commands.specs.declared.tiling.TileRequest.{TileRequest}
+use Rattle.vpf_library_commands.specs.declared.requesting.MakeRequest.{MakeRequest}
 use Rattle.vpf_library_commands.specs.Check.{coverage_finding}
-use Rattle.vpf_library_commands.specs.Tile.{TileParts, parts_answer, read_parts, tables_answer, tile_answer, tile_request}
+use Rattle.vpf_library_commands.specs.Make.{make_request}
+use Rattle.vpf_library_commands.specs.Tile.{TileParts, parts_answer, read_parts, tables_answer, tile_answer}
 use Rattle.vpf_library_commands.specs.Tile.{tiled_answer, tiling_answer}
 use Rattle.vpf_library_commands.specs.Check.{check_request}
 use Rattle.vpf_drill.specs.Request.{drill_request}
@@ -37,7 +39,7 @@ use Rattle.vpf_tilings.specs.Cutting.{IsCutFrom, cut_files, cut_tables}
 use Rattle.vpf_tilings.specs.Laws.{RequestsHaveNames, TilingsAgree}
 use Rattle.vpf_tilings.specs.Tilings.{HasNames, StandsAlone}
 use Rattle.vpf.specs.declared.command.Command.{Command}
-use Rattle.vpf.specs.declared.command.Command.TheVariants.{Show, Table, Cycles, Swap, Index, Rows, Check, Trace, Tile, Drill}
+use Rattle.vpf.specs.declared.command.Command.TheVariants.{Show, Table, Cycles, Swap, Index, Rows, Check, Trace, Tile, Glue, Drill}
 use Rattle.vpf.specs.declared.status.Status.{Status}
 use Rattle.vpf.specs.declared.status.Status.TheVariants as statuses
 use Rattle.vpf.specs.Commands.{IsAnswer, command_by, command_of}
@@ -55,14 +57,15 @@ other_verb C command true None rest differ h = absurd cc
 other_verb C command true (Some r) rest differ h = absurd (differ r cc)
 other_verb C command false o rest differ h = h
 
-last_verb : (request : TileRequest) (b : Bool) (o : Option TileRequest) → cond b (option_map Tile o) None ≡ Some (Tile request) → o ≡ Some request
+last_verb : (request : MakeRequest) (b : Bool) (o : Option MakeRequest) → cond b (option_map Tile o) None ≡ Some (Tile request) → o ≡ Some request
 last_verb request true None h = absurd cc
 last_verb request true (Some r) h = cc
 last_verb request false o h = absurd cc
 
-tile_verb : (verb : List ℕ) (words : List (List ℕ)) (request : TileRequest) → command_by verb words ≡ Some (Tile request) → tile_request words ≡ Some request
+tile_verb : (verb : List ℕ) (words : List (List ℕ)) (request : MakeRequest) → command_by verb words ≡ Some (Tile request) → make_request words ≡ Some request
 tile_verb verb words request h =
-    last_verb request (bytes_eq verb (codes "tile")) (tile_request words)
+    last_verb request (bytes_eq verb (codes "tile")) (make_request words)
+    (other_verb Glue (Tile request) (bytes_eq verb (codes "glue")) (make_request words) _ (λ r e. cc)
     (other_verb Drill (Tile request) (bytes_eq verb (codes "drill")) (drill_request words) _ (λ n e. cc)
     (other_verb Trace (Tile request) (bytes_eq verb (codes "trace")) (check_request words) _ (λ r e. cc)
     (other_verb Check (Tile request) (bytes_eq verb (codes "check")) (check_request words) _ (λ r e. cc)
@@ -71,10 +74,10 @@ tile_verb verb words request h =
     (other_verb Swap (Tile request) (bytes_eq verb (codes "swap")) (swap_request words) _ (λ r e. cc)
     (other_verb Cycles (Tile request) (bytes_eq verb (codes "cycles")) (cycles_request words) _ (λ r e. cc)
     (other_verb Table (Tile request) (bytes_eq verb (codes "table")) (table_request words) _ (λ r e. cc)
-    (other_verb Show (Tile request) (bytes_eq verb (codes "show")) (show_request words) _ (λ r e. cc) h)))))))))
+    (other_verb Show (Tile request) (bytes_eq verb (codes "show")) (show_request words) _ (λ r e. cc) h))))))))))
 
 -- the names of a request that words of text spell
-command_names : RequestsHaveNames → (words : List (List ℕ)) (request : TileRequest) → AllByRecursion IsUtf8 words → command_of words ≡ Some (Tile request)
+command_names : RequestsHaveNames → (words : List (List ℕ)) (request : MakeRequest) → AllByRecursion IsUtf8 words → command_of words ≡ Some (Tile request)
     → HasNames request
 command_names law [] request all h = absurd cc
 command_names law (verb ∷ words) request all h = law words request all.1 (tile_verb verb words request h)
@@ -86,33 +89,33 @@ words_text (word ∷ words) = (IsUtf8-string_bytes word, words_text words)
 -- ---- what is done is cut from what was read
 
 -- it is cut so, and these files are made
-pub record DoneIsCut (files : Files) (request : TileRequest) (answer : Answer) : Type 0 where
+pub record DoneIsCut (files : Files) (request : MakeRequest) (answer : Answer) : Type 0 where
   pub parts : TileParts
   pub tables : TileTables
   pub cut : IsCutFrom files request parts tables
   pub made : answer.made ≡ cut_files request parts tables
 
 -- nothing speaks against the plan, no table passes a limit, and the files are made
-record IsMade (request : TileRequest) (parts : TileParts) (T : TileTables) (refusal : Option Refusal) (limit : Option (List ℕ × Passed)) (made : List File)
+record IsMade (request : MakeRequest) (parts : TileParts) (T : TileTables) (refusal : Option Refusal) (limit : Option (List ℕ × Passed)) (made : List File)
     : Type 0 where
   serves : refusal ≡ None
   fits : limit ≡ None
   is : made ≡ cut_files request parts T
 
-made_of : (request : TileRequest) (parts : TileParts) (T : TileTables) (refusal : Option Refusal) (limit : Option (List ℕ × Passed))
+made_of : (request : MakeRequest) (parts : TileParts) (T : TileTables) (refusal : Option Refusal) (limit : Option (List ℕ × Passed))
     → first_limit_of (cut_tables request parts T) ≡ limit → (tiled_answer request.out (unless_refused (cut_tables request parts T) refusal)).verdict ≡ Done
     → IsMade request parts T refusal limit (tiled_answer request.out (unless_refused (cut_tables request parts T) refusal)).made
 made_of request parts T (Some refusal) limit same h = absurd cc
 made_of request parts T None (Some limit) same h =
-    absurd (let e : (tiled_answer request.out (unless_limited (cut_tables request parts T) (Some limit))).verdict ≡ Done =
-    subst (λ (l : Option (List ℕ × Passed)). (tiled_answer request.out (unless_limited (cut_tables request parts T) l)).verdict ≡ Done) same h in cc)
+    absurd (let e : (tiled_answer request.out (unless_tile_limited (cut_tables request parts T) (Some limit))).verdict ≡ Done =
+    subst (λ (l : Option (List ℕ × Passed)). (tiled_answer request.out (unless_tile_limited (cut_tables request parts T) l)).verdict ≡ Done) same h in cc)
 made_of request parts T None None same h = record {
   serves = refl;
   fits = refl;
-  is = ap (λ (l : Option (List ℕ × Passed)). (tiled_answer request.out (unless_limited (cut_tables request parts T) l)).made) same;
+  is = ap (λ (l : Option (List ℕ × Passed)). (tiled_answer request.out (unless_tile_limited (cut_tables request parts T) l)).made) same;
 }
 
-cut_of_tables : (files : Files) (request : TileRequest) (parts : TileParts) (tile : Option TileTables)
+cut_of_tables : (files : Files) (request : MakeRequest) (parts : TileParts) (tile : Option TileTables)
     → (read_parts files request.lib request.cov 0).0 ≡ Ok parts
     → coverage_finding parts.coverage.coverage ≡ None → tile_at parts.coverage.coverage 0 ≡ tile
     → (tables_answer request tile parts.plan.grid parts.tileref.grid).verdict ≡ Done
@@ -128,25 +131,25 @@ cut_of_tables files request parts (Some T) read agrees at h =
       made = m.is;
     }
 
-cut_of_finding : (files : Files) (request : TileRequest) (parts : TileParts) (first : Option Disagreement)
+cut_of_finding : (files : Files) (request : MakeRequest) (parts : TileParts) (first : Option Disagreement)
     → (read_parts files request.lib request.cov 0).0 ≡ Ok parts
     → coverage_finding parts.coverage.coverage ≡ first → (tiling_answer request parts first).verdict ≡ Done
     → DoneIsCut files request (tiling_answer request parts first)
 cut_of_finding files request parts (Some d) read found h = absurd cc
 cut_of_finding files request parts None read found h = cut_of_tables files request parts (tile_at parts.coverage.coverage 0) read found refl h
 
-cut_of_parts : (files : Files) (request : TileRequest) (read : Result TileParts LoadStop) → (read_parts files request.lib request.cov 0).0 ≡ read
+cut_of_parts : (files : Files) (request : MakeRequest) (read : Result TileParts LoadStop) → (read_parts files request.lib request.cov 0).0 ≡ read
     → (parts_answer request read).verdict ≡ Done → DoneIsCut files request (parts_answer request read)
 cut_of_parts files request (Err stop) read h = absurd (stop_refuses stop h)
 cut_of_parts files request (Ok parts) read h = cut_of_finding files request parts (coverage_finding parts.coverage.coverage) read refl h
 
 -- where the answer of `tile` is done, it is to make the files of a coverage that can be cut
-pub done_is_cut : (files : Files) (request : TileRequest) → (tile_answer files request).verdict ≡ Done → DoneIsCut files request (tile_answer files request)
+pub done_is_cut : (files : Files) (request : MakeRequest) → (tile_answer files request).verdict ≡ Done → DoneIsCut files request (tile_answer files request)
 done_is_cut files request h = cut_of_parts files request (read_parts files request.lib request.cov 0).0 refl h
 
 -- a run of `tile` that is done leaves the tiled library of what it read
 pub run_tiles : {Z : Type 0} → TilingsAgree → RequestsHaveNames
-    → (words : List (String Z)) (before after : Files) (request : TileRequest) (status : Status) (old new : World)
+    → (words : List (String Z)) (before after : Files) (request : MakeRequest) (status : Status) (old new : World)
     → HoldsBytes before → HoldsBytes after
     → command_of (map string_bytes words) ≡ Some (Tile request) → old.files ≡ Some before → new.files ≡ Some after → status ≡ statuses.Done
     → StandsAlone before request.out (tile_answer before request).made

@@ -3,14 +3,14 @@ use Rattle.std.specs.Prelude.{length}
 use Rattle.vpf_source.specs.Files.{Files}
 use Rattle.vpf_prims.specs.Reading.{primitives_of}
 use Rattle.vpf_prims.specs.Tables.{TileTables}
-use Rattle.vpf_library_commands.specs.declared.tiling.TileRequest.{TileRequest}
+use Rattle.vpf_library_commands.specs.declared.requesting.MakeRequest.{MakeRequest}
 use Rattle.vpf_library_commands.specs.Tile.{TileParts}
 use Rattle.vpf_tilings.specs.Cutting.{IsCutFrom, cut_plan}
 use Rattle.vpf_tilings.specs.Tilings.{HoldsTiling, made_request}
 
 -- What was read before is an untiled coverage that agrees, a table of tiles and a plan that serves, and what is held after is its tiled library:
 -- `check` accepts it, and `trace` lists exactly the boundary cycles of the coverage without its lines between tiles, each dart called by its name.
-pub record IsTiling (before after : Files) (request : TileRequest) : Type 0 where
+pub record IsTiling (before after : Files) (request : MakeRequest) : Type 0 where
   pub parts : TileParts
   pub tables : TileTables
   pub cut : IsCutFrom before request parts tables

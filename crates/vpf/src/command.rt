@@ -5,7 +5,7 @@ ghost use Rattle.vpf.specs.Commands.{command_by, command_of};
 
 use std::alloc::{AllocError, Global};
 use vpf_drill::DrillRequest;
-use vpf_library_commands::{CheckRequest, TileRequest};
+use vpf_library_commands::{CheckRequest, MakeRequest};
 use vpf_table_commands::{
     CyclesRequest, IndexRequest, RowsRequest, ShowRequest, SwapRequest, TableRequest,
 };
@@ -30,7 +30,9 @@ pub enum Command {
     /// Lists the boundary cycles of a coverage of a library, past its lines between tiles.
     Trace(CheckRequest),
     /// Writes the tiled library of an untiled coverage.
-    Tile(TileRequest),
+    Tile(MakeRequest),
+    /// Writes the untiled coverage that the tiles of a coverage are joined into.
+    Glue(MakeRequest),
     /// Makes a grid in memory, cuts it into tiles, checks and traces it.
     Drill(DrillRequest),
 }
@@ -49,7 +51,8 @@ fn read_verb(alloc: Global, verb: &str, words: &[String]) -> Result<Option<Comma
         "check" => Ok(CheckRequest::read(alloc, words)?.map(Command::Check)),
         "trace" => Ok(CheckRequest::read(alloc, words)?.map(Command::Trace)),
         "drill" => Ok(DrillRequest::read(words).map(Command::Drill)),
-        "tile" => Ok(TileRequest::read(alloc, words)?.map(Command::Tile)),
+        "glue" => Ok(MakeRequest::read(alloc, words)?.map(Command::Glue)),
+        "tile" => Ok(MakeRequest::read(alloc, words)?.map(Command::Tile)),
         _ => Ok(None),
     }
 }

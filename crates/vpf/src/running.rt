@@ -15,7 +15,7 @@ ghost use Rattle.vpf_replies.specs.Halting.{ComesTo, TellsFault};
 ghost use Rattle.vpf_loading.specs.Holding.{HoldsBytes};
 ghost use Rattle.vpf_loading.specs.Loading.{LoadedCoverage};
 ghost use Rattle.vpf_library_commands.specs.declared.checking.CheckRequest.{CheckRequest};
-ghost use Rattle.vpf_library_commands.specs.declared.tiling.TileRequest.{TileRequest};
+ghost use Rattle.vpf_library_commands.specs.declared.requesting.MakeRequest.{MakeRequest};
 ghost use Rattle.vpf_library_commands.specs.Agreeing.{Agrees, IsAgreeing};
 ghost use Rattle.vpf_library_commands.specs.Tile.{TileParts, tile_answer};
 ghost use Rattle.vpf_prims.specs.Tables.{TileTables};
@@ -47,7 +47,7 @@ use crate::status::Status;
 use std::alloc::Global;
 use vpf_drill::drill;
 use vpf_drill::laws::{one_drill, requests_can_be_asked};
-use vpf_library_commands::{check, tile, trace};
+use vpf_library_commands::{check, glue, tile, trace};
 use vpf_replies::{Halt, Reply, Stop, settle, usage};
 use vpf_source::{DeviceError, Sink, Tree, make_all, put_all};
 use vpf_table::laws::opened_is_read;
@@ -73,6 +73,7 @@ fn obey<T: Tree>(alloc: Global, command: &Command, tree: &mut T) -> Result<Reply
         Command::Check(request) => check(alloc, request, tree),
         Command::Trace(request) => trace(alloc, request, tree),
         Command::Tile(request) => tile(alloc, request, tree),
+        Command::Glue(request) => glue(alloc, request, tree),
         Command::Drill(request) => Ok(drill(alloc, request)?),
     }
 }
@@ -213,15 +214,15 @@ pub fn run<T: Tree, O: Sink>(alloc: Global, words: &[String], tree: &mut T, out:
 
     // Where an untiled coverage agrees, nothing speaks against its plan, and no file passes a bound, `tile` makes the files of its tiled library:
     // the tables of the tiles, each primitive in the tiles of its faces, in their order, and no others.
-    ensures tiled { (files : Files) (request : TileRequest) (parts : TileParts) (tables : TileTables) → command_of (map string_bytes words.now) ≡ Some (Tile request)
+    ensures tiled { (files : Files) (request : MakeRequest) (parts : TileParts) (tables : TileTables) → command_of (map string_bytes words.now) ≡ Some (Tile request)
         → T.files tree.old ≡ Some files → IsCutFrom files request parts tables
         → Carries (made_answer (cut_files request parts tables)) result (record { files = T.files tree.old; written = O.written out.old })
         (record { files = T.files tree.new; written = O.written out.new }) }
 
-    // And what it makes is that coverage: where `tile` is done, no file stood in its folder before, no two of those that it makes have one name,
-    // and they have no more bytes in all than a run reads, then `check` accepts the library that was made, and `trace` lists exactly the boundary
-    // cycles of the coverage without its lines between tiles, each dart called by its name in the tiles.
-    ensures rejoined { (before after : Files) (request : TileRequest) → HoldsBytes before → HoldsBytes after
+    // And what it makes is that coverage: where `tile` is done, no file stood in its folder before, and those that it makes have no more bytes in all
+    // than a run reads, then `check` accepts the library that was made, and `trace` lists exactly the boundary cycles of the coverage without its
+    // lines between tiles, each dart called by its name in the tiles.
+    ensures rejoined { (before after : Files) (request : MakeRequest) → HoldsBytes before → HoldsBytes after
         → command_of (map string_bytes words.now) ≡ Some (Tile request) → T.files tree.old ≡ Some before → T.files tree.new ≡ Some after
         → result ≡ Status.Done → StandsAlone before request.out (tile_answer before request).made → IsTiling before after request }
 

@@ -85,15 +85,21 @@ held_from_two : (c : Primitives) (plan : ℕ → ℕ) (t f : ℕ) → holds_face
 held_from_two c plan t f h =
     leb-true 2 f (and_parts (leb 2 f) (leb f (length c.faces)) (and_parts (leb 2 f && leb f (length c.faces)) (eqb (plan f) t) h).0).0
 
+-- what is made of the rings of a face is made of those that are kept for it
+pub kept_of_face : {Y : Type 0} → (c : Primitives) (rings : Presence) → KeepsRings c rings → (f : ℕ) → f ≢ 0 → (g : RingPrimitive → Y)
+    → map g (filter (λ r. eqb (id_of r.face) f) c.rings) ≡ map (λ k. g (kth c.rings k absent_ring)) (items_in rings f)
+kept_of_face c rings k f ne g =
+    kept_by_number g (λ r. eqb (id_of r.face) f) c.rings absent_ring
+    ∙ ap (map (λ j. g (kth c.rings j absent_ring))) (sym (ap (λ n. filter (has rings f) (up_to n)) k.count
+    ∙ ap (λ (test : ℕ → ℕ → Bool). filter (test f) (up_to (length c.rings))) k.tests
+    ∙ same_kept (is_at (ring_faces c) f) (λ j. eqb (id_of (kth c.rings j absent_ring).face) f) (at_is c f ne) (up_to (length c.rings))))
+
 -- the rings of a face of a tile are those that are kept for it
 pub rings_kept : (c : Primitives) (rings : Presence) → KeepsRings c rings → (plan : ℕ → ℕ) (t f : ℕ) → holds_face c plan t f ≡ true
     → face_rings c plan t f ≡ map (ring_in c plan t f) (items_in rings f)
-rings_kept c rings k plan t f h = (
+rings_kept c rings k plan t f h =
     let low : 2 ≤ f = held_from_two c plan t f h in
-    kept_by_number (λ r. record { face = local_face c plan t f; edge = local_edge c plan t (id_of r.start_edge) }) (λ r. eqb (id_of r.face) f) c.rings absent_ring
-    ∙ ap (map (ring_in c plan t f)) (sym (ap (λ n. filter (has rings f) (up_to n)) k.count
-    ∙ ap (λ (test : ℕ → ℕ → Bool). filter (test f) (up_to (length c.rings))) k.tests
-    ∙ same_kept (is_at (ring_faces c) f) (λ j. eqb (id_of (kth c.rings j absent_ring).face) f) (at_is c f (λ e. omega arith)) (up_to (length c.rings)))))
+    kept_of_face c rings k f (λ e. omega arith) (λ r. record { face = local_face c plan t f; edge = local_edge c plan t (id_of r.start_edge) })
 
 -- a ring that is kept for a face
 pub record IsKeptRing (c : Primitives) (plan : ℕ → ℕ) (t f k : ℕ) : Type 0 where
@@ -112,27 +118,39 @@ stands_at [] i h = absurd (omega arith)
 stands_at (x ∷ xs) zero h = or_left (eqb x x) (stands_in x xs) (eq-eqb x x refl)
 stands_at (x ∷ xs) (suc i) h = or_right (eqb (get_or xs i 0) x) (stands_in (get_or xs i 0) xs) (stands_at xs i (omega arith))
 
-pub kept_ring : (c : Primitives) → IsWellFormed c → (rings : Presence) → KeepsRings c rings → (plan : ℕ → ℕ) (t f : ℕ) → holds_face c plan t f ≡ true
-    → (i : ℕ) → i < length (items_in rings f) → IsKeptRing c plan t f (get_or (items_in rings f) i 0)
-kept_ring c w rings k plan t f h i lt = (
+-- a ring of a face
+pub record IsRingOfFace (c : Primitives) (f k : ℕ) : Type 0 where
+  pub row : IsRowOf (length c.rings) k
+  pub face : id_of (kth c.rings k absent_ring).face ≡ f
+
+pub kept_at : (c : Primitives) (rings : Presence) → KeepsRings c rings → (f : ℕ) → f ≢ 0 → (i : ℕ) → i < length (items_in rings f)
+    → IsRingOfFace c f (get_or (items_in rings f) i 0)
+kept_at c rings k f ne i lt =
     let r : ℕ = get_or (items_in rings f) i 0 in
     let q = kept_stands (has rings f) r (range_with_len 1 rings.items) (stands_at (items_in rings f) i lt) in
     let b = in_range 1 rings.items r q.1 in
     let low : 1 ≤ r = b.0 in
     let high : r < 1 + rings.items = b.1 in
     let count : rings.items ≡ length c.rings = k.count in
-    let row : IsRowOf (length c.rings) r = (low, omega arith) in
+    record {
+      row = (low, omega arith);
+      face = eqb-true (id_of (kth c.rings r absent_ring).face) f (sym (at_is c f ne r) ∙ sym (ap (λ (test : ℕ → ℕ → Bool). test f r) k.tests) ∙ q.0);
+    }
+
+pub kept_ring : (c : Primitives) → IsWellFormed c → (rings : Presence) → KeepsRings c rings → (plan : ℕ → ℕ) (t f : ℕ) → holds_face c plan t f ≡ true
+    → (i : ℕ) → i < length (items_in rings f) → IsKeptRing c plan t f (get_or (items_in rings f) i 0)
+kept_ring c w rings k plan t f h i lt =
+    let r : ℕ = get_or (items_in rings f) i 0 in
     let two : 2 ≤ f = held_from_two c plan t f h in
-    let face : id_of (kth c.rings r absent_ring).face ≡ f =
-    eqb-true (id_of (kth c.rings r absent_ring).face) f (sym (at_is c f (λ e. omega arith) r) ∙ sym (ap (λ (test : ℕ → ℕ → Bool). test f r) k.tests) ∙ q.0) in
-    let d = w.cycles.ring_cycle r row in
+    let of : IsRingOfFace c f r = kept_at c rings k f (λ e. omega arith) i lt in
+    let d = w.cycles.ring_cycle r of.row in
     let s : StartsRing (untiled c) 0 r d.0 = d.1 in
     let within : is_within c plan t d.0 ≡ true =
-    and_from ((untiled_links c).has d.0) (holds_face c plan t (face_of c d.0)) s.dart.has (ap (holds_face c plan t) (s.face ∙ face) ∙ h) in
+    and_from ((untiled_links c).has d.0) (holds_face c plan t (face_of c d.0)) s.dart.has (ap (holds_face c plan t) (s.face ∙ of.face) ∙ h) in
     record {
-      row = row;
+      row = of.row;
       edge = ap (has_edge c plan t) (sym s.edge) ∙ edge_present c plan t d.0 (or_left (is_within c plan t d.0) _ within);
-    })
+    }
 
 -- ---- as they are made
 

@@ -9,4 +9,4 @@ mod rings;
 mod within;
 
 pub use firsts::first_rings;
-pub use rings::{CutRing, CutRings};
+pub use rings::{CutRing, CutRings, rings_by_face};

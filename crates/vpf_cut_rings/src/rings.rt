@@ -1,7 +1,7 @@
 //! The rings of the tiles of a coverage that is cut.
 
 ghost use Rattle.std.specs.Prelude.{◌≡◌, ◌++◌, ◌<◌, ◌^◌, All, IfOk, OnOk, length, map, true};
-ghost use Rattle.vpf_cut_rings.specs.Rings.{HasSmallNumbers, ring_faces, ring_of};
+ghost use Rattle.vpf_cut_rings.specs.Rings.{HasSmallNumbers, KeepsRings, ring_faces, ring_of};
 ghost use Rattle.vpf_cutting.specs.Cuts.{plan_by};
 ghost use Rattle.vpf_prims.specs.Reading.{primitives_of};
 ghost use Rattle.vpf_tiling.specs.Presence.{holds_face};
@@ -54,15 +54,22 @@ fn ring_faces(alloc: Global, source: &Tile<'_>) -> Result<Vec<u32>, AllocError>
     Ok(faces)
 }
 
+/// Which rings of a coverage, or of a tile, are of which faces: as items that are in faces in place of tiles. The rings are passed once, and
+/// take memory for each.
+pub fn rings_by_face(alloc: Global, source: &Tile<'_>) -> Result<Copies, AllocError>
+    ensures { IfOk result (λ rings. KeepsRings (primitives_of source.now.tables) rings) }
+{
+    source.names_its_own();
+    let faces = ring_faces(alloc, source)?;
+    Copies::of_places(alloc, source.faces(), &faces)
+}
+
 impl<'w, 'c, 'a> CutRings<'w, 'c, 'a> {
     /// The rings of a coverage that is cut. Its rings are passed once, and take memory for each.
     pub fn new(alloc: Global, cut: &'w Cut<'c, 'a>) -> Result<CutRings<'w, 'c, 'a>, AllocError>
         ensures { IfOk result (λ rings. rings ≡ cut.now) }
     {
-        let source = cut.source();
-        source.names_its_own();
-        let faces = ring_faces(alloc, source)?;
-        let by_face = Copies::of_places(alloc, source.faces(), &faces)?;
+        let by_face = rings_by_face(alloc, cut.source())?;
         Ok(CutRings { cut, by_face })
     }
 

@@ -11,8 +11,8 @@ use Rattle.vpf_tileref.specs.Laws.{StopsDecide}
 use Rattle.vpf_loading.specs.Holding.{bytes_in}
 use Rattle.vpf_loading.specs.Laws.{HeldIsRead}
 use Rattle.vpf_loading.specs.Loading.{LoadedCoverage, Read, most_loaded}
-use Rattle.vpf_tiler.specs.Adding.{files_made, first_limit_of}
-use Rattle.vpf_tiler.specs.Tables.{library_tables}
+use Rattle.vpf_table_files.specs.Adding.{files_made, first_limit_of}
+use Rattle.vpf_tile_files.specs.Tables.{library_tables}
 use Rattle.vpf_replies.specs.declared.verdict.Verdict.TheVariants.{Done, Refused}
 use Rattle.vpf_replies.specs.Answer.{Answer, done}
 use Rattle.vpf_library_commands.specs.Agreeing.{CheckCounts}
@@ -23,7 +23,6 @@ use Rattle.vpf_tilings.specs.Laws.{RequestsHaveNames, TilesAreMade, TilingsAreHe
 use Rattle.vpf_tilings.specs.Tilings.{HasNames, StandsAlone, made_request}
 use Rattle.vpf_tilings.proofs.ReadLemmas.{OpenedIsRead}
 use Rattle.vpf_tilings.proofs.SourceLemmas.{AreRead, parts_read}
-use Rattle.vpf_tiled_sizes.specs.Laws.{NamesDifferWithin}
 use Rattle.vpf_tiled_sizes.specs.Sizes.{GridIsLoaded, GridPassesNoLimit}
 use Rattle.vpf_vectors.specs.Library.{TablesSayGrid, coverage_tables}
 use Rattle.vpf_grid_cutting.specs.Held.{GridHoldsBytes, OutIsEmpty, grid_held, tileref_grid}
@@ -47,7 +46,6 @@ pub record Known : Type 0 where
   pub tables : GridHasTables
   pub unfound : GridIsUnfound
   pub serves : GridServes
-  pub names : NamesDifferWithin
   pub limits : GridPassesNoLimit
   pub few : GridIsLoaded
   pub requests : RequestsHaveNames
@@ -80,14 +78,11 @@ bytes_within folder (file ∷ files) = ap (λ n. length file.bytes + n) (bytes_w
 alone : Known → (n : ℕ) → CanBeAsked n → StandsAlone (grid_held n) grid_request.out (cut_files grid_request (grid_parts n) (grid_tile_tables n))
 alone k n can =
     let files : List File = files_made (library_tables grid_request.cov (coverage_tables n) (primitives_of (coverage_tables n)) (grid_plan n) (tileref_grid n)) in
-    let text : HasNames grid_request = k.requests grid_words grid_request k.asked.0 k.asked.1 in
     let few : bytes_in files ≤ most_loaded =
     subst (λ (c : Primitives). bytes_in (files_made (library_tables grid_request.cov (coverage_tables n) c (grid_plan n) (tileref_grid n))) ≤ most_loaded) (sym (k.says n))
     (k.few n grid_request.cov (grid_plan n) can.most) in
     record {
       empty = k.empty n;
-      apart = k.names grid_request.out grid_request.cov (coverage_tables n) (primitives_of (coverage_tables n)) (grid_plan n) (tileref_grid n) text.cov
-          ((k.stops (tileref_grid n)).0 (parts_are k n can).goes_on).0;
       few = subst (λ m. m ≤ most_loaded) (sym (bytes_within grid_request.out files)) few;
     }
 

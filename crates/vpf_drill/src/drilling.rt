@@ -27,7 +27,7 @@ use vpf_coverage::Coverage;
 use vpf_cross::check_coverage;
 use vpf_darts::Listing;
 use vpf_findings::FindError;
-use vpf_library_commands::{TileRequest, tile, totals_of};
+use vpf_library_commands::{MakeRequest, tile, totals_of};
 use vpf_replies::{Reply, Stop, Verdict, listed, settle};
 use vpf_source::{File, Name, SureTree, Tree};
 use vpf_trace::trace;
@@ -66,13 +66,13 @@ fn named(alloc: Global, text: &str) -> Result<Name, AllocError>
 }
 
 /// That the grid is cut into tiles, as a library beside it.
-fn grid_request(alloc: Global) -> Result<TileRequest, AllocError>
+fn grid_request(alloc: Global) -> Result<MakeRequest, AllocError>
     ensures { IfOk result (λ request. request ≡ grid_request) }
 {
     let lib = named(alloc, LIBRARY)?;
     let cov = named(alloc, COVERAGE)?;
     let out = named(alloc, TILED)?;
-    Ok(TileRequest { lib, cov, out })
+    Ok(MakeRequest { lib, cov, out })
 }
 
 /// Cuts the grid that the tree holds into tiles, and makes their files beside it. The reply has these files.

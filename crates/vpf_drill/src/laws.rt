@@ -7,7 +7,7 @@ use vpf_grid_cutting::laws::{grid_is_held, grid_is_read_to_cut, grid_is_unfound,
 use vpf_library_commands::laws::check_decides_agreement;
 use vpf_loading::laws::coverages_are_held;
 use vpf_table::laws::opened_is_read;
-use vpf_tiled_sizes::laws::{grid_is_small, names_differ};
+use vpf_tiled_sizes::laws::grid_is_small;
 use vpf_tileref::laws::stops_decide;
 use vpf_tilings::laws::{requests_have_names, tiles_are_made, tilings_agree};
 use vpf_trace::laws::one_trace;
@@ -26,7 +26,6 @@ pub fn grid_is_tiled()
     grid_is_read_to_cut();
     grid_is_unfound();
     grid_serves();
-    names_differ();
     grid_is_small();
     requests_have_names();
     tiles_are_made();

@@ -8,13 +8,14 @@ use Rattle.vpf_grid.specs.Rows.{edge_rows, face_rows, ring_rows, node_rows}
 use Rattle.vpf_vectors.specs.Heads.{face_head, node_head}
 use Rattle.vpf_vectors.specs.Library.{coverage_tables}
 use Rattle.vpf_vectors.specs.Tables.{edge_table, pair_table, ring_table}
-use Rattle.vpf_library_commands.specs.declared.tiling.TileRequest.{TileRequest}
+use Rattle.vpf_library_commands.specs.declared.requesting.MakeRequest.{MakeRequest}
 use Rattle.vpf_library_commands.specs.Check.{coverage_finding}
-use Rattle.vpf_library_commands.specs.Tile.{TileParts, read_parts, tile_request}
+use Rattle.vpf_library_commands.specs.Make.{make_request}
+use Rattle.vpf_library_commands.specs.Tile.{TileParts, read_parts}
 use Rattle.vpf_grid_cutting.specs.Held.{grid_held, grid_out, plan_grid, read_alone, tileref_grid}
 
 -- the request that its coverage `g` is cut into tiles, as a library in the folder beside it
-abbrev pub grid_request : TileRequest
+abbrev pub grid_request : MakeRequest
 grid_request = record { lib = codes "grid"; cov = codes "g"; out = grid_out }
 
 -- the words of it
@@ -23,7 +24,7 @@ grid_words = codes "grid" ∷ codes "g" ∷ codes "out" ∷ []
 
 -- they are text, and spell it
 abbrev pub GridIsAsked : Type 0
-GridIsAsked = AllByRecursion IsUtf8 grid_words × (tile_request grid_words ≡ Some grid_request)
+GridIsAsked = AllByRecursion IsUtf8 grid_words × (make_request grid_words ≡ Some grid_request)
 
 -- the tables of the coverage
 abbrev pub grid_tile : ℕ → LoadedTile

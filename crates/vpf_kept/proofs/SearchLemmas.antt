@@ -12,7 +12,7 @@ use Rattle.vpf_darts.specs.declared.darts.TileDart.{TileDart}
 use Rattle.vpf_darts.specs.Darts.{tile_dart_code}
 use Rattle.vpf_wing.specs.DartLaws.{stands_in}
 use Rattle.vpf_kept.specs.Kept.{AreInOrder, place_among}
-use Rattle.vpf_kept.proofs.RankLemmas.{at_place, place_of_at, rises}
+use Rattle.vpf_kept.specs.PlaceLaws.{at_place, place_of_at, rises}
 
 -- a comparison of darts is that of their numbers
 abbrev pub ComparesNumbers : (TileDart → TileDart → Ordering) → Type 0

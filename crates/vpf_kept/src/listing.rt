@@ -1,6 +1,6 @@
 //! The cycles of the darts that a walk keeps.
 
-ghost use Rattle.std.specs.Prelude.{◌≡◌, IfOk, map, true};
+ghost use Rattle.std.specs.Prelude.{◌≡◌, ◌<◌, IfOk, length, map, true};
 ghost use Rattle.std.proofs.Props.{props};
 ghost use Rattle.vpf_darts.specs.Cycles.{IsListing};
 ghost use Rattle.vpf_darts.specs.Darts.{tile_dart_code};
@@ -14,10 +14,11 @@ use vpf_darts::laws::{numbers_keep_order, renaming_keeps_cycles};
 use vpf_darts::{Listing, Ranked, TileDart, Walk, list_cycles, next_kept};
 
 /// The place of a dart among darts in their order, from 0: a binary search.
-fn place_of(darts: &[TileDart], dart: TileDart) -> usize
+pub fn place_of(darts: &[TileDart], dart: TileDart) -> usize
     requires order { AreInOrder darts.now }
     requires there { stands_in (tile_dart_code dart) (map tile_dart_code darts.now) ≡ true }
-    ensures { result ≡ place_among (map tile_dart_code darts.now) (tile_dart_code dart) }
+    ensures place { result ≡ place_among (map tile_dart_code darts.now) (tile_dart_code dart) }
+    ensures inside { result < length darts.now }
 {
     numbers_keep_order();
     match darts.binary_search(&dart) {

@@ -5,3 +5,4 @@ pub mod TotalLemmas
 pub mod TraceAnswers
 pub mod TileAnswers
 pub mod TileLoads
+pub mod GlueAnswers

@@ -4,5 +4,7 @@ pub mod Check
 pub mod Agreeing
 pub mod Example
 pub mod Trace
+pub mod Make
 pub mod Tile
 pub mod TileFiles
+pub mod Glue

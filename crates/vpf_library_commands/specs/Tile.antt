@@ -1,11 +1,8 @@
 -- `tile`: the files of the tiled library of an untiled coverage.
-use Rattle.std.specs.Prelude.{◌≡◌, ℕ, ◌||◌, ◌&&◌, ◌==◌, Bool, List, [], ◌∷◌, length, map, codes, nat_eq, nat_le, slice_index_or, if◌then◌else◌}
-use Rattle.std.specs.Prelude.{Option, Some, None, Result, Ok, Err}
+use Rattle.std.specs.Prelude.{◌≡◌, ℕ, List, [], map, codes, Option, Some, None, Result, Ok, Err}
 use Rattle.std.specs.Fmt.{decimal, signed_decimal}
-use Rattle.std.specs.List.{ends_with, starts_with}
 use Rattle.vpf_source.specs.Files.{Files}
 use Rattle.vpf_source.specs.declared.file.File.{File}
-use Rattle.vpf_names.specs.Naming.{coverage_name, file_name, slash}
 use Rattle.vpf_findings.specs.Findings.{Disagreement}
 use Rattle.vpf_findings.specs.Printing.{disagree_text}
 use Rattle.vpf_table.specs.Grid.{Grid}
@@ -25,27 +22,9 @@ use Rattle.vpf_tiler.specs.Making.{tiled}
 use Rattle.vpf_replies.specs.Answer.{Answer, limited, refused}
 use Rattle.vpf_replies.specs.Making.{made_answer}
 use Rattle.vpf_replies.specs.Texts.{limit_text}
-use Rattle.vpf_library_commands.specs.declared.tiling.TileRequest.{TileRequest}
+use Rattle.vpf_library_commands.specs.declared.requesting.MakeRequest.{MakeRequest}
 use Rattle.vpf_library_commands.specs.Check.{coverage_finding, place_name}
 use Rattle.vpf_library_commands.specs.Stopping.{stop_answer}
-
--- the parts of the name of a folder are the first parts of this name: it begins with that of the folder, and ends there or goes on behind a slash
-abbrev pub is_inside : (folder name : List ℕ) → Bool
-is_inside folder name =
-    starts_with nat_eq name folder
-    && (nat_le (length name) (length folder) || (ends_with nat_eq folder (slash ∷ []) || (slice_index_or name (length folder) 0 == slash)))
-
--- the request of a library, a coverage and a folder for the tiled library, which can't be within the library that is read
-abbrev pub tile_request_of : Option (List ℕ) → Option (List ℕ) → Option (List ℕ) → Option TileRequest
-tile_request_of None cov out = None
-tile_request_of (Some lib) None out = None
-tile_request_of (Some lib) (Some cov) None = None
-tile_request_of (Some lib) (Some cov) (Some out) = if is_inside lib out then None else Some (record { lib = lib; cov = cov; out = out })
-
--- the request that the words after the verb spell
-abbrev pub tile_request : List (List ℕ) → Option TileRequest
-tile_request (lib ∷ cov ∷ out ∷ []) = tile_request_of (file_name lib) (coverage_name cov) (file_name out)
-tile_request words = None
 
 -- what is read: an untiled coverage, the table of tiles of its library, and its plan
 pub record TileParts : Type 0 where
@@ -93,20 +72,20 @@ IsUntiledAnswer out errors.NoMemory answer = ⊥
 IsUntiledAnswer out error answer = answer ≡ tiled_answer out (Err error)
 
 -- the answer over the tables of a coverage that agrees
-abbrev pub tables_answer : TileRequest → Option TileTables → (plan tileref : Grid) → Answer
+abbrev pub tables_answer : MakeRequest → Option TileTables → (plan tileref : Grid) → Answer
 tables_answer request None plan tileref = refused []
 tables_answer request (Some T) plan tileref = tiled_answer request.out (tiled request.cov T.tables plan tileref)
 
 -- the answer over what was read, by the first finding on the coverage
-abbrev pub tiling_answer : TileRequest → TileParts → Option Disagreement → Answer
+abbrev pub tiling_answer : MakeRequest → TileParts → Option Disagreement → Answer
 tiling_answer request parts None = tables_answer request (tile_at parts.coverage.coverage 0) parts.plan.grid parts.tileref.grid
 tiling_answer request parts (Some d) = refused (disagree_text (place_name parts.coverage.files d.file) d)
 
 -- the answer to what was read
-abbrev pub parts_answer : TileRequest → Result TileParts LoadStop → Answer
+abbrev pub parts_answer : MakeRequest → Result TileParts LoadStop → Answer
 parts_answer request (Ok parts) = tiling_answer request parts (coverage_finding parts.coverage.coverage)
 parts_answer request (Err stop) = stop_answer stop
 
 -- the answer over the files of a tree
-abbrev pub tile_answer : Files → TileRequest → Answer
+abbrev pub tile_answer : Files → MakeRequest → Answer
 tile_answer files request = parts_answer request (read_parts files request.lib request.cov 0).0

@@ -2,13 +2,17 @@
 #![tactic(auto)]
 
 mod checking;
+mod gluing;
 pub mod laws;
+mod requesting;
 mod stopping;
 mod tiling;
 mod totals;
 mod tracing;
 
 pub use checking::{CheckRequest, check};
-pub use tiling::{TileRequest, tile};
+pub use gluing::glue;
+pub use requesting::MakeRequest;
+pub use tiling::tile;
 pub use totals::{Totals, totals_of};
 pub use tracing::trace;

@@ -4,7 +4,6 @@ ghost use Rattle.std.specs.Prelude.{◌≡◌, ◌≤◌, ◌++◌, ℕ, IfOk, I
 ghost use Rattle.std.specs.Fmt.{decimal, signed_decimal};
 ghost use Rattle.vpf_source.specs.Causes.{Rose, Stood};
 ghost use Rattle.vpf_source.specs.Files.{Files};
-ghost use Rattle.vpf_names.specs.Naming.{coverage_name, file_name};
 ghost use Rattle.vpf_text.specs.Texts.{◌&◌};
 ghost use Rattle.vpf_findings.specs.Firsts.{Tells};
 ghost use Rattle.vpf_prims.specs.Coverages.{CoverageTables, tile_at};
@@ -16,83 +15,25 @@ ghost use Rattle.vpf_cross.specs.CrossFinding.{topology_finding};
 ghost use Rattle.vpf_replies.specs.Answer.{refused};
 ghost use Rattle.vpf_replies.specs.Halting.{ComesTo, TellsFault};
 ghost use Rattle.vpf_library_commands.specs.Check.{coverage_finding};
-ghost use Rattle.vpf_library_commands.specs.Tile.{is_inside, tile_request, tile_request_of};
 ghost use Rattle.vpf_library_commands.specs.Tile.{TileParts, plan_name, read_parts};
 ghost use Rattle.vpf_library_commands.specs.Tile.{IsUntiledAnswer, file_within, refusal_reason, untiled_text};
 ghost use Rattle.vpf_library_commands.specs.Tile.{tables_answer, tile_answer, tiling_answer};
 ghost use Rattle.vpf_library_commands.specs.TileFiles.{ArePartsFiles, ArePartsOf};
 
 use crate::checking::named;
+use crate::requesting::MakeRequest;
 use crate::stopping::stopped;
 use std::alloc::{AllocError, Global};
 use vpf_coverage::{Coverage, open_coverage};
 use vpf_cross::{Checked, check_coverage};
 use vpf_findings::FindError;
 use vpf_loading::{LoadStop, load_tileref, table_in, within};
-use vpf_names::{coverage_name, file_name};
 use vpf_plan::{load_plan, load_untiled, open_plan};
 use vpf_replies::{Halt, Reply, Stop, Verdict, disagreement, limit, makes};
 use vpf_source::{File, Name, Tree};
 use vpf_tileable::Refusal;
 use vpf_tiler::TileError;
 use vpf_tileref::laws::stops_decide;
-
-/// A coverage of a library that is cut into tiles.
-#[derive(Debug, Drop)]
-pub struct TileRequest {
-    /// The folder of the library.
-    pub lib: Name,
-    /// The coverage in that folder.
-    pub cov: Name,
-    /// The folder of the tiled library that is made.
-    pub out: Name,
-}
-
-/// Whether the parts of the name of a folder are the first parts of this name.
-fn is_inside(folder: &str, name: &str) -> bool
-    ensures { result ≡ is_inside folder.now name.now }
-{
-    let (folder, name) = (folder.as_bytes(), name.as_bytes());
-    name.starts_with(folder)
-        && (name.len() <= folder.len() || folder.ends_with(b"/") || name[folder.len()] == b'/')
-}
-
-/// The request of three words.
-fn read_words(
-    alloc: Global,
-    lib: &str,
-    cov: &str,
-    out: &str,
-) -> Result<Option<TileRequest>, AllocError>
-    ensures { IfOk result (λ request. request ≡ tile_request_of (file_name lib.now) (coverage_name cov.now) (file_name out.now)) }
-{
-    let Some(lib) = file_name(alloc, lib)? else {
-        return Ok(None);
-    };
-    let Some(cov) = coverage_name(alloc, cov)? else {
-        return Ok(None);
-    };
-    let Some(out) = file_name(alloc, out)? else {
-        return Ok(None);
-    };
-    if is_inside(lib.as_str(), out.as_str()) {
-        return Ok(None);
-    }
-    Ok(Some(TileRequest { lib, cov, out }))
-}
-
-impl TileRequest {
-    /// The request that the words after the verb spell, or nothing where they spell none: where the folder that is made is that of the library, or
-    /// within it.
-    pub fn read(alloc: Global, words: &[String]) -> Result<Option<Self>, AllocError>
-        ensures { IfOk result (λ request. request ≡ tile_request (map string_bytes words.now)) }
-    {
-        match words {
-            [lib, cov, out] => read_words(alloc, lib, cov, out),
-            _ => Ok(None),
-        }
-    }
-}
 
 /// What is read: an untiled coverage, the table of tiles of its library, and its plan.
 #[derive(Drop)]
@@ -151,7 +92,11 @@ fn moved(alloc: Global, folder: &str, file: File) -> Result<File, AllocError>
 }
 
 /// The files under their names in a folder.
-fn all_within(alloc: Global, folder: &str, files: Vec<File>) -> Result<Vec<File>, AllocError>
+pub(crate) fn all_within(
+    alloc: Global,
+    folder: &str,
+    files: Vec<File>,
+) -> Result<Vec<File>, AllocError>
     ensures { IfOk result (λ all. all.items ≡ map (file_within folder.now) files.items) }
 {
     let mut all = Vec::with_capacity(alloc, files.len())?;
@@ -226,7 +171,7 @@ fn untiled(alloc: Global, out: &str, error: TileError) -> Result<Reply, AllocErr
 fn tiled(
     alloc: Global,
     files: &TileFiles,
-    request: &TileRequest,
+    request: &MakeRequest,
     checked: &Checked<'_, '_>,
 ) -> Result<Reply, AllocError>
     requires parts { ArePartsOf request.now.lib request.now.cov files.now }
@@ -248,7 +193,7 @@ fn tiled(
 fn checked(
     alloc: Global,
     files: &TileFiles,
-    request: &TileRequest,
+    request: &MakeRequest,
     coverage: &Coverage<'_>,
 ) -> Result<Reply, AllocError>
     requires parts { ArePartsOf request.now.lib request.now.cov files.now }
@@ -269,7 +214,7 @@ fn checked(
 fn opened<'a>(
     alloc: Global,
     files: &'a [File],
-    request: &TileRequest,
+    request: &MakeRequest,
 ) -> Result<Coverage<'a>, FindError<'a>>
     requires { (c : CoverageTables) × AreUntiledFiles request.now.lib request.now.cov c files.now }
     ensures first { (c : CoverageTables) → AreUntiledFiles request.now.lib request.now.cov c files.now → Tells result (coverage_numbers c) }
@@ -288,7 +233,7 @@ fn opened<'a>(
 }
 
 /// The reply over files that were loaded.
-fn read(alloc: Global, files: &TileFiles, request: &TileRequest) -> Result<Reply, AllocError>
+fn read(alloc: Global, files: &TileFiles, request: &MakeRequest) -> Result<Reply, AllocError>
     requires { ArePartsOf request.now.lib request.now.cov files.now }
     ensures { (parts : TileParts) → ArePartsFiles request.now.lib request.now.cov files.now parts
         → IfOk result (λ reply. reply ≡ tiling_answer request.now parts (coverage_finding parts.coverage.coverage)) }
@@ -305,7 +250,7 @@ fn read(alloc: Global, files: &TileFiles, request: &TileRequest) -> Result<Reply
 /// Does `tile`: checks an untiled coverage as `check` does, and makes the files of its tiled library by its plan and the table of tiles of its
 /// library, or tells why there is none: the first place that disagrees, the first cause against the plan, or the first bound that a file
 /// would pass. All files are composed before the first is made (MIL-STD-2407, 5.2.3, tiled coverages and cross-tile topology).
-pub fn tile<T: Tree>(alloc: Global, request: &TileRequest, tree: &mut T) -> Result<Reply, Halt>
+pub fn tile<T: Tree>(alloc: Global, request: &MakeRequest, tree: &mut T) -> Result<Reply, Halt>
     ensures told { (files : Files) → T.files tree.old ≡ Some files → ComesTo (λ answer. answer ≡ tile_answer files request.now) result }
     ensures fault { TellsFault result (Halt.Stop Stop.TreeFault) (T.faults tree.old) (T.faults tree.new) }
     ensures files { T.files tree.new ≡ T.files tree.old }

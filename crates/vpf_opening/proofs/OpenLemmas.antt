@@ -7,10 +7,11 @@ use Rattle.vpf_table.specs.Grid.{Grid}
 use Rattle.vpf_table.specs.Opening.{opened_of}
 use Rattle.vpf_table.specs.Reading.{table_of}
 use Rattle.vpf_table.specs.Spans.{IsOpened}
+use Rattle.vpf_prims.specs.Coverages.{CoverageTables}
 use Rattle.vpf_prims.specs.Reading.{PrimitiveTables}
 use Rattle.vpf_prims.specs.Tables.{files_of_grid}
-use Rattle.vpf_loading.specs.Loading.{within}
-use Rattle.vpf_loading.specs.Holding.{AreFilesOf, AreFilesOfOption, AreTileFiles}
+use Rattle.vpf_loading.specs.Loading.{tileref_name, within}
+use Rattle.vpf_loading.specs.Holding.{AreFilesOf, AreFilesOfOption, AreTileFiles, AreTiledFiles}
 use Rattle.vpf_opening.specs.Opens.{Opens, OpensEnd, OpensTables, OpensFolder, is_first, files_of_option, files_of_tables}
 use Rattle.vpf_opening.proofs.NameLemmas.{same_name}
 
@@ -29,6 +30,13 @@ table_opens spelled read name grid mine rest (inl plain) =
 table_opens spelled read name grid mine rest (inr indexed) =
     let opened = spelled indexed.bytes (Some indexed.index) grid indexed.opened in
     inr (record { file = record { name = name; bytes = indexed.bytes }; index = record { name = index_name name; bytes = indexed.index }; are = rw indexed.are refl; read = read indexed.bytes (Some indexed.index) grid opened; opened = opened; varies = indexed.varies })
+
+-- the files of a tiled coverage begin with its table of tiles
+pub tileref_opens : SpelledOpens → OpenedReads → (lib cov : List ℕ) (c : CoverageTables) (files : List File) (are : AreTiledFiles lib cov c files)
+    → Opens are.tileref are.behind files
+tileref_opens spelled read lib cov c files are =
+    subst (λ (f : List File). Opens are.tileref are.behind f) (sym are.are)
+    (table_opens spelled read (tileref_name lib) are.tileref are.before are.behind are.tileref_is)
 
 -- the first of them has the name of the table
 pub record Begins (name : List ℕ) (files : List File) : Type 0 where

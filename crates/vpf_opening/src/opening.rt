@@ -7,7 +7,7 @@ ghost use Rattle.vpf_prims.specs.Coverages.{CoverageTables, untiled_coverage};
 ghost use Rattle.vpf_prims.specs.Reading.{PrimitiveTables};
 ghost use Rattle.vpf_prims.specs.Tables.{TileTables, files_of_grid};
 ghost use Rattle.vpf_tileref.specs.Stops.{path_texts, tileref_stop};
-ghost use Rattle.vpf_loading.specs.Holding.{AreCoverageFiles, AreOfCoverage};
+ghost use Rattle.vpf_loading.specs.Holding.{AreCoverageFiles, AreOfCoverage, AreTiledFiles};
 ghost use Rattle.vpf_loading.specs.Loading.{within};
 ghost use Rattle.vpf_prims.specs.Views.{tables_in_view};
 ghost use Rattle.vpf_opening.specs.Opened.{opened_coverage, placed_views, tables_in_views};
@@ -58,8 +58,8 @@ fn files_open()
     stops_decide();
 }
 
-/// The table of tiles: the paths in it, and how many files it is, which are taken.
-fn open_tileref<'a>(alloc: Global, files: &mut &'a [File]) -> Result<(TilePaths, u32), AllocError>
+/// The paths in the table of tiles, and how many files it is, which are taken.
+fn open_paths<'a>(alloc: Global, files: &mut &'a [File]) -> Result<(TilePaths, u32), AllocError>
     requires { IsOpeningTileref files.old.now }
     ensures paths { (tileref : Grid) (rest : List SourceFile) → OpensTileref tileref rest files.old.now → IfOk result (λ opened. opened.0 ≡ path_texts tileref) }
     ensures count { (tileref : Grid) (rest : List SourceFile) → OpensTileref tileref rest files.old.now → IfOk result (λ opened. opened.1 ≡ files_of_grid tileref) }
@@ -130,7 +130,7 @@ fn open_tiled<'a>(
     ensures alike { IfOk result (λ o. length o.firsts.items ≡ length o.tiles.items) }
     ensures few { IfOk result (λ o. All (λ first. first < 2 ^ 31) o.firsts.items) }
 {
-    let (paths, at) = open_tileref(alloc, &mut files)?;
+    let (paths, at) = open_paths(alloc, &mut files)?;
     let (firsts, tiles) = open_tiles(alloc, folder, &paths, at, files)?;
     Ok(OpenCoverage {
         paths: Some(paths),
@@ -191,4 +191,19 @@ pub fn open_files<'a>(
     files_open();
     let folder = within(alloc, lib, cov)?;
     open_coverage(alloc, folder.as_str(), files)
+}
+
+/// The table of tiles of a tiled coverage, which stands first among its files in the order in which they were read.
+pub fn open_tileref<'a>(
+    alloc: Global,
+    mut files: &'a [File],
+    lib: &str,
+    cov: &str,
+) -> Result<TableView<'a>, AllocError>
+    requires { (c : CoverageTables) × AreTiledFiles lib.now cov.now c files.now }
+    ensures { (c : CoverageTables) (are : AreTiledFiles lib.now cov.now c files.entry.now) → IfOk result (λ table. table ≡ are.tileref) }
+{
+    spelled_is_opened();
+    opened_is_read();
+    next_table(alloc, &mut files)
 }

@@ -3,7 +3,7 @@ use Rattle.std.specs.Prelude.{ℕ, List, codes}
 use Rattle.vpf_text.specs.Texts.{◌&◌}
 use Rattle.vpf_text.specs.Bytes.{printed}
 use Rattle.vpf_replies.specs.declared.refusing.Refusal.{Refusal}
-use Rattle.vpf_replies.specs.declared.refusing.Refusal.TheVariants.{Missing, Variable, NoColumn, NoIndex, BadValue}
+use Rattle.vpf_replies.specs.declared.refusing.Refusal.TheVariants.{Missing, Variable, Untiled, NoColumn, NoIndex, BadValue}
 use Rattle.vpf_replies.specs.Answer.{Answer, refused}
 
 -- why a file or a word isn't taken, with what is named
@@ -12,6 +12,8 @@ pub data Reason : Type 0 where
   MissingFile : List ℕ → Reason
   -- the rows of the table in the file of this name aren't of one length
   VaryingRows : List ℕ → Reason
+  -- the coverage isn't tiled: it has edges of its own, in the file of this name
+  UntiledCoverage : List ℕ → Reason
   -- the table has no column of this name
   AbsentColumn : List ℕ → Reason
   -- no thematic index can be made of the column of this name
@@ -22,6 +24,7 @@ pub data Reason : Type 0 where
 abbrev pub reason_of : Refusal → Reason
 reason_of (Missing name) = MissingFile name.now
 reason_of (Variable name) = VaryingRows name.now
+reason_of (Untiled name) = UntiledCoverage name.now
 reason_of (NoColumn name) = AbsentColumn name.now
 reason_of (NoIndex name) = PlainColumn name.now
 reason_of (BadValue name) = OtherValue name.now
@@ -34,6 +37,7 @@ named_text reason name = reason & codes " " & printed name
 abbrev pub reason_text : Reason → List ℕ
 reason_text (MissingFile name) = named_text (codes "missing") name
 reason_text (VaryingRows name) = named_text (codes "variable") name
+reason_text (UntiledCoverage name) = named_text (codes "untiled") name
 reason_text (AbsentColumn name) = named_text (codes "no-column") name
 reason_text (PlainColumn name) = named_text (codes "no-index") name
 reason_text (OtherValue name) = named_text (codes "bad-value") name

@@ -15,6 +15,8 @@ pub enum Refusal<'a> {
     Missing(&'a str),
     /// The rows of the table in the file of this name aren't of one length.
     Variable(&'a str),
+    /// The coverage isn't tiled: it has edges of its own, in the file of this name.
+    Untiled(&'a str),
     /// The table has no column of this name.
     NoColumn(&'a str),
     /// No thematic index can be made of the column of this name.
@@ -39,6 +41,7 @@ fn put_reason(text: &mut String, refusal: Refusal<'_>) -> Result<(), AllocError>
     match refusal {
         Refusal::Missing(name) => put_word(text, "missing", name),
         Refusal::Variable(name) => put_word(text, "variable", name),
+        Refusal::Untiled(name) => put_word(text, "untiled", name),
         Refusal::NoColumn(name) => put_word(text, "no-column", name),
         Refusal::NoIndex(name) => put_word(text, "no-index", name),
         Refusal::BadValue(name) => put_word(text, "bad-value", name),

@@ -18,7 +18,8 @@ use Rattle.vpf_prims.specs.Roles.{Role, edge_roles, entity_roles, face_roles, no
 use Rattle.vpf_prims.specs.Suiting.{HasColumns, HasRoles}
 use Rattle.vpf_prims.specs.Tables.{TileTables}
 use Rattle.vpf_tiling.specs.Tiles.{is_made}
-use Rattle.vpf_tile_tables.specs.Grids.{edge_kinds, entities_made, named_kind, pair_kinds, ring_kinds}
+use Rattle.vpf_table_forms.specs.Forms.{named_kind, pair_kinds, ring_kinds}
+use Rattle.vpf_tile_tables.specs.Grids.{edge_kinds, entities_made}
 use Rattle.vpf_tile_reading.specs.Cuts.{IsCutInto, tables_of_tile}
 use Rattle.vpf_tile_reading.proofs.KindLemmas.{Allows, bare_kept, kinds_said, roles_suit}
 use Rattle.vpf_tile_reading.proofs.EachLemmas.{each_kept}

@@ -13,7 +13,8 @@ use Rattle.vpf_prims.specs.References.{plain, reference_in}
 use Rattle.vpf_prims.specs.Roles.{Role, edge_roles, entity_roles, face_roles, node_roles, number_role, reference_role, ring_roles}
 use Rattle.vpf_prims.specs.Suiting.{SuitsRole}
 use Rattle.vpf_tiling.specs.Tiles.{Ring, numbered_ring}
-use Rattle.vpf_tile_tables.specs.Grids.{edge_values, named_value, natural_value, pair_values, ring_values}
+use Rattle.vpf_table_forms.specs.Forms.{named_value, natural_value, pair_values, ring_values}
+use Rattle.vpf_tile_tables.specs.Grids.{edge_values}
 use Rattle.vpf_tile_reading.proofs.CarriedLemmas.{carried_kept}
 use Rattle.vpf_tile_reading.proofs.CellLemmas.{cell_new, mark_kept, values_said}
 

@@ -23,8 +23,10 @@ use Rattle.vpf_tiling.specs.Presence.{holds_entity, holds_face, local_face, pres
 use Rattle.vpf_tiling.specs.Ranks.{numbered}
 use Rattle.vpf_tiling.specs.Tiles.{Ring, first_edge_at, is_made, numbered_entity, numbered_face, numbered_node}
 use Rattle.vpf_tiling.specs.Tiles.{numbered_ring, tiled_edge, tiled_edges, tiled_library, tiled_primitives, tiled_rings}
-use Rattle.vpf_tile_tables.specs.Grids.{bare_row, edge_kinds, edge_values, edges_made, entities_made, faces_made}
-use Rattle.vpf_tile_tables.specs.Grids.{nodes_made, pair_kinds, pair_values, ring_kinds, ring_values, rings_made}
+use Rattle.vpf_table_forms.specs.Forms.{bare_row}
+use Rattle.vpf_tile_tables.specs.Grids.{edge_kinds, edge_values, edges_made, entities_made, faces_made}
+use Rattle.vpf_table_forms.specs.Forms.{pair_kinds, pair_values, ring_kinds, ring_values}
+use Rattle.vpf_tile_tables.specs.Grids.{nodes_made, rings_made}
 use Rattle.vpf_tile_reading.specs.Cuts.{IsCutInto, tables_of_tile}
 use Rattle.vpf_tile_reading.proofs.NumberLemmas.{kth_has, kth_map, read_numbered, rows_passing}
 use Rattle.vpf_tile_reading.proofs.RowLemmas.{edge_like, edge_said, entity_said, face_said, node_said, ring_said}

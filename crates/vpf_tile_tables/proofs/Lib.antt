@@ -1,6 +1,2 @@
-pub mod ColumnLemmas
-pub mod CountedRows
-pub mod NewCellLemmas
-pub mod RingLemmas
 pub mod TileLemmas
 pub mod FormLemmas

@@ -6,7 +6,7 @@ use Rattle.vpf_table.specs.Grid.{Row}
 use Rattle.vpf_revise.specs.Revising.{revised}
 use Rattle.vpf_tiling.specs.Ranks.{numbered, numbered_from}
 use Rattle.vpf_write.specs.Tallies.{Tally, Holds}
-use Rattle.vpf_tile_tables.specs.Grids.{named_value, natural_value}
+use Rattle.vpf_table_forms.specs.Forms.{named_value, natural_value}
 
 -- row k of the table of tiles
 abbrev pub tile_row : List Col → ℕ → Row → Row

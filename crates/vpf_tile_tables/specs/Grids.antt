@@ -1,43 +1,22 @@
 -- The tables of a tiled library as they are written: each has the header of the coverage's own table, with other kinds for ids and references,
 -- and its rows are those of the same primitives with new ids and references; every other value stays (MIL-STD-2407, 5.2.2, primitives, and
 -- 5.2.3, tiled coverages and cross-tile topology).
-use Rattle.std.specs.Prelude.{◌≡◌, ℕ, ◌==◌, pos, List, [], ◌∷◌, ◌++◌, map, codes, Option, None, Some, Result, Ok, Err}
-use Rattle.std.specs.Option.{option_map, option_to_list}
-use Rattle.vpf_triplet.specs.declared.kinds.Kind.{Kind}
+use Rattle.std.specs.Prelude.{◌≡◌, ℕ, ◌==◌, List, [], ◌∷◌, codes, Option, None, Some, Result, Ok, Err}
 use Rattle.vpf_triplet.specs.declared.kinds.Kind.TheVariants as kinds
-use Rattle.vpf_value.specs.Values.{Value, NumberOf, TripletOf, Nothing}
-use Rattle.vpf_head.specs.Head.{Col, place_of}
-use Rattle.vpf_table.specs.Grid.{Row, Grid}
+use Rattle.vpf_value.specs.Values.{TripletOf}
+use Rattle.vpf_head.specs.Head.{Col}
+use Rattle.vpf_table.specs.Grid.{Grid}
 use Rattle.vpf_write.specs.Writing.{Writes}
 use Rattle.vpf_write.specs.declared.writing.WriteError.{WriteError}
 use Rattle.vpf_write.specs.declared.writing.Written.{Written}
 use Rattle.vpf_revise.specs.declared.changes.NewKind.{NewKind}
-use Rattle.vpf_revise.specs.Revising.{NewValue, head_with_kinds, revised}
+use Rattle.vpf_revise.specs.Revising.{NewValue, revised}
+use Rattle.vpf_table_forms.specs.Forms.{EdgeValues, edge_kinds_of, edge_values_of, id_kinds, named_value, natural_value, pair_kinds, pair_values, rings_like, table_like}
 use Rattle.vpf_prims.specs.Lists.{kth, first_item}
 use Rattle.vpf_prims.specs.Primitives.{EdgePrimitive, Primitives}
 use Rattle.vpf_tiling.specs.Ranks.{numbered}
 use Rattle.vpf_tiling.specs.Presence.{containing_face, held_entities, held_faces, local_face, present_edges, present_nodes}
-use Rattle.vpf_tiling.specs.Tiles.{Ring, first_edge_at, tiled_edge, tiled_edges, tiled_rings}
-
--- a number, from 0 up, as a value
-abbrev pub natural_value : ℕ → Value
-natural_value n = NumberOf (pos n)
-
--- a new kind for the column of a name, where there is one
-abbrev pub named_kind : List Col → List ℕ → Kind → List NewKind
-named_kind columns name kind = option_to_list (option_map (λ c. record { column = c; kind = kind }) (place_of name columns))
-
--- a new value for the column of a name, where there is one
-abbrev pub named_value : List Col → List ℕ → Value → List NewValue
-named_value columns name v = option_to_list (option_map (λ c. record { column = c; value = v }) (place_of name columns))
-
--- a table with the header of another one, with new kinds, and these rows
-abbrev pub table_like : Grid → (List Col → List NewKind) → List Row → Grid
-table_like grid kinds rows = record { head = head_with_kinds (kinds grid.head.columns) grid.head; rows = rows }
-
--- ids are numbers
-abbrev pub id_kinds : List Col → List NewKind
-id_kinds columns = named_kind columns (codes "id") kinds.I
+use Rattle.vpf_tiling.specs.Tiles.{first_edge_at, tiled_edge, tiled_edges, tiled_rings}
 
 -- the table of tiles
 abbrev pub tiles_made : Grid → Grid
@@ -45,39 +24,28 @@ tiles_made grid = table_like grid id_kinds (numbered (λ k row. revised (named_v
 
 -- the six references of edges are triplet ids
 abbrev pub edge_kinds : List Col → List NewKind
-edge_kinds columns =
-    id_kinds columns
-    ++ (named_kind columns (codes "start_node") kinds.K
-    ++ (named_kind columns (codes "end_node") kinds.K
-    ++ (named_kind columns (codes "right_face") kinds.K
-    ++ (named_kind columns (codes "left_face") kinds.K
-    ++ (named_kind columns (codes "right_edge") kinds.K
-    ++ named_kind columns (codes "left_edge") kinds.K)))))
+edge_kinds columns = edge_kinds_of kinds.K columns
+
+-- the references of an edge as values
+abbrev pub id_values : EdgePrimitive → EdgeValues
+id_values e = record {
+  start_node = TripletOf e.start_node;
+  end_node = TripletOf e.end_node;
+  right_face = TripletOf e.right_face;
+  left_face = TripletOf e.left_face;
+  right_edge = TripletOf e.right_edge;
+  left_edge = TripletOf e.left_edge;
+}
 
 -- the new values of edge k
 abbrev pub edge_values : List Col → ℕ → EdgePrimitive → List NewValue
-edge_values columns k e =
-    named_value columns (codes "id") (natural_value k)
-    ++ (named_value columns (codes "start_node") (TripletOf e.start_node)
-    ++ (named_value columns (codes "end_node") (TripletOf e.end_node)
-    ++ (named_value columns (codes "right_face") (TripletOf e.right_face)
-    ++ (named_value columns (codes "left_face") (TripletOf e.left_face)
-    ++ (named_value columns (codes "right_edge") (TripletOf e.right_edge)
-    ++ named_value columns (codes "left_edge") (TripletOf e.left_edge))))))
+edge_values columns k e = edge_values_of columns k (id_values e)
 
 -- the table of the edges of a tile
 abbrev pub edges_made : Grid → Primitives → (ℕ → ℕ) → ℕ → Grid
 edges_made grid c plan t =
     table_like grid edge_kinds
     (numbered (λ k e. revised (edge_values grid.head.columns k (tiled_edge c plan t k e)) (kth grid.rows e [])) (present_edges c plan t))
-
--- ids, and the references of one other column, are numbers
-abbrev pub pair_kinds : List ℕ → List Col → List NewKind
-pair_kinds name columns = id_kinds columns ++ named_kind columns name kinds.I
-
--- the new values of row k, which names n in that column
-abbrev pub pair_values : List ℕ → List Col → (k n : ℕ) → List NewValue
-pair_values name columns k n = named_value columns (codes "id") (natural_value k) ++ named_value columns name (natural_value n)
 
 -- a table with one reference column, of these rows of another: what the row of number k, made of the row s, names there
 abbrev pub pairs_made : List ℕ → Grid → (ℕ → ℕ → ℕ) → List ℕ → Grid
@@ -99,24 +67,6 @@ nodes_made grid c plan t = pairs_made (codes "first_edge") grid (λ k n. first_e
 -- the table of its entity nodes, each with its face
 abbrev pub entities_made : Grid → Primitives → (ℕ → ℕ) → ℕ → Grid
 entities_made grid c plan t = pairs_made (codes "containing_face") grid (λ k n. local_face c plan t (containing_face c n)) (held_entities c plan t)
-
--- the kinds of rings, which have no other columns
-abbrev pub ring_kinds : List Col → List NewKind
-ring_kinds columns = id_kinds columns ++ (named_kind columns (codes "face_id") kinds.I ++ named_kind columns (codes "start_edge") kinds.I)
-
--- the values of ring k
-abbrev pub ring_values : List Col → ℕ → Ring → List NewValue
-ring_values columns k r =
-    named_value columns (codes "id") (natural_value k)
-    ++ (named_value columns (codes "face_id") (natural_value r.face) ++ named_value columns (codes "start_edge") (natural_value r.edge))
-
--- a row of nothing
-abbrev pub bare_row : List Col → Row
-bare_row columns = map (λ column. Nothing) columns
-
--- a table of these rings
-abbrev pub rings_like : Grid → List Ring → Grid
-rings_like grid rings = table_like grid ring_kinds (numbered (λ k r. revised (ring_values grid.head.columns k r) (bare_row grid.head.columns)) rings)
 
 -- the table of the rings of a tile
 abbrev pub rings_made : Grid → Primitives → (ℕ → ℕ) → ℕ → Grid

@@ -8,11 +8,11 @@ ghost use Rattle.vpf_prims.specs.Suiting.{HasRoles};
 ghost use Rattle.vpf_prims.specs.Tables.{table_named};
 ghost use Rattle.vpf_tiling.specs.Presence.{containing_face, held_entities, local_face};
 ghost use Rattle.vpf_cutting.specs.Cuts.{plan_by};
-ghost use Rattle.vpf_tile_tables.specs.Models.{IsEntityForm};
+ghost use Rattle.vpf_tile_tables.specs.Models.{NamesFaces};
 
-use crate::edges::EdgeForm;
-use crate::pairs::PairForm;
-use crate::rings::RingForm;
+use crate::edges::write_edges;
+use crate::pairs::write_pairs;
+use crate::rings::write_rings;
 use std::alloc::{AllocError, Global};
 use std::marker::Model;
 use vpf_cut_rings::{CutRing, first_rings};
@@ -20,6 +20,8 @@ use vpf_cutting::Cut;
 use vpf_findings::TableName;
 use vpf_prims::Tile;
 use vpf_table::TableView;
+use vpf_table_forms::{EdgeForm, PairForm, RingForm};
+use vpf_triplet::Kind;
 use vpf_write::{WriteError, Written};
 
 /// The primitive tables of an untiled coverage, as those of its tiles are written like them: with the same headers, but for the kinds of ids
@@ -61,8 +63,8 @@ fn table_of<'t, 'a>(tile: &'t Tile<'a>, name: TableName) -> &'t TableView<'a>
 /// The table of entity nodes, where there is one.
 fn entities_of<'t, 'a>(tile: &'t Tile<'a>) -> Result<Option<PairForm<'t, 'a>>, AllocError>
     requires { (grid : Grid) → tile.now.tables.end ≡ Some grid → HasRoles entity_roles grid }
-    ensures tables { IfOk result (λ end. option_map (λ end. end.table.now) end ≡ tile.now.tables.end) }
-    ensures form { IfOk result IsEntityForm }
+    ensures tables { IfOk result (λ end. option_map (λ end. end.table) end ≡ tile.now.tables.end) }
+    ensures named { IfOk result NamesFaces }
 {
     match tile.table(TableName::End) {
         Some(table) => Ok(Some(PairForm::new(table, b"containing_face")?)),
@@ -110,7 +112,7 @@ impl<'t, 'a> Forms<'t, 'a> {
         ensures { IfOk result (λ forms. forms ≡ tile.now.tables) }
     {
         Ok(Forms {
-            edg: EdgeForm::new(table_of(tile, TableName::Edg))?,
+            edg: EdgeForm::new(table_of(tile, TableName::Edg), Kind::K)?,
             fac: PairForm::new(table_of(tile, TableName::Fac), b"ring_ptr")?,
             rng: RingForm::new(table_of(tile, TableName::Rng))?,
             cnd: PairForm::new(table_of(tile, TableName::Cnd), b"first_edge")?,
@@ -124,7 +126,7 @@ impl<'t, 'a> Forms<'t, 'a> {
         requires { cut.now.source ≡ primitives_of self.now }
         ensures { Writes (edges_made self.now.edg cut.now.source (plan_by cut.now.plan) tile) result }
     {
-        self.edg.write(alloc, cut, tile)
+        write_edges(alloc, &self.edg, cut, tile)
     }
 
     /// The table of the faces of a tile, `fac`: the universe, and those that it holds, each with the number of its first ring, 0 where it has
@@ -146,7 +148,7 @@ impl<'t, 'a> Forms<'t, 'a> {
         let all = with_universe(alloc, cut.faces_in(tile))?;
         let faces = all.as_slice();
         let ring_ptrs = first_rings(alloc, faces.len() as u32, rings)?;
-        self.fac.write(alloc, faces, &ring_ptrs)
+        write_pairs(alloc, &self.fac, faces, &ring_ptrs)
     }
 
     /// The table of the rings of a tile, `rng`, which are given in their order. An error tells the limit that the table would pass, or that
@@ -164,7 +166,7 @@ impl<'t, 'a> Forms<'t, 'a> {
         requires small { All HasSmallNumbers rings.now }
         ensures { Writes (rings_made self.now.rng cut.now.source (plan_by cut.now.plan) tile) result }
     {
-        self.rng.write(alloc, rings)
+        write_rings(alloc, &self.rng, rings)
     }
 
     /// The table of the connected nodes of a tile, `cnd`, each with the number of its first edge there. An error tells the limit that the table
@@ -174,7 +176,7 @@ impl<'t, 'a> Forms<'t, 'a> {
         ensures { Writes (nodes_made self.now.cnd cut.now.source (plan_by cut.now.plan) tile) result }
     {
         let first_edges = cut.first_edges(alloc, tile)?;
-        self.cnd.write(alloc, cut.nodes_in(tile), &first_edges)
+        write_pairs(alloc, &self.cnd, cut.nodes_in(tile), &first_edges)
     }
 
     /// The table of the entity nodes of a tile, `end`, each with the number of its face there. None where the coverage has no table of them. An
@@ -192,7 +194,7 @@ impl<'t, 'a> Forms<'t, 'a> {
             return Ok(None);
         };
         let faces = faces_of_entities(alloc, cut, tile)?;
-        match end.write(alloc, cut.entities_in(tile), &faces) {
+        match write_pairs(alloc, end, cut.entities_in(tile), &faces) {
             Ok(written) => Ok(Some(written)),
             Err(error) => Err(error),
         }

@@ -5,9 +5,7 @@
 mod edges;
 mod forms;
 mod pairs;
-mod places;
 mod rings;
-mod rows;
 mod tiles;
 
 pub use forms::Forms;

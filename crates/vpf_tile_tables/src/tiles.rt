@@ -6,12 +6,11 @@ ghost use Rattle.vpf_prims.specs.Suiting.{HasRoles};
 ghost use Rattle.vpf_write.specs.Writing.{Writes};
 ghost use Rattle.vpf_tile_tables.specs.Grids.{tiles_made};
 
-use crate::places::{new_kind, place_in};
-use crate::rows::new_number;
 use std::alloc::Global;
 use vpf_revise::laws::{columns_by_position, numbers_and_ids_fit, revised_rows_fit};
 use vpf_revise::{RevisedTable, with_kinds};
 use vpf_table::TableView;
+use vpf_table_forms::{new_kind, new_number, place_in};
 use vpf_triplet::Kind;
 use vpf_write::{WriteError, Written};
 

@@ -20,10 +20,11 @@ use Rattle.vpf_revise.specs.declared.changes.NewKind.{NewKind}
 use Rattle.vpf_revise.specs.Revising.{FitsElsewhere, FitsIn, NewValue, revised, with_kinds}
 use Rattle.vpf_tiling.specs.Ranks.{numbered, numbered_from}
 use Rattle.vpf_tiling.specs.Tiles.{Ring}
-use Rattle.vpf_tile_tables.specs.Grids.{bare_row, edge_kinds, edge_values, id_kinds, named_value, natural_value, pair_kinds, pair_values, ring_kinds, ring_values}
-use Rattle.vpf_tile_tables.specs.Places.{AreEdgePlaces, ArePairPlaces, AreRingPlaces, IsColumnAt}
-use Rattle.vpf_tile_tables.proofs.NewCellLemmas.{IdsFit, KeepsOthers, NumbersFit, PlacesColumns, ReferencesFit, edge_fits, edge_kinds_are, edge_puts, edge_values_are, id_fits, id_kinds_are, id_values_are, number_put, pair_fits, pair_kinds_are, pair_values_are, ring_fits, ring_values_are}
-use Rattle.vpf_tile_tables.proofs.RingLemmas.{others_covered, ring_puts}
+use Rattle.vpf_table_forms.specs.Forms.{AreOfKind, bare_row, id_kinds, named_value, natural_value, pair_kinds, pair_values, ring_kinds, ring_values}
+use Rattle.vpf_tile_tables.specs.Grids.{id_values, edge_kinds, edge_values}
+use Rattle.vpf_table_forms.specs.Places.{AreEdgePlaces, ArePairPlaces, AreRingPlaces, IsColumnAt}
+use Rattle.vpf_table_forms.proofs.NewCellLemmas.{IdsFit, KeepsOthers, NumbersFit, PlacesColumns, edge_fits, edge_kinds_are, edge_puts, edge_values_are, id_fits, id_kinds_are, id_values_are, number_put, pair_fits, pair_kinds_are, pair_values_are, ring_fits, ring_values_are}
+use Rattle.vpf_table_forms.proofs.RingLemmas.{others_covered, ring_puts}
 use Rattle.vpf_tile_writing.proofs.SmallReferences.{HasSmall}
 use Rattle.vpf_tile_writing.proofs.SoundKinds.{StaysSound}
 
@@ -90,7 +91,7 @@ pair_row l name columns p k n row a small few fits =
     (pair_fits l.places l.numbers name columns p k n a small few) fits
 
 -- the references of an edge fit
-references_fit : MadeLaws → (e : EdgePrimitive) → HasSmall e → ReferencesFit e
+references_fit : MadeLaws → (e : EdgePrimitive) → HasSmall e → AreOfKind kinds.K (id_values e)
 references_fit l e small = record {
   start_node = fits e.start_node small.start_node;
   end_node = fits e.end_node small.end_node;
@@ -108,8 +109,8 @@ pub edge_row : MadeLaws → (columns : List Col) (p : _) (k : ℕ) (e : EdgePrim
     → FitsRow columns row
     → FitsRow (with_kinds (edge_kinds columns) columns) (revised (edge_values columns k e) row)
 edge_row l columns p k e row a small references fits =
-    put_row l (edge_kinds columns) _ (edge_values columns k e) (edge_puts p k e) columns row (edge_kinds_are columns p a) (edge_values_are columns p k e a) refl
-    (edge_fits l.places l.numbers columns p k e a small (references_fit l e references)) fits
+    put_row l (edge_kinds columns) _ (edge_values columns k e) (edge_puts p k (id_values e)) columns row (edge_kinds_are kinds.K columns p a)
+    (edge_values_are columns p k (id_values e) a) refl (edge_fits l.places l.numbers kinds.K columns p k (id_values e) a small (references_fit l e references)) fits
 
 -- the row of a ring, all of whose columns have new values
 pub ring_row : MadeLaws → (columns : List Col) (p : _) (k : ℕ) (r : Ring) → IsDistinct same_name (names columns) → carried_columns ring_roles columns ≡ []

@@ -7,8 +7,8 @@ use Rattle.vpf_prims.specs.Columns.{column_of}
 use Rattle.vpf_prims.specs.Roles.{edge_roles, entity_roles, face_roles, node_roles, number_role, reference_role, ring_roles}
 use Rattle.vpf_prims.specs.Suiting.{HasRoles, SuitsRole}
 use Rattle.vpf_table.specs.Grid.{Grid}
-use Rattle.vpf_tile_tables.specs.Places.{AreEdgePlaces, ArePairPlaces, AreRingPlaces, IsColumnAt, NamesRows}
-use Rattle.vpf_tile_tables.proofs.ColumnLemmas.{is_there, number_names, reference_names, stands}
+use Rattle.vpf_table_forms.specs.Places.{AreEdgePlaces, ArePairPlaces, AreRingPlaces, IsColumnAt, NamesRows}
+use Rattle.vpf_table_forms.proofs.ColumnLemmas.{is_there, number_names, reference_names, stands}
 
 -- the place of a column that is there, which has one value
 pub record HasPlace (columns : List Col) (name : List ℕ) : Type 0 where

@@ -10,7 +10,7 @@ use Rattle.vpf_head.specs.Head.{Col, Head, names_rows, with_kind}
 use Rattle.vpf_head.specs.Soundness.{IsSound}
 use Rattle.vpf_revise.specs.declared.changes.NewKind.{NewKind}
 use Rattle.vpf_revise.specs.Revising.{head_with_kinds, kind_for, revised_column, with_kinds}
-use Rattle.vpf_tile_tables.proofs.NewCellLemmas.{PlacesColumns}
+use Rattle.vpf_table_forms.proofs.NewCellLemmas.{PlacesColumns}
 
 -- what the law of sound headers says of one new kind
 abbrev pub StaysSound : Type 0

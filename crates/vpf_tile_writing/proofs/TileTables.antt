@@ -27,9 +27,10 @@ use Rattle.vpf_wing.specs.DartLaws.{none_is_some, same_some}
 use Rattle.vpf_revise.specs.declared.changes.NewKind.{NewKind}
 use Rattle.vpf_revise.specs.Revising.{kind_for, revised, revised_column, revised_value, value_for, with_kinds}
 use Rattle.vpf_tiling.specs.Ranks.{numbered_from}
-use Rattle.vpf_tile_tables.specs.Grids.{id_kinds, named_value, natural_value, tiles_made}
-use Rattle.vpf_tile_tables.proofs.ColumnLemmas.{places_differ}
-use Rattle.vpf_tile_tables.proofs.NewCellLemmas.{id_kinds_are, kind_at, value_put}
+use Rattle.vpf_table_forms.specs.Forms.{id_kinds, named_value, natural_value}
+use Rattle.vpf_tile_tables.specs.Grids.{tiles_made}
+use Rattle.vpf_table_forms.proofs.ColumnLemmas.{places_differ}
+use Rattle.vpf_table_forms.proofs.NewCellLemmas.{id_kinds_are, kind_at, value_put}
 use Rattle.vpf_tile_writing.specs.Laws.{TilerefIsRead, TilerefIsWritable}
 use Rattle.vpf_tile_writing.proofs.FittingRows.{MadeLaws, id_row, numbered_all}
 use Rattle.vpf_tile_writing.proofs.PlacedColumns.{HasPlace, number_at}

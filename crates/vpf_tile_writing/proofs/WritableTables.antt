@@ -21,10 +21,11 @@ use Rattle.vpf_revise.specs.Revising.{head_with_kinds, with_kinds}
 use Rattle.vpf_tiling.specs.Presence.{containing_face, has_edge, has_node, held_entities, holds_entity, holds_face, present_edges, present_nodes}
 use Rattle.vpf_tiling.specs.Ranks.{numbered, up_to}
 use Rattle.vpf_tiling.specs.Tiles.{Ring, first_edge_at, tiled_edge, tiled_edges, tiled_rings}
-use Rattle.vpf_tile_tables.specs.Grids.{edge_kinds, edges_made, entities_made, faces_made, faces_of_tile, nodes_made, pair_kinds, pairs_made, ring_kinds, rings_made}
-use Rattle.vpf_tile_tables.specs.Places.{AreEdgePlaces, ArePairPlaces, AreRingPlaces}
-use Rattle.vpf_tile_tables.proofs.CountedRows.{kth_all, length-numbered}
-use Rattle.vpf_tile_tables.proofs.NewCellLemmas.{edge_kinds_are, kind_at, reference_kinds, pair_kinds_are, ring_kinds_are}
+use Rattle.vpf_table_forms.specs.Forms.{pair_kinds, ring_kinds}
+use Rattle.vpf_tile_tables.specs.Grids.{edge_kinds, edges_made, entities_made, faces_made, faces_of_tile, nodes_made, pairs_made, rings_made}
+use Rattle.vpf_table_forms.specs.Places.{AreEdgePlaces, ArePairPlaces, AreRingPlaces}
+use Rattle.vpf_table_forms.proofs.CountedRows.{kth_all, length-numbered}
+use Rattle.vpf_table_forms.proofs.NewCellLemmas.{edge_kinds_are, kind_at, reference_kinds, pair_kinds_are, ring_kinds_are}
 use Rattle.vpf_tile_reading.specs.Cuts.{tables_of_tile}
 use Rattle.vpf_tile_writing.specs.Laws.{TilesAreWritable}
 use Rattle.vpf_tile_writing.specs.Writable.{AreWritable, HaveFewRows}
@@ -161,7 +162,7 @@ edges_writable l T plan t m =
     let sound : IsSound T.edg.head = m.writable.edg.sound in
     let p : HasEdgePlaces columns = edge_places T.edg sound m.columns.edg in
     let a : AreEdgePlaces columns p.places = p.are in
-    let news : List NewKind = kind_at p.places.id kinds.I ∷ reference_kinds p.places in
+    let news : List NewKind = kind_at p.places.id kinds.I ∷ reference_kinds kinds.K p.places in
     let takes : AllByRecursion (TakesRows columns) news = (
       record { one = a.id.one; rows = refl },
       (
@@ -181,7 +182,7 @@ edges_writable l T plan t m =
     let many : length c.edges ≡ length T.edg.rows = length-map T.edg.rows (edge_in_row columns) in
     let few : length (present_edges c plan t) + 1 < 2 ^ 31 = made_few _ (present_edges c plan t) m.made.edg in
     record {
-      sound = shown_sound l.sound l.places (edge_kinds columns) news T.edg.head (edge_kinds_are columns p.places a) takes sound;
+      sound = shown_sound l.sound l.places (edge_kinds columns) news T.edg.head (edge_kinds_are kinds.K columns p.places a) takes sound;
       fits = numbered_all (FitsRow (with_kinds (edge_kinds columns) columns)) (IsPassing (has_edge c plan t) (length c.edges)) _ (present_edges c plan t)
           (all_passing (has_edge c plan t) (length c.edges))
           (λ k e most passing. edge_row l columns p.places k (tiled_edge c plan t k e) (kth T.edg.rows e []) a (omega arith)

@@ -15,7 +15,7 @@ use Rattle.vpf_table.specs.Grid.{Grid}
 use Rattle.vpf_prims.specs.Reading.{PrimitiveTables}
 use Rattle.vpf_made.specs.Files.{index_files, table_files}
 use Rattle.vpf_loading.specs.Loading.{within}
-use Rattle.vpf_tiler.specs.Adding.{files_made, files_of_table, table_within}
+use Rattle.vpf_table_files.specs.Adding.{files_made, files_of_table, table_within}
 use Rattle.vpf_tiled_files.proofs.NameLemmas.{cut_ends, ends_behind, index_behind, within_is, within_utf8}
 use Rattle.vpf_tiled_files.proofs.PathLemmas.{IsInner}
 use Rattle.vpf_tiled_files.proofs.ReadTables.{all_both}

@@ -17,7 +17,7 @@ use Rattle.vpf_tileref.specs.Tileref.{IsTileref}
 use Rattle.vpf_loading.specs.Holding.{AreFilesOf, AreTilesFiles, HoldsCoverage, LacksOfTiles, bytes_in}
 use Rattle.vpf_loading.specs.Loading.{LoadedCoverage, most_loaded, tileref_name, within}
 use Rattle.vpf_made.specs.Files.{table_files}
-use Rattle.vpf_tiler.specs.Adding.{NamedTable, files_made, files_of_table, table_within}
+use Rattle.vpf_table_files.specs.Adding.{NamedTable, files_made, files_of_table, table_within}
 use Rattle.vpf_tiled_files.proofs.NameLemmas.{within_is, within_within}
 use Rattle.vpf_tiled_files.proofs.PathLemmas.{IsInner}
 use Rattle.vpf_tiled_files.proofs.ReadTables.{CanBeRead, all_both, all_small, bytes_moved, files_held, moved, read_both, read_files}

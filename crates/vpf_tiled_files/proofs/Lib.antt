@@ -6,3 +6,6 @@ pub mod ReadTiles
 pub mod AbsentNames
 pub mod HeldTiles
 pub mod MadeLibrary
+pub mod Pairs
+pub mod TableNames
+pub mod LibraryNames

@@ -24,9 +24,9 @@ use Rattle.vpf_loading.specs.Loading.{most_loaded, within}
 use Rattle.vpf_tiling.specs.RankLaws.{numbered_many}
 use Rattle.vpf_tiling.specs.Tiles.{is_made}
 use Rattle.vpf_tile_tables.specs.Grids.{entities_made, tiles_made}
-use Rattle.vpf_tiler.specs.Adding.{NamedTable, files_made}
-use Rattle.vpf_tiler.specs.Tables.{edge_table, entity_tables, face_table, library_tables, node_table, ring_table}
-use Rattle.vpf_tiler.specs.Tables.{tables_if_made, tile_tables, tileref_table}
+use Rattle.vpf_table_files.specs.Adding.{NamedTable, files_made}
+use Rattle.vpf_tile_files.specs.Tables.{edge_table, entity_tables, face_table, library_tables, node_table, ring_table}
+use Rattle.vpf_tile_files.specs.Tables.{tables_if_made, tile_tables, tileref_table}
 use Rattle.vpf_tile_reading.specs.Cuts.{IsCutInto, tables_if_any, tables_of_tile}
 use Rattle.vpf_tiled_files.specs.Folders.{CanBeMade, HoldsExactly}
 use Rattle.vpf_tiled_files.specs.Laws.{MadeIsHeld}

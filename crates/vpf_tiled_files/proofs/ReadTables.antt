@@ -16,7 +16,7 @@ use Rattle.vpf_write.specs.Writing.{first_limit}
 use Rattle.vpf_made.specs.Files.{index_files, table_files}
 use Rattle.vpf_loading.specs.Holding.{AreFilesOf, AreHeld, bytes_in}
 use Rattle.vpf_loading.specs.Loading.{loaded_file, within}
-use Rattle.vpf_tiler.specs.Adding.{NamedTable, files_made, files_of_table, first_limit_of, named_limit}
+use Rattle.vpf_table_files.specs.Adding.{NamedTable, files_made, files_of_table, first_limit_of, named_limit}
 use Rattle.vpf_tiled_files.proofs.WrittenTables.{Indexed, Opens, Plain, table_fits}
 
 -- ---- what holds of each of some things

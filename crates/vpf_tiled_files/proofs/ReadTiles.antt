@@ -16,7 +16,7 @@ use Rattle.vpf_prims.specs.Tables.{TileTables}
 use Rattle.vpf_made.specs.Files.{table_files}
 use Rattle.vpf_loading.specs.Holding.{AreFilesOf, AreFilesOfOption, AreTileFiles, AreTilesFiles}
 use Rattle.vpf_loading.specs.Loading.{within}
-use Rattle.vpf_tiler.specs.Adding.{NamedTable, files_of_table, table_within}
+use Rattle.vpf_table_files.specs.Adding.{NamedTable, files_of_table, table_within}
 use Rattle.vpf_tiled_files.proofs.NameLemmas.{index_within, some_after, within_is, within_utf8, within_within}
 use Rattle.vpf_tiled_files.proofs.PathLemmas.{IsInner}
 use Rattle.vpf_tiled_files.proofs.ReadTables.{CanBeRead, all_behind, all_front, moved, first_read, read_both, read_files, table_read}

@@ -11,8 +11,8 @@ use Rattle.vpf_tileref.specs.Tileref.{IsTileref}
 use Rattle.vpf_loading.specs.Holding.{bytes_in}
 use Rattle.vpf_loading.specs.Loading.{most_loaded, within}
 use Rattle.vpf_tile_tables.specs.Grids.{tiles_made}
-use Rattle.vpf_tiler.specs.Adding.{NamedTable, files_made, first_limit_of}
-use Rattle.vpf_tiler.specs.Tables.{library_tables}
+use Rattle.vpf_table_files.specs.Adding.{NamedTable, files_made, first_limit_of}
+use Rattle.vpf_tile_files.specs.Tables.{library_tables}
 
 -- a folder of a tree holds exactly these files: each under its name, and none under any other
 pub record HoldsExactly (held : Files) (folder : List ℕ) (files : List File) : Type 0 where

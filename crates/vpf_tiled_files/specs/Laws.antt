@@ -5,8 +5,8 @@ use Rattle.vpf_table.specs.Grid.{Grid}
 use Rattle.vpf_prims.specs.Reading.{PrimitiveTables, primitives_of}
 use Rattle.vpf_loading.specs.Holding.{HoldsCoverage}
 use Rattle.vpf_loading.specs.Loading.{LoadedCoverage}
-use Rattle.vpf_tiler.specs.Adding.{files_made}
-use Rattle.vpf_tiler.specs.Tables.{library_tables}
+use Rattle.vpf_table_files.specs.Adding.{files_made}
+use Rattle.vpf_tile_files.specs.Tables.{library_tables}
 use Rattle.vpf_tile_reading.specs.Cuts.{IsCutInto}
 use Rattle.vpf_tiled_files.specs.Folders.{CanBeMade, HoldsExactly}
 

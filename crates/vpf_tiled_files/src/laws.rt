@@ -1,6 +1,7 @@
 //! What is so of the files of the tiled library of every coverage.
 
 ghost use Rattle.vpf_tiled_files.specs.Laws.{MadeIsHeld};
+ghost use Rattle.vpf_tiled_files.specs.Names.{NamesDiffer, NamesDifferWithin};
 
 use vpf_head::laws as headers;
 use vpf_value::laws as cells;
@@ -14,3 +15,9 @@ pub fn made_is_held()
     headers::canonical_is_read();
     written_is_read();
 }
+
+/// No two files of a tiled library have one name, where the name of the coverage is text; nor have two of them within a folder.
+pub fn names_differ()
+    ensures own { NamesDiffer }
+    ensures within { NamesDifferWithin }
+{}

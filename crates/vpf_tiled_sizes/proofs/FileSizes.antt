@@ -9,7 +9,7 @@ use Rattle.vpf_table.specs.Canonical.{canonical_index, canonical_spans}
 use Rattle.vpf_made.specs.Files.{index_files}
 use Rattle.vpf_loading.specs.Holding.{bytes_in}
 use Rattle.vpf_loading.proofs.FileLists.{bytes_of_both}
-use Rattle.vpf_tiler.specs.Adding.{NamedTable, files_made, files_of_table, first_limit_of}
+use Rattle.vpf_table_files.specs.Adding.{NamedTable, files_made, files_of_table, first_limit_of}
 use Rattle.vpf_tiled_sizes.proofs.Counting.{summed}
 use Rattle.vpf_tiled_sizes.proofs.TableSizes.{IsShort, index_bytes, no_limit, table_bytes}
 

@@ -15,8 +15,8 @@ use Rattle.vpf_tiling.specs.RankLaws.{numbered_many}
 use Rattle.vpf_tiling.specs.Ranks.{up_to}
 use Rattle.vpf_tiling.specs.Tiles.{is_made, tiled_rings}
 use Rattle.vpf_tile_tables.specs.Grids.{edges_made, faces_made, faces_of_tile, nodes_made, rings_made, tiles_made}
-use Rattle.vpf_tiler.specs.Adding.{NamedTable}
-use Rattle.vpf_tiler.specs.Tables.{all_tile_tables, tables_if_made, tile_tables}
+use Rattle.vpf_table_files.specs.Adding.{NamedTable}
+use Rattle.vpf_tile_files.specs.Tables.{all_tile_tables, tables_if_made, tile_tables}
 use Rattle.vpf_grid.specs.Numbers.{edges, faces}
 use Rattle.vpf_grid.specs.Rows.{edge_rows, face_rows, node_rows, ring_rows}
 use Rattle.vpf_grid_coverage.specs.Coverage.{grid_edge, grid_face, grid_primitives, grid_ring}
@@ -24,7 +24,7 @@ use Rattle.vpf_vectors.specs.Library.{coverage_tables, tiles}
 use Rattle.vpf_vectors.specs.Tables.{tile_cells, tileref_table}
 use Rattle.vpf_vectors.proofs.SmallLemmas.{few_edges, few_faces, few_tiles}
 use Rattle.vpf_tiled_sizes.specs.Sizes.{GridIsLoaded, GridPassesNoLimit, grid_library_tables}
-use Rattle.vpf_tiled_sizes.proofs.Pairs.{all_of_lists}
+use Rattle.vpf_tiled_files.proofs.Pairs.{all_of_lists}
 use Rattle.vpf_tiled_sizes.proofs.Counting.{count_less, count_made, count_same, summed}
 use Rattle.vpf_tiled_sizes.proofs.PresentCounts.{HaveOneRing, all_darts, all_edges, all_faces, darts_few, darts_in, edges_few, edges_in, edges_many}
 use Rattle.vpf_tiled_sizes.proofs.PresentCounts.{faces_few, faces_in, faces_many, nodes_few, rings_few}

@@ -11,8 +11,10 @@ use Rattle.vpf_table.specs.Grid.{Grid, Row}
 use Rattle.vpf_revise.specs.Revising.{head_with_kinds, revised}
 use Rattle.vpf_prims.specs.Primitives.{Primitives}
 use Rattle.vpf_tiling.specs.Ranks.{numbered_from}
-use Rattle.vpf_tile_tables.specs.Grids.{edge_kinds, edges_made, faces_made, id_kinds, named_value, natural_value, nodes_made, pair_kinds}
-use Rattle.vpf_tile_tables.specs.Grids.{ring_kinds, rings_made, tiles_made}
+use Rattle.vpf_table_forms.specs.Forms.{id_kinds, named_value, natural_value, pair_kinds}
+use Rattle.vpf_tile_tables.specs.Grids.{edge_kinds, edges_made, faces_made, nodes_made}
+use Rattle.vpf_table_forms.specs.Forms.{ring_kinds}
+use Rattle.vpf_tile_tables.specs.Grids.{rings_made, tiles_made}
 use Rattle.vpf_grid.specs.declared.rows.EdgeRow.{EdgeRow}
 use Rattle.vpf_grid.specs.declared.rows.RingRow.{RingRow}
 use Rattle.vpf_vectors.specs.Heads.{edge_head, face_head, node_head, ring_head, tileref_head}

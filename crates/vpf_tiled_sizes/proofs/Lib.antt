@@ -1,6 +1,3 @@
-pub mod Pairs
-pub mod TableNames
-pub mod LibraryNames
 pub mod Counting
 pub mod PresentCounts
 pub mod RowSizes

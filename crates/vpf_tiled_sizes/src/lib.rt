@@ -1,5 +1,4 @@
-//! The files of a tiled library: no two have one name; and those of the grid are few and small enough to be read (MIL-STD-2407, 5.2.3, tiled
-//! coverages).
+//! The files of the tiled library of the grid are few and small enough to be read (MIL-STD-2407, 5.2.3, tiled coverages).
 #![tactic(auto)]
 
 pub mod laws;

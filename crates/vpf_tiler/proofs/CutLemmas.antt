@@ -1,10 +1,12 @@
 -- A coverage that is cut by a plan against which there is no cause, and what tiling comes to then.
-use Rattle.std.proofs.Common.{◌≡◌, ℕ, ℤ, ◌<◌, ◌≤◌, ◌^◌, sym, ap, ◌∙◌, subst, List, length, Option, None}
+use Rattle.std.proofs.Common.{◌≡◌, ℕ, ℤ, ◌<◌, ◌≤◌, ◌^◌, refl, sym, ap, ◌∙◌, subst, List, length, Option, None, Some, Result, Ok, Err}
 use Rattle.std.specs.Prelude.{map}
 use Rattle.std.specs.List.{range_with_len}
 use Rattle.std.proofs.lemmas.List.FromFn.{length-map-range_with_len}
 use mathlib.Core.Path.{fun_ext}
 use Rattle.vpf_base.specs.Results.{Told}
+use Rattle.vpf_source.specs.declared.file.File.{File}
+use Rattle.vpf_table.specs.declared.limit.Limit.{Limit as Passed}
 use Rattle.vpf_table.specs.Grid.{Grid}
 use Rattle.vpf_prims.specs.Lists.{kth}
 use Rattle.vpf_prims.specs.Primitives.{Primitives}
@@ -17,11 +19,16 @@ use Rattle.vpf_tileable.specs.Laws.{RefusalsDecide}
 use Rattle.vpf_tileable.specs.Planning.{plan_of}
 use Rattle.vpf_tileable.specs.Refusals.{first_refusal}
 use Rattle.vpf_cutting.specs.Cuts.{Cutting, IsPlanned, cutting_of, plan_by}
+use Rattle.vpf_table_files.specs.declared.errors.AddError.{AddError}
+use Rattle.vpf_table_files.specs.declared.errors.AddError.TheVariants as adds
+use Rattle.vpf_table_files.specs.Adding.{NamedTable, error_seen, first_limit_of, made_of_tables, unless_limited}
+use Rattle.vpf_tiler.specs.Errors.{tile_error}
 use Rattle.vpf_tiler.specs.declared.errors.TileError.{TileError}
 use Rattle.vpf_tiler.specs.declared.errors.TileError.TheVariants as errors
 use Rattle.vpf_tiler.specs.CutBy.{IsCause, IsCutBy, names_of_faces, plan_refusal}
-use Rattle.vpf_tiler.specs.Making.{error_seen, made_of_tables, tiled, unless_refused}
-use Rattle.vpf_tiler.specs.Tables.{library_tables}
+use Rattle.vpf_tiler.specs.Making.{tile_error_seen, tiles_of_tables, unless_tile_limited}
+use Rattle.vpf_tiler.specs.Making.{tiled, unless_refused}
+use Rattle.vpf_tile_files.specs.Tables.{library_tables}
 
 -- there is a tile, or none, for each face
 pub names_all : (plan : Grid) (faces : ℕ) (named : List (Option ℤ)) → named ≡ tiles_named plan faces → length named ≡ faces
@@ -67,7 +74,7 @@ cut_is T plan tiles faces named items cut is names count each = record {
 
 -- the first cause against the plan
 pub refused_told : (cov : List ℕ) (tables : PrimitiveTables) (plan tileref : Grid) (tiles : ℕ) (e : TileError) → tiles ≡ length tileref.rows
-    → IsCause (plan_refusal tables plan tiles) e → Told (error_seen e) (tiled cov tables plan tileref)
+    → IsCause (plan_refusal tables plan tiles) e → Told (tile_error_seen e) (tiled cov tables plan tileref)
 refused_told cov tables plan tileref tiles (errors.Refused refusal) many h =
     ap (unless_refused (library_tables cov tables (primitives_of tables) (plan_of (names_of_faces tables plan)) tileref))
     (ap (plan_refusal tables plan) (sym many) ∙ h)
@@ -77,10 +84,30 @@ refused_told cov tables plan tileref tiles errors.NoMemory many h = h
 -- where there is none, what the tables come to
 pub tiled_is : (cov : List ℕ) (tables forms : PrimitiveTables) (plan tileref : Grid) (tiles : ℕ) (cut : Cutting) → tiles ≡ length tileref.rows
     → plan_refusal tables plan tiles ≡ None → IsCutBy tables plan tiles cut → forms ≡ tables
-    → made_of_tables (library_tables cov forms cut.source (plan_by cut.plan) tileref) ≡ tiled cov tables plan tileref
+    → tiles_of_tables (library_tables cov forms cut.source (plan_by cut.plan) tileref) ≡ tiled cov tables plan tileref
 tiled_is cov tables forms plan tileref tiles cut many none by same =
-    ap (λ (ts : PrimitiveTables). made_of_tables (library_tables cov ts cut.source (plan_by cut.plan) tileref)) same
-    ∙ ap (λ (c : Primitives). made_of_tables (library_tables cov tables c (plan_by cut.plan) tileref)) by.source
-    ∙ ap (λ (p : ℕ → ℕ). made_of_tables (library_tables cov tables (primitives_of tables) p tileref)) by.plan
+    ap (λ (ts : PrimitiveTables). tiles_of_tables (library_tables cov ts cut.source (plan_by cut.plan) tileref)) same
+    ∙ ap (λ (c : Primitives). tiles_of_tables (library_tables cov tables c (plan_by cut.plan) tileref)) by.source
+    ∙ ap (λ (p : ℕ → ℕ). tiles_of_tables (library_tables cov tables (primitives_of tables) p tileref)) by.plan
     ∙ sym (ap (unless_refused (library_tables cov tables (primitives_of tables) (plan_of (names_of_faces tables plan)) tileref))
     (ap (plan_refusal tables plan) (sym many) ∙ none))
+
+-- ---- why tables aren't written is why a coverage isn't tiled
+
+abbrev as_tiles : Result (List File) AddError → Result (List File) TileError
+as_tiles (Ok files) = Ok files
+as_tiles (Err error) = Err (tile_error error)
+
+tiles_same : (tables : List NamedTable) (limit : Option (List ℕ × Passed)) → as_tiles (unless_limited tables limit) ≡ unless_tile_limited tables limit
+tiles_same tables None = refl
+tiles_same tables (Some limit) = refl
+
+-- the files of tables are those of tiling
+pub tiles_made : (tables : List NamedTable) (files : List File) → made_of_tables tables ≡ Ok files → tiles_of_tables tables ≡ Ok files
+tiles_made tables files h = sym (tiles_same tables (first_limit_of tables)) ∙ ap as_tiles h
+
+-- and so is the limit that one passes
+pub tiles_told : (tables : List NamedTable) (error : AddError) → Told (error_seen error) (made_of_tables tables)
+    → Told (tile_error_seen (tile_error error)) (tiles_of_tables tables)
+tiles_told tables (adds.Limit name limit) h = sym (tiles_same tables (first_limit_of tables)) ∙ ap as_tiles h
+tiles_told tables adds.NoMemory h = h

@@ -1,5 +1,5 @@
-pub mod AddLemmas
-pub mod TileLemmas
-pub mod LibraryLemmas
 pub mod SourceLemmas
 pub mod CutLemmas
+pub mod ReadableLemmas
+pub mod WrittenLemmas
+pub mod MadeLemmas

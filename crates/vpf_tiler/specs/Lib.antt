@@ -1,4 +1,5 @@
-pub mod Adding
-pub mod Tables
+pub mod Errors
 pub mod CutBy
 pub mod Making
+pub mod Tilings
+pub mod Laws

@@ -8,27 +8,27 @@ use Rattle.vpf_tileable.specs.declared.refusals.Refusal.{Refusal}
 use Rattle.vpf_tileable.specs.Planning.{plan_of}
 use Rattle.vpf_tiler.specs.declared.errors.TileError.{TileError}
 use Rattle.vpf_tiler.specs.declared.errors.TileError.TheVariants as errors
-use Rattle.vpf_tiler.specs.Adding.{NamedTable, files_made, first_limit_of}
+use Rattle.vpf_table_files.specs.Adding.{NamedTable, files_made, first_limit_of}
+use Rattle.vpf_tile_files.specs.Tables.{library_tables}
 use Rattle.vpf_tiler.specs.CutBy.{names_of_faces, plan_refusal}
-use Rattle.vpf_tiler.specs.Tables.{library_tables}
 
 -- what tiling answers; of want of memory nothing is seen
-abbrev pub error_seen : TileError → Option TileError
-error_seen errors.NoMemory = None
-error_seen error = Some error
+abbrev pub tile_error_seen : TileError → Option TileError
+tile_error_seen errors.NoMemory = None
+tile_error_seen error = Some error
 
 -- the files of tables, unless they pass a limit
-abbrev pub unless_limited : List NamedTable → Option (List ℕ × Passed) → Result (List File) TileError
-unless_limited tables None = Ok (files_made tables)
-unless_limited tables (Some limit) = Err (errors.Limit limit.0 limit.1)
+abbrev pub unless_tile_limited : List NamedTable → Option (List ℕ × Passed) → Result (List File) TileError
+unless_tile_limited tables None = Ok (files_made tables)
+unless_tile_limited tables (Some limit) = Err (errors.Limit limit.0 limit.1)
 
 -- the same
-abbrev pub made_of_tables : List NamedTable → Result (List File) TileError
-made_of_tables tables = unless_limited tables (first_limit_of tables)
+abbrev pub tiles_of_tables : List NamedTable → Result (List File) TileError
+tiles_of_tables tables = unless_tile_limited tables (first_limit_of tables)
 
--- the same, unless there is a cause against tiling
+-- the files of tables, unless they pass a limit or there is a cause against tiling
 abbrev pub unless_refused : List NamedTable → Option Refusal → Result (List File) TileError
-unless_refused tables None = made_of_tables tables
+unless_refused tables None = tiles_of_tables tables
 unless_refused tables (Some refusal) = Err (errors.Refused refusal)
 
 -- what tiling comes to of the tables of an untiled coverage of this name, a plan and a table of tiles

@@ -3,6 +3,7 @@
 use std::alloc::{AllocError, AllocFailed};
 use vpf_source::Name;
 use vpf_table::Limit;
+use vpf_table_files::AddError;
 use vpf_tileable::Refusal;
 
 /// Why a coverage isn't tiled.
@@ -46,5 +47,19 @@ impl From<Refusal> for TileError {
 
     fn from(refusal: Refusal) -> Self {
         TileError::Refused(refusal)
+    }
+}
+
+impl From<AddError> for TileError {
+    ghost use Rattle.std.specs.Prelude.{◌≡◌};
+    ghost use Rattle.vpf_tiler.specs.Errors.{tile_error};
+
+    ghost from_gives = { λ error e. e ≡ tile_error error };
+
+    fn from(error: AddError) -> Self {
+        match error {
+            AddError::Limit(name, limit) => TileError::Limit(name, limit),
+            AddError::NoMemory => TileError::NoMemory,
+        }
     }
 }

@@ -2,9 +2,8 @@
 //! cross-tile topology).
 #![tactic(auto)]
 
-mod adding;
 mod errors;
-mod making;
+pub mod laws;
 mod sources;
 mod tiling;
 

@@ -1,19 +1,23 @@
 //! What a coverage is tiled by: its own tables, a plan of tiles for its faces, and the paths of the tiles.
 
-ghost use Rattle.std.specs.Prelude.{◌≡◌, ◌≤◌, ◌<◌, ◌^◌, IfOk, Some, false};
+ghost use Rattle.std.specs.Prelude.{◌≡◌, ◌≤◌, ◌<◌, ◌^◌, IfOk, IfSome, Some, false};
 ghost use Rattle.vpf_prims.specs.Coverages.{tile_at};
 ghost use Rattle.vpf_prims.specs.Reading.{primitives_of};
 ghost use Rattle.vpf_prims.specs.Suiting.{HasColumns};
+ghost use Rattle.vpf_prims.specs.Tables.{table_named};
 ghost use Rattle.vpf_wing.specs.WellFormed.{IsWellFormed};
 ghost use Rattle.vpf_plan.specs.Plans.{IsPlanTable};
 ghost use Rattle.vpf_tileref.specs.Stops.{IsBounded, path_texts};
 ghost use Rattle.vpf_tileref.specs.Tileref.{IsTileref};
+ghost use Rattle.vpf_tile_writing.specs.Writable.{AreWritable, HaveFewRows};
 ghost use Rattle.vpf_tiler.specs.CutBy.{IsCutBy, Refuses, plan_refusal};
+ghost use Rattle.vpf_tiler.specs.Laws.{IsReadable};
 
 use crate::errors::TileError;
 use std::alloc::{AllocError, Global};
 use vpf_cross::Checked;
 use vpf_cutting::Cut;
+use vpf_findings::TableName;
 use vpf_numbers::laws::numbers_decide;
 use vpf_plan::named_tiles;
 use vpf_prims::Tile;
@@ -24,12 +28,44 @@ use vpf_tileref::laws::stops_decide;
 use vpf_tileref::{TilePaths, TilerefError, read_tileref};
 use vpf_wing::laws::{cycles_decide, loops_decide};
 
+/// What is so of each table: its header is sound, its rows fit the columns, and they are few.
+pub(crate) fn is_readable(table: &TableView<'_>)
+    ensures { IsReadable table.now }
+{
+    let _columns = table.header().len();
+    let _rows = table.rows();
+    let _count = table.len();
+}
+
+/// The same of the table of this name, where a tile has one.
+fn has_readable(tile: &Tile<'_>, name: TableName)
+    ensures { IfSome (table_named tile.now name) IsReadable }
+{
+    if let Some(table) = tile.table(name) {
+        is_readable(table);
+    }
+}
+
+/// The same of all tables of a tile.
+fn are_readable(tile: &Tile<'_>)
+    ensures writable { AreWritable tile.now.tables }
+    ensures few { HaveFewRows tile.now.tables }
+{
+    has_readable(tile, TableName::Edg);
+    has_readable(tile, TableName::Fac);
+    has_readable(tile, TableName::Rng);
+    has_readable(tile, TableName::Cnd);
+    has_readable(tile, TableName::End);
+}
+
 /// The tables of an untiled coverage in whose topology nothing disagrees.
 pub(crate) fn source_of<'c, 'a>(checked: &Checked<'c, 'a>) -> &'c Tile<'a>
     requires { checked.now.is_tiled ≡ false }
     ensures tile { tile_at checked.now 0 ≡ Some result.now }
     ensures columns { HasColumns result.now.tables }
     ensures well_formed { IsWellFormed (primitives_of result.now.tables) }
+    ensures writable { AreWritable result.now.tables }
+    ensures few { HaveFewRows result.now.tables }
 {
     let coverage = checked.coverage();
     coverage.is_library();
@@ -43,6 +79,7 @@ pub(crate) fn source_of<'c, 'a>(checked: &Checked<'c, 'a>) -> &'c Tile<'a>
     };
     // The number of edges is one that darts can have.
     let _edges = tile.edges();
+    are_readable(tile);
     tile
 }
 

@@ -1,23 +1,56 @@
 //! A coverage that is tiled.
 
-ghost use Rattle.std.specs.Prelude.{◌≡◌, Some, false};
+ghost use Rattle.std.specs.Prelude.{◌≡◌, IfOk, Some, false};
 ghost use Rattle.vpf_base.specs.Results.{Meets};
 ghost use Rattle.vpf_prims.specs.Coverages.{tile_at};
+ghost use Rattle.vpf_prims.specs.Reading.{primitives_of};
+ghost use Rattle.vpf_prims.specs.Suiting.{HasColumns};
 ghost use Rattle.vpf_prims.specs.Tables.{TileTables};
+ghost use Rattle.vpf_wing.specs.WellFormed.{IsWellFormed};
 ghost use Rattle.vpf_plan.specs.Plans.{IsPlanTable};
 ghost use Rattle.vpf_tileref.specs.Stops.{IsBounded};
 ghost use Rattle.vpf_tileref.specs.Tileref.{IsTileref};
-ghost use Rattle.vpf_tiler.specs.Making.{error_seen, tiled};
+ghost use Rattle.vpf_tiler.specs.Making.{tile_error_seen, tiled};
+ghost use Rattle.vpf_tiler.specs.Tilings.{GoesOnAs, HasCyclesOf, InEachFolder, IsGluedTo, IsHeldInTiles, OfEachCoverage, tiling_of};
 
 use crate::errors::TileError;
-use crate::making::Making;
-use crate::sources::{cut_by, paths_of, source_of};
+use crate::laws::made_agrees;
+use crate::sources::{cut_by, is_readable, paths_of, source_of};
 use std::alloc::Global;
 use vpf_cross::Checked;
 use vpf_cut_rings::CutRings;
+use vpf_prims::Tile;
 use vpf_source::File;
 use vpf_table::TableView;
+use vpf_tile_files::Making;
 use vpf_tile_tables::Forms;
+
+/// The files of the tiled library of these tables, or the first cause why there are none.
+fn cut_files(
+    alloc: Global,
+    source: &Tile<'_>,
+    plan: &TableView<'_>,
+    tileref: &TableView<'_>,
+    cov: &str,
+) -> Result<Vec<File>, TileError>
+    requires columns { HasColumns source.now.tables }
+    requires well_formed { IsWellFormed (primitives_of source.now.tables) }
+    requires plan { IsPlanTable plan.now }
+    requires tileref { IsTileref tileref.now }
+    requires bounded { IsBounded tileref.now }
+    ensures { Meets (λ files. files.items) tile_error_seen result (tiled cov.now source.now.tables plan.now tileref.now) }
+{
+    let cut = cut_by(alloc, source, plan, tileref.len())?;
+    let paths = paths_of(alloc, tileref)?;
+    let rings = CutRings::new(alloc, &cut)?;
+    let forms = Forms::new(source)?;
+    let making = Making {
+        cut: &cut,
+        rings,
+        forms,
+    };
+    Ok(making.files(alloc, cov, tileref, &paths)?)
+}
 
 /// The files of the tiled library of an untiled coverage, cut by a plan that names a tile for each of its faces but the universe, and by a
 /// table of tiles that names their folders (MIL-STD-2407, 5.2.3, tiled coverages and cross-tile topology).
@@ -41,18 +74,25 @@ pub fn tile(
     requires tileref { IsTileref tileref.now }
     requires bounded { IsBounded tileref.now }
     // The files, or the first cause why there are none.
-    ensures { (tables : TileTables) → tile_at checked.now 0 ≡ Some tables
-        → Meets (λ files. files.items) error_seen result (tiled cov.now tables.tables plan.now tileref.now) }
+    ensures exact { (tables : TileTables) → tile_at checked.now 0 ≡ Some tables
+        → Meets (λ files. files.items) tile_error_seen result (tiled cov.now tables.tables plan.now tileref.now) }
+    // Each folder that holds exactly these files holds the coverage in tiles, and it agrees.
+    ensures accepted { (tables : TileTables) → tile_at checked.now 0 ≡ Some tables
+        → IfOk result (λ files. InEachFolder cov.now files.items (IsHeldInTiles (tiling_of tables.tables plan.now tileref.now) cov.now)) }
+    // Whatever coverage such a folder holds goes on as the coverage does: its map is the same, each dart called by its name.
+    ensures next { (tables : TileTables) → tile_at checked.now 0 ≡ Some tables
+        → IfOk result (λ files. OfEachCoverage cov.now files.items (GoesOnAs (tiling_of tables.tables plan.now tileref.now))) }
+    // It has the boundary cycles of the coverage, lines between tiles passed over.
+    ensures cycles { (tables : TileTables) → tile_at checked.now 0 ≡ Some tables
+        → IfOk result (λ files. OfEachCoverage cov.now files.items (HasCyclesOf (tiling_of tables.tables plan.now tileref.now))) }
+    // It is glued to the coverage, renumbered, and its plan names the same tiles.
+    ensures glued { (tables : TileTables) → tile_at checked.now 0 ≡ Some tables
+        → IfOk result (λ files. OfEachCoverage cov.now files.items (IsGluedTo (tiling_of tables.tables plan.now tileref.now))) }
 {
+    made_agrees();
+    is_readable(tileref);
+    // The name of the coverage is text.
+    let _text = cov.as_bytes();
     let source = source_of(checked);
-    let cut = cut_by(alloc, source, plan, tileref.len())?;
-    let paths = paths_of(alloc, tileref)?;
-    let rings = CutRings::new(alloc, &cut)?;
-    let forms = Forms::new(source)?;
-    let making = Making {
-        cut: &cut,
-        rings,
-        forms,
-    };
-    making.files(alloc, cov, tileref, &paths)
+    cut_files(alloc, source, plan, tileref, cov)
 }

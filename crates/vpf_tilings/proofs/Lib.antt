@@ -2,5 +2,4 @@ pub mod TextLemmas
 pub mod ReadLemmas
 pub mod MadeLemmas
 pub mod SourceLemmas
-pub mod WrittenLemmas
 pub mod TilingLemmas

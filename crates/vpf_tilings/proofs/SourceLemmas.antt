@@ -5,7 +5,6 @@ use Rattle.std.proofs.Math.Dec.{eqb-suc-zero}
 use Rattle.vpf_source.specs.Files.{Files}
 use Rattle.vpf_findings.specs.Findings.{Disagreement}
 use Rattle.vpf_prims.specs.Coverages.{tile_at, untiled_coverage}
-use Rattle.vpf_prims.specs.Laws.{AreFilled}
 use Rattle.vpf_prims.specs.Libraries.{library_of}
 use Rattle.vpf_prims.specs.Primitives.{Library, Primitives, untiled}
 use Rattle.vpf_prims.specs.Reading.{PrimitiveTables, primitives_of}
@@ -15,7 +14,7 @@ use Rattle.vpf_tileref.specs.Laws.{StopsDecide}
 use Rattle.vpf_tileref.specs.Stops.{IsBounded, TilerefStop, tileref_stop}
 use Rattle.vpf_tileref.specs.Tileref.{IsTileref}
 use Rattle.vpf_loading.specs.Holding.{HoldsBytes, bytes_in}
-use Rattle.vpf_loading.specs.Laws.{AreNamedApart, FilesAreWhole, HeldIsRead}
+use Rattle.vpf_loading.specs.Laws.{HeldIsRead}
 use Rattle.vpf_loading.specs.Loading.{LoadedCoverage, LoadedTable, LoadedTile, Read, ◌and_then◌, read_coverage, read_table, read_tile, read_tileref}
 use Rattle.vpf_loading.specs.Loading.{tileref_name, unless_stopped, untiled_loaded, untiled_or_tiled, within}
 use Rattle.vpf_plan.specs.PlanLoads.{read_plan}
@@ -24,7 +23,7 @@ use Rattle.vpf_wing.specs.WellFormed.{IsWellFormed}
 use Rattle.vpf_cross.specs.Agreeing.{LibraryAgrees}
 use Rattle.vpf_replies.specs.declared.verdict.Verdict.TheVariants.{Done}
 use Rattle.vpf_library_commands.specs.declared.checking.CheckRequest.{CheckRequest}
-use Rattle.vpf_library_commands.specs.declared.tiling.TileRequest.{TileRequest}
+use Rattle.vpf_library_commands.specs.declared.requesting.MakeRequest.{MakeRequest}
 use Rattle.vpf_library_commands.specs.Agreeing.{CheckDecides, IsAgreeing}
 use Rattle.vpf_library_commands.specs.Check.{check_answer, coverage_finding, found_answer, read_answer}
 use Rattle.vpf_library_commands.specs.Tile.{TileParts, plan_name, read_parts}
@@ -99,8 +98,6 @@ parts_read opened files lib cov parts all h =
 -- the tables of an untiled coverage, the table of tiles, and what is so of them
 pub record IsSource (T : PrimitiveTables) (parts : TileParts) : Type 0 where
   pub columns : HasColumns T
-  pub filled : AreFilled T
-  pub apart : AreNamedApart T
   pub grids : AreReadGrids T
   pub well_formed : IsWellFormed (primitives_of T)
   pub tileref : IsTileref parts.tileref.grid
@@ -145,10 +142,10 @@ some_tables : (a b : TileTables) → Some a ≡ Some b → a ≡ b
 some_tables a b e = cc
 
 -- what is cut into tiles is an untiled coverage that agrees
-pub source : OpenedIsRead → StopsDecide → CheckDecides → HeldIsRead → FilesAreWhole
-    → (files : Files) (request : TileRequest) (parts : TileParts) (T : TileTables)
+pub source : OpenedIsRead → StopsDecide → CheckDecides → HeldIsRead
+    → (files : Files) (request : MakeRequest) (parts : TileParts) (T : TileTables)
     → HoldsBytes files → IsCutFrom files request parts T → IsSource T.tables parts
-source opened stops check held whole files request parts T all cut =
+source opened stops check held files request parts T all cut =
     let r = parts_read opened files request.lib request.cov parts all cut.read in
     let asked : CheckRequest = record { lib = request.lib; cov = request.cov } in
     let agrees : IsAgreeing files asked parts.coverage = agreeing check held files asked parts.coverage r.coverage.loaded all r.coverage.read cut.agrees in
@@ -157,13 +154,9 @@ source opened stops check held whole files request parts T all cut =
     let library : library_of parts.coverage.coverage ≡ untiled (primitives_of T.tables) =
     sym (ap (λ (c : LoadedCoverage). library_of c.coverage) r.coverage.is) ∙ library_alone own
     ∙ ap (λ (t : TileTables). untiled (primitives_of t.tables)) same in
-    let filled : AreFilled T.tables × AreNamedApart T.tables =
-    whole request.lib request.cov parts.coverage.coverage parts.coverage.files agrees.held.are 0 T cut.tables in
     let tiles : IsTileref parts.tileref.grid × IsBounded parts.tileref.grid = (stops parts.tileref.grid).0 r.goes_on in
     record {
       columns = agrees.columns.suit 0 T cut.tables;
-      filled = filled.0;
-      apart = filled.1;
       grids = subst (λ (t : TileTables). AreReadGrids t.tables) same r.coverage.grids;
       well_formed = well_formed (primitives_of T.tables) (library_of parts.coverage.coverage) library agrees.rows;
       tileref = tiles.0;

@@ -11,8 +11,8 @@ use Rattle.std.proofs.lemmas.List.Splits.{slice_split-cons_no, slice_split-cons_
 use Rattle.std.proofs.lemmas.Str.{IsUtf8-append, IsUtf8-encode, IsUtf8-nil, NoCharPasses-byte, encode_ascii}
 use Rattle.std.proofs.lemmas.Option.{none-some}
 use Rattle.vpf_base.proofs.Booleans.{both}
-use Rattle.vpf_library_commands.specs.declared.tiling.TileRequest.{TileRequest}
-use Rattle.vpf_library_commands.specs.Tile.{is_inside, tile_request_of}
+use Rattle.vpf_library_commands.specs.declared.requesting.MakeRequest.{MakeRequest}
+use Rattle.vpf_library_commands.specs.Make.{is_inside, make_request_of}
 use Rattle.vpf_tilings.specs.Laws.{RequestsHaveNames}
 use Rattle.vpf_names.specs.Naming.{coverage_name, file_name, is_part, joined_parts, named, parts_of, pieces_of, root_of, slash}
 
@@ -132,17 +132,17 @@ some_named [] name e none = absurd (none-some name e)
 some_named (b ∷ bs) name e none = absurd (let same : b ∷ bs ≡ [] = some_name (b ∷ bs) name e ∙ none in cc)
 
 -- what the words of a request spell
-record AreSpelled (lib cov out : Option (List ℕ)) (request : TileRequest) : Type 0 where
+record AreSpelled (lib cov out : Option (List ℕ)) (request : MakeRequest) : Type 0 where
   coverage : cov ≡ Some request.cov
   folder : out ≡ Some request.out
 
-spelled_so : (lib cov out : Option (List ℕ)) (request : TileRequest) → tile_request_of lib cov out ≡ Some request → AreSpelled lib cov out request
+spelled_so : (lib cov out : Option (List ℕ)) (request : MakeRequest) → make_request_of lib cov out ≡ Some request → AreSpelled lib cov out request
 spelled_so None cov out request h = absurd cc
 spelled_so (Some lib) None out request h = absurd cc
 spelled_so (Some lib) (Some cov) None request h = absurd cc
 spelled_so (Some lib) (Some cov) (Some out) request h = by (is_inside lib out) h
   where
-    by : (b : Bool) → cond {A = Option TileRequest} b None (Some (record { lib = lib; cov = cov; out = out })) ≡ Some request
+    by : (b : Bool) → cond {A = Option MakeRequest} b None (Some (record { lib = lib; cov = cov; out = out })) ≡ Some request
         → AreSpelled (Some lib) (Some cov) (Some out) request
     by true e = absurd cc
     by false e = record {

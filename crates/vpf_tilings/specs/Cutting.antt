@@ -6,10 +6,10 @@ use Rattle.vpf_prims.specs.Coverages.{tile_at}
 use Rattle.vpf_prims.specs.Reading.{primitives_of}
 use Rattle.vpf_prims.specs.Tables.{TileTables}
 use Rattle.vpf_tileable.specs.Planning.{plan_of}
-use Rattle.vpf_tiler.specs.Adding.{NamedTable, files_made, first_limit_of}
+use Rattle.vpf_table_files.specs.Adding.{NamedTable, files_made, first_limit_of}
 use Rattle.vpf_tiler.specs.CutBy.{names_of_faces, plan_refusal}
-use Rattle.vpf_tiler.specs.Tables.{library_tables}
-use Rattle.vpf_library_commands.specs.declared.tiling.TileRequest.{TileRequest}
+use Rattle.vpf_tile_files.specs.Tables.{library_tables}
+use Rattle.vpf_library_commands.specs.declared.requesting.MakeRequest.{MakeRequest}
 use Rattle.vpf_library_commands.specs.Check.{coverage_finding}
 use Rattle.vpf_library_commands.specs.Tile.{TileParts, file_within, read_parts}
 
@@ -18,16 +18,16 @@ abbrev pub cut_plan : TileParts → TileTables → ℕ → ℕ
 cut_plan parts T = plan_of (names_of_faces T.tables parts.plan.grid)
 
 -- the tables of the tiled library of what was read
-abbrev pub cut_tables : TileRequest → TileParts → TileTables → List NamedTable
+abbrev pub cut_tables : MakeRequest → TileParts → TileTables → List NamedTable
 cut_tables request parts T = library_tables request.cov T.tables (primitives_of T.tables) (cut_plan parts T) parts.tileref.grid
 
 -- their files, in the folder that is asked for
-abbrev pub cut_files : TileRequest → TileParts → TileTables → List File
+abbrev pub cut_files : MakeRequest → TileParts → TileTables → List File
 cut_files request parts T = map (file_within request.out) (files_made (cut_tables request parts T))
 
 -- What is read is an untiled coverage of these tables, a table of tiles and a plan. Nothing is found in the coverage, nothing speaks against its
 -- plan, and no table passes a bound.
-pub record IsCutFrom (files : Files) (request : TileRequest) (parts : TileParts) (T : TileTables) : Type 0 where
+pub record IsCutFrom (files : Files) (request : MakeRequest) (parts : TileParts) (T : TileTables) : Type 0 where
   pub read : (read_parts files request.lib request.cov 0).0 ≡ Ok parts
   pub tables : tile_at parts.coverage.coverage 0 ≡ Some T
   pub agrees : coverage_finding parts.coverage.coverage ≡ None

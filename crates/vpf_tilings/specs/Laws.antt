@@ -6,32 +6,33 @@ use Rattle.vpf_source.specs.Making.{with_all}
 use Rattle.vpf_prims.specs.Reading.{primitives_of}
 use Rattle.vpf_prims.specs.Tables.{TileTables}
 use Rattle.vpf_loading.specs.Holding.{HoldsBytes}
-use Rattle.vpf_library_commands.specs.declared.tiling.TileRequest.{TileRequest}
+use Rattle.vpf_library_commands.specs.declared.requesting.MakeRequest.{MakeRequest}
 use Rattle.vpf_replies.specs.Making.{made_answer}
-use Rattle.vpf_library_commands.specs.Tile.{TileParts, tile_answer, tile_request}
+use Rattle.vpf_library_commands.specs.Make.{make_request}
+use Rattle.vpf_library_commands.specs.Tile.{TileParts, tile_answer}
 use Rattle.vpf_tilings.specs.Cutting.{IsCutFrom, cut_files, cut_plan}
 use Rattle.vpf_tilings.specs.Tilings.{HasNames, HoldsTiled, HoldsTiling, StandsAlone, made_request}
 
 -- where what was read can be cut, the answer of `tile` is to make the files of the tiled library
 abbrev pub TilesAreMade : Type 0
-TilesAreMade = (files : Files) (request : TileRequest) (parts : TileParts) (T : TileTables) → IsCutFrom files request parts T
+TilesAreMade = (files : Files) (request : MakeRequest) (parts : TileParts) (T : TileTables) → IsCutFrom files request parts T
     → tile_answer files request ≡ made_answer (cut_files request parts T)
 
 -- where the files of the tiled library are made, and stand alone, the tree holds that library, and it agrees; names are text, and the files that
 -- are read hold bytes
 abbrev pub TilingsAreHeld : Type 0
-TilingsAreHeld = (files after : Files) (request : TileRequest) (parts : TileParts) (T : TileTables) → HoldsBytes files → HasNames request
+TilingsAreHeld = (files after : Files) (request : MakeRequest) (parts : TileParts) (T : TileTables) → HoldsBytes files → HasNames request
     → IsCutFrom files request parts T → StandsAlone files request.out (cut_files request parts T)
     → with_all (cut_files request parts T) (Some files) ≡ Some after
     → HoldsTiled after (made_request request) (primitives_of T.tables) (cut_plan parts T) (length parts.tileref.grid.rows)
 
 -- and where all files hold bytes, `check` accepts it, and `trace` lists the coverage's cycles
 abbrev pub TilingsAgree : Type 0
-TilingsAgree = (files after : Files) (request : TileRequest) (parts : TileParts) (T : TileTables) → HoldsBytes files → HoldsBytes after → HasNames request
+TilingsAgree = (files after : Files) (request : MakeRequest) (parts : TileParts) (T : TileTables) → HoldsBytes files → HoldsBytes after → HasNames request
     → IsCutFrom files request parts T → StandsAlone files request.out (cut_files request parts T)
     → with_all (cut_files request parts T) (Some files) ≡ Some after
     → HoldsTiling after (made_request request) (primitives_of T.tables) (cut_plan parts T) (length parts.tileref.grid.rows)
 
 -- words of text spell requests whose names are text
 abbrev pub RequestsHaveNames : Type 0
-RequestsHaveNames = (words : List (List ℕ)) (request : TileRequest) → AllByRecursion IsUtf8 words → tile_request words ≡ Some request → HasNames request
+RequestsHaveNames = (words : List (List ℕ)) (request : MakeRequest) → AllByRecursion IsUtf8 words → make_request words ≡ Some request → HasNames request

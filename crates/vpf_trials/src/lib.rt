@@ -1,4 +1,4 @@
-//! Trials of the crates on topology, and of `check`, `trace` and `tile`, over tables and coverages in memory: no function but tests. They stand apart, since a crate
+//! Trials of the crates on topology, and of `check`, `trace`, `tile` and `glue`, over tables and coverages in memory: no function but tests. They stand apart, since a crate
 //! with tests is proved once more with them.
 #![tactic(auto)]
 
@@ -8,6 +8,8 @@ mod boundaries;
 mod checks;
 #[cfg(test)]
 mod coverages;
+#[cfg(test)]
+mod gluings;
 #[cfg(test)]
 mod libraries;
 #[cfg(test)]

@@ -4,10 +4,10 @@ use crate::checks::coverage_tree;
 use crate::coverages::THREE;
 use crate::libraries::{Change, NAMED, TWO, Table};
 use crate::tiled::tree_of;
-use std::alloc::Global;
+use std::alloc::{AllocError, Global};
 use std::process::Abort;
 use std::test::Fail;
-use vpf_library_commands::{TileRequest, tile};
+use vpf_library_commands::{MakeRequest, tile};
 use vpf_replies::{Reply, Verdict};
 use vpf_source::MemTree;
 
@@ -44,7 +44,7 @@ const SOURCE: &[Table] = &[
 ];
 
 /// The entity nodes of its two tiles.
-const ENDS: &[Table] = &[
+pub const ENDS: &[Table] = &[
     ("out/cov/t1/end", "id=I,1 containing_face=I,1", &["1 2"]),
     (
         "out/cov/t2/end",
@@ -185,12 +185,12 @@ const ABSENT: &[(&[&str], &str)] = &[
 ];
 
 /// The reply to `tile lib cov out`.
-fn tiled(alloc: Global, tree: &mut MemTree) -> Result<Reply, Fail> {
+pub fn tiled(alloc: Global, tree: &mut MemTree) -> Result<Reply, Fail> {
     let mut words = Vec::new(alloc);
     for word in ["lib", "cov", "out"] {
         words.push(String::from_str(alloc, word)?)?;
     }
-    let Some(request) = TileRequest::read(alloc, &words)? else {
+    let Some(request) = MakeRequest::read(alloc, &words)? else {
         return Err("usage")?;
     };
     match tile(alloc, &request, tree) {
@@ -200,7 +200,7 @@ fn tiled(alloc: Global, tree: &mut MemTree) -> Result<Reply, Fail> {
 }
 
 /// A file of this name and bytes is made.
-fn check_made(rt: &impl Abort, reply: &Reply, tree: &MemTree, name: &str) -> Result<(), Fail> {
+pub fn check_made(rt: &impl Abort, reply: &Reply, tree: &MemTree, name: &str) -> Result<(), Fail> {
     for file in reply.made() {
         if file.name.as_str() == name {
             assert_eq!(rt; Some(file.bytes.as_slice()), tree.file(name), "{name}");
@@ -211,7 +211,7 @@ fn check_made(rt: &impl Abort, reply: &Reply, tree: &MemTree, name: &str) -> Res
 }
 
 /// These tables are made, with lines changed.
-fn check_tables(
+pub fn check_tables(
     rt: &impl Abort,
     alloc: Global,
     reply: &Reply,
@@ -278,9 +278,8 @@ const INDEX: &[u8] = b"\x02\0\0\0\xe6\0\0\0\xea\0\0\0\x16\0\0\0\0\x01\0\0\x18\0\
 const ROW: &[u8] =
     b"\x01\0\0\0\x54\x01\x02\x01\x40\x02\x40\x02\x40\x01\x40\x02\x54\x02\x02\x01\0\0";
 
-#[test]
-fn makes_the_worked_library(rt: HostRuntime) -> Result<(), Fail> {
-    let alloc = rt.alloc();
+/// The coverage of three edges with a table of two tiles and its plan.
+pub fn worked_tree(alloc: Global) -> Result<MemTree, AllocError> {
     let mut tree = coverage_tree(alloc, &THREE, &[])?;
     tree.put(
         "lib/tileref/tileref.aft",
@@ -290,6 +289,13 @@ fn makes_the_worked_library(rt: HostRuntime) -> Result<(), Fail> {
         "lib/cov/plan",
         b"\x39\0\0\0L;Plan;-;id=I,1,P,Face,-,-,-,:tile_id=I,1,N,Tile,-,-,-,:;\x02\0\0\0\x01\0\0\0\x03\0\0\0\x02\0\0\0",
     )?;
+    Ok(tree)
+}
+
+#[test]
+fn makes_the_worked_library(rt: HostRuntime) -> Result<(), Fail> {
+    let alloc = rt.alloc();
+    let mut tree = worked_tree(alloc)?;
     let reply = tiled(alloc, &mut tree)?;
     assert_eq!(rt; reply.text(), WORKED.as_bytes());
     let [_, edges, index, ..] = reply.made() else {

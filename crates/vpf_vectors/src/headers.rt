@@ -3,6 +3,7 @@
 ghost use Rattle.std.specs.Prelude.{◌≡◌, ℕ, IsOk, IfOk, Ok};
 ghost use Rattle.vpf_head.specs.Head.{Head};
 ghost use Rattle.vpf_head.specs.Reading.{header_of};
+ghost use Rattle.vpf_vectors.specs.Heads.{plan_head};
 
 use std::alloc::{AllocError, Global};
 use vpf_head::Header;
@@ -30,8 +31,7 @@ pub(crate) const NODES: &[u8] =
     b"\x3b\0\0\0L;Nodes;-;id=I,1,P,Id,-,-,-,:first_edge=I,1,N,Edge,-,-,-,:;";
 
 /// The header of the home tiles of faces.
-pub(crate) const PLAN: &[u8] =
-    b"\x39\0\0\0L;Plan;-;id=I,1,P,Face,-,-,-,:tile_id=I,1,N,Tile,-,-,-,:;";
+const PLAN: &[u8] = b"\x39\0\0\0L;Plan;-;id=I,1,P,Face,-,-,-,:tile_id=I,1,N,Tile,-,-,-,:;";
 
 /// The header that these bytes are.
 pub(crate) fn header_in(alloc: Global, bytes: &'static [u8]) -> Result<Header<'static>, AllocError>
@@ -43,4 +43,11 @@ pub(crate) fn header_in(alloc: Global, bytes: &'static [u8]) -> Result<Header<'s
         Err(PlaceError::NoMemory) => Err(AllocError),
         Err(PlaceError::Place(_)) => unreachable!(),
     }
+}
+
+/// The header of a plan, which names for each face its tile: `L;Plan;-;id=I,1,P,Face,-,-,-,:tile_id=I,1,N,Tile,-,-,-,:;`.
+pub fn plan_header(alloc: Global) -> Result<Header<'static>, AllocError>
+    ensures { IfOk result (λ header. header ≡ plan_head) }
+{
+    header_in(alloc, PLAN)
 }

@@ -11,5 +11,6 @@ mod tables;
 mod tests;
 mod vectors;
 
+pub use headers::plan_header;
 pub use library::grid;
 pub use vectors::{VECTORS, Vector};

@@ -9,7 +9,7 @@ ghost use Rattle.vpf_vectors.specs.Heads.{face_head, node_head, plan_head};
 ghost use Rattle.vpf_vectors.specs.Library.{coverage_tables, grid_files, tiles};
 ghost use Rattle.vpf_vectors.specs.Tables.{tileref_table, edge_table, ring_table, pair_table};
 
-use crate::headers::{FACES, NODES, PLAN, header_in};
+use crate::headers::{FACES, NODES, header_in, plan_header};
 use crate::laws::tables_say_grid;
 use crate::tables::{edge_table, pair_table, ring_table, tileref_table};
 use std::alloc::{AllocError, Global};
@@ -78,7 +78,7 @@ fn plan_bytes(alloc: Global, n: u32, rows: &[u32]) -> Result<Bytes, AllocError>
     ensures { IfOk result (λ bytes. bytes ≡ canonical_table (pair_table plan_head 2 (plan_rows n))) }
 {
     grids::tiles_of_the_grid();
-    let header = header_in(alloc, PLAN)?;
+    let header = plan_header(alloc)?;
     pair_table(alloc, &header, 2, rows)
 }
 

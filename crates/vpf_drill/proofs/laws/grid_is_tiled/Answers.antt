@@ -15,7 +15,6 @@ returns c = lemmas.grid_is_tiled (record {
   tables = c.grid_is_read_to_cut.ensures.tables;
   unfound = c.grid_is_unfound.ensures;
   serves = c.grid_serves.ensures.serves;
-  names = c.names_differ.ensures.within;
   limits = c.grid_is_small.ensures.limits;
   few = c.grid_is_small.ensures.bytes;
   requests = c.requests_have_names.ensures;

@@ -9,8 +9,8 @@ unreachable-requires c =
     is_found ghosts.cmp c.numbers_keep_order.ensures c.args.darts.now c.requires.order c.args.dart (omega arith) c.in-Err.field-0 c.requires.there
     (subst (IsBinarySearchResult (λ y. ghosts.cmp y c.args.dart) c.args.darts.now) c.in-Err.is c.binary_search.ensures.position)
 
-pub returns : goal.returns
-returns c =
+pub returns-clause-place : goal.returns-clause-place
+returns-clause-place c =
     found_at ghosts.cmp c.numbers_keep_order.ensures c.args.darts.now c.requires.order c.args.dart (omega arith) c.in-Ok.place
     (subst (λ r. IsSearchInRange r (length c.args.darts.now)) c.in-Ok.is c.binary_search.ensures.bound)
     (subst (IsBinarySearchResult (λ y. ghosts.cmp y c.args.dart) c.args.darts.now) c.in-Ok.is c.binary_search.ensures.position)

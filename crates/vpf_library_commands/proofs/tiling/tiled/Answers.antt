@@ -3,7 +3,8 @@ use Rattle.vpf_prims.specs.Coverages.{CoverageTables, tile_at}
 use Rattle.vpf_loading.specs.Loading.{tileref_name}
 use Rattle.vpf_tileref.specs.Stops.{IsBounded}
 use Rattle.vpf_tileref.specs.Tileref.{IsTileref}
-use Rattle.vpf_tiler.specs.Making.{error_seen, tiled}
+use Rattle.vpf_tiler.specs.Making.{tile_error_seen}
+use Rattle.vpf_tiler.specs.Making.{tiled}
 use Rattle.vpf_base.specs.Results.{Told}
 use Rattle.vpf_replies.specs.Answer.{Answer}
 use Rattle.vpf_replies.specs.Making.{made_answer}
@@ -31,7 +32,7 @@ returns-in-Ok c parts are same =
     let plan_is : c.in_ok-plan.plan ≡ parts.plan.grid = c.in_ok-plan.ensures.table (plan_name request.lib request.cov) parts.plan.grid (rw c.deref.ensures.value are.plan.are) in
     let tileref_is : c.in_ok-tileref.tileref ≡ parts.tileref.grid = c.in_ok-tileref.ensures (tileref_name request.lib) parts.tileref.grid (rw c.deref-2.ensures.value are.tileref) in
     let made_is : tiled request.cov T.0.tables parts.plan.grid parts.tileref.grid ≡ Ok c.in-Ok.made.items =
-    sym (tiled_same T.0.tables c.as_str.result.now request.cov c.in_ok-plan.plan parts.plan.grid c.in_ok-tileref.tileref parts.tileref.grid c.as_str.ensures plan_is tileref_is) ∙ c.in-Ok.ensures T.0 there in
+    sym (tiled_same T.0.tables c.as_str.result.now request.cov c.in_ok-plan.plan parts.plan.grid c.in_ok-tileref.tileref parts.tileref.grid c.as_str.ensures plan_is tileref_is) ∙ c.in-Ok.ensures.exact T.0 there in
     let files_are : c.in_ok-all_within-in-Ok.field-0.items ≡ map (file_within request.out) c.in-Ok.made.items =
     c.in_ok-all_within-in-Ok.ensures ∙ ap (λ (o : List ℕ). map (file_within o) c.in-Ok.made.items) c.as_str-out.ensures in
     if_ok_more (λ (reply : Answer). reply ≡ made_answer c.in_ok-all_within-in-Ok.field-0.items)
@@ -45,10 +46,10 @@ returns c parts are same =
     let there = ap (λ (x : CoverageTables). tile_at x 0) same ∙ T.1 in
     let plan_is : c.in_ok-plan.plan ≡ parts.plan.grid = c.in_ok-plan.ensures.table (plan_name request.lib request.cov) parts.plan.grid (rw c.deref.ensures.value are.plan.are) in
     let tileref_is : c.in_ok-tileref.tileref ≡ parts.tileref.grid = c.in_ok-tileref.ensures (tileref_name request.lib) parts.tileref.grid (rw c.deref-2.ensures.value are.tileref) in
-    let told : Told (error_seen c.in-Err.error) (tiled request.cov T.0.tables parts.plan.grid parts.tileref.grid) =
-    subst (Told (error_seen c.in-Err.error))
+    let told : Told (tile_error_seen c.in-Err.error) (tiled request.cov T.0.tables parts.plan.grid parts.tileref.grid) =
+    subst (Told (tile_error_seen c.in-Err.error))
     (tiled_same T.0.tables c.as_str.result.now request.cov c.in_ok-plan.plan parts.plan.grid c.in_ok-tileref.tileref parts.tileref.grid c.as_str.ensures plan_is tileref_is)
-    (c.in-Err.ensures T.0 there) in
+    (c.in-Err.ensures.exact T.0 there) in
     if_ok_more (λ (reply : Answer). IsUntiledAnswer c.as_str-out.result.now c.in-Err.error reply)
     (λ (reply : Answer). reply ≡ tables_answer request (tile_at parts.coverage.coverage 0) parts.plan.grid parts.tileref.grid) c.untiled.result
     (λ reply is. untiled_so request parts.coverage.coverage parts.plan.grid parts.tileref.grid T.0 c.in-Err.error reply T.1 told

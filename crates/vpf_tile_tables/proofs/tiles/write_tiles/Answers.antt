@@ -11,8 +11,8 @@ use Rattle.vpf_write.specs.Writing.{Writes}
 use Rattle.vpf_revise.specs.declared.changes.NewKind.{NewKind}
 use Rattle.vpf_revise.specs.Revising.{NewValue, head_with_kinds, revised}
 use Rattle.vpf_tiling.specs.Ranks.{numbered}
-use Rattle.vpf_tile_tables.proofs.ColumnLemmas.{number_names}
-use Rattle.vpf_tile_tables.proofs.NewCellLemmas.{id_fits, id_kinds_are, id_values_are, kind_at, news_fit, number_put, others_fit}
+use Rattle.vpf_table_forms.proofs.ColumnLemmas.{number_names}
+use Rattle.vpf_table_forms.proofs.NewCellLemmas.{id_fits, id_kinds_are, id_values_are, kind_at, news_fit, number_put, others_fit}
 use Rattle.vpf_tile_tables.proofs.TileLemmas.{put_last, put_next, tile_row}
 use Rattle.vpf_tile_tables.proofs.tiles.write_tiles.Goals as goal
 

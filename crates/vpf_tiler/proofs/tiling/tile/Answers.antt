@@ -1,42 +1,53 @@
-use Rattle.std.proofs.Common.{◌≡◌, List, None, Result, Vec, Global, ◌∙◌, sym, ap, subst, rules}
-use Rattle.std.proofs.lemmas.Result.{err_from_is_err_and}
-use Rattle.vpf_base.specs.Results.{Meets}
+use Rattle.std.proofs.Common.{◌≡◌, ◌∙◌, ℕ, List, Vec, Global, sym, subst}
+use Rattle.std.specs.Prelude.{IfOk, IsUtf8, Some}
 use Rattle.vpf_source.specs.declared.file.File.{File}
+use Rattle.vpf_base.specs.Results.{Meets}
+use Rattle.vpf_prims.specs.Coverages.{tile_at}
 use Rattle.vpf_prims.specs.Tables.{TileTables}
 use Rattle.vpf_wing.specs.DartLaws.{same_some}
-use Rattle.vpf_tiler.specs.declared.errors.TileError.{TileError}
-use Rattle.vpf_tiler.specs.Making.{error_seen}
-use Rattle.vpf_tiler.specs.CutBy.{IsCause, IsCutBy, plan_refusal}
-use Rattle.vpf_tiler.proofs.CutLemmas.{refused_told, tiled_is}
+use Rattle.vpf_tiler.specs.Making.{tile_error_seen}
+use Rattle.vpf_tiler.specs.Laws.{AreTilesGiven, OfFilesMade}
+use Rattle.vpf_tiler.specs.Making.{tiled}
+use Rattle.vpf_tiler.specs.Tilings.{GoesOnAs, HasCyclesOf, InEachFolder, IsGluedTo, IsHeldInTiles, OfEachCoverage, Tiling, tiling_of}
+use Rattle.vpf_tiler.proofs.MadeLemmas.{answered}
 use Rattle.vpf_tiler.proofs.tiling.tile.Goals as goal
 
-pub returns-in_err-cut : goal.returns-in_err-cut
-returns-in_err-cut c tables at =
-    let p = err_from_is_err_and c.from_residual.result c.from_residual.ensures.1 in
-    rw (p.1, p.2) (refused_told c.args.cov.now tables.tables c.args.plan.now c.args.tileref.now c.len.result c.in_err-cut.field-0.0 c.len.ensures.value
-    (subst (λ (T : TileTables). IsCause (plan_refusal T.tables c.args.plan.now c.len.result) c.in_err-cut.field-0.0)
-    (same_some c.source_of-source.result.now tables (sym c.source_of-source.ensures.tile ∙ at)) c.in_err-cut.ensures.refused))
+-- the tables that are tiled are those of the coverage
+same_tables : (c : goal.After-cut_files) (tables : TileTables) → tile_at c.args.checked.now 0 ≡ Some tables → c.source_of-source.result.now ≡ tables
+same_tables c tables at = same_some c.source_of-source.result.now tables (sym c.source_of-source.ensures.tile ∙ at)
 
-pub returns-in_err-paths : goal.returns-in_err-paths
-returns-in_err-paths c tables at =
-    let p = err_from_is_err_and c.from_residual-in_err-paths.result c.from_residual-in_err-paths.ensures.1 in
-    rw (p.1, p.2) (search rules)
+-- what is so wherever tiling comes to some files is so of those that are answered
+so_of_answer : (c : goal.After-cut_files) (P : Tiling → List ℕ → List File → Type 0) → OfFilesMade P → (tables : TileTables)
+    → tile_at c.args.checked.now 0 ≡ Some tables
+    → IfOk c.cut_files.result (λ (files : Vec File Global). P (tiling_of tables.tables c.args.plan.now c.args.tileref.now) c.args.cov.now files.items)
+so_of_answer c P of tables at =
+    let s = c.source_of-source.ensures in
+    let text : IsUtf8 c.args.cov.now = subst IsUtf8 c.as_bytes-text.ensures.value c.as_bytes-text.ensures.utf8 in
+    let given : AreTilesGiven c.source_of-source.result.now.tables c.args.tileref.now = record {
+      columns = s.columns;
+      writable = s.writable;
+      few = s.few;
+      well_formed = s.well_formed;
+      right = c.requires.tileref;
+      bounded = c.requires.bounded;
+      tiles = c.is_readable.ensures.writable;
+    } in
+    answered P of c.args.cov.now c.source_of-source.result.now tables c.args.plan.now c.args.tileref.now c.cut_files.result (same_tables c tables at) text given
+    c.cut_files.ensures
 
-pub returns-in_err-rings : goal.returns-in_err-rings
-returns-in_err-rings c tables at =
-    let p = err_from_is_err_and c.from_residual-in_err-rings.result c.from_residual-in_err-rings.ensures.1 in
-    rw (p.1, p.2) (search rules)
+pub returns-clause-exact : goal.returns-clause-exact
+returns-clause-exact c tables at =
+    subst (λ (T : TileTables). Meets (λ (files : Vec File Global). files.items) tile_error_seen c.cut_files.result
+    (tiled c.args.cov.now T.tables c.args.plan.now c.args.tileref.now)) (same_tables c tables at) c.cut_files.ensures
 
-pub returns-in_err-forms : goal.returns-in_err-forms
-returns-in_err-forms c tables at =
-    let p = err_from_is_err_and c.from_residual-in_err-forms.result c.from_residual-in_err-forms.ensures.1 in
-    rw (p.1, p.2) (search rules)
+pub returns-clause-accepted : goal.returns-clause-accepted
+returns-clause-accepted c = so_of_answer c (λ w cov files. InEachFolder cov files (IsHeldInTiles w cov)) c.made_agrees.ensures.accepted
 
-pub returns : goal.returns
-returns c tables at =
-    let same : c.source_of-source.result.now ≡ tables = same_some c.source_of-source.result.now tables (sym c.source_of-source.ensures.tile ∙ at) in
-    subst (λ (o : Result (List File) TileError). Meets (λ (files : Vec File Global). files.items) error_seen c.files.result o)
-    (tiled_is c.args.cov.now tables.tables c.in_ok-forms.forms c.args.plan.now c.args.tileref.now c.len.result c.in_ok-cut.cut c.len.ensures.value
-    (subst (λ (T : TileTables). plan_refusal T.tables c.args.plan.now c.len.result ≡ None) same c.in_ok-cut.ensures.refused)
-    (subst (λ (T : TileTables). IsCutBy T.tables c.args.plan.now c.len.result c.in_ok-cut.cut) same c.in_ok-cut.ensures.cut)
-    (c.in_ok-forms.ensures ∙ ap (λ (T : TileTables). T.tables) same)) c.files.ensures
+pub returns-clause-next : goal.returns-clause-next
+returns-clause-next c = so_of_answer c (λ w cov files. OfEachCoverage cov files (GoesOnAs w)) c.made_agrees.ensures.next
+
+pub returns-clause-cycles : goal.returns-clause-cycles
+returns-clause-cycles c = so_of_answer c (λ w cov files. OfEachCoverage cov files (HasCyclesOf w)) c.made_agrees.ensures.cycles
+
+pub returns-clause-glued : goal.returns-clause-glued
+returns-clause-glued c = so_of_answer c (λ w cov files. OfEachCoverage cov files (IsGluedTo w)) c.made_agrees.ensures.glued

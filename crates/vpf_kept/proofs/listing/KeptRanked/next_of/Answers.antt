@@ -12,4 +12,4 @@ pub place_of-requires-clause-there : goal.place_of-requires-clause-there
 place_of-requires-clause-there g c = next_there _ _ c.args.self.now.darts.now c.args.self.now.kept c.args.rank c.requires _ _ c.next_kept.ensures.next
 
 pub returns : goal.returns
-returns g c = c.place_of.ensures ∙ next_place _ _ c.args.self.now.darts.now c.args.self.now.kept c.args.rank c.requires _ _ c.next_kept.ensures.next
+returns g c = c.place_of.ensures.place ∙ next_place _ _ c.args.self.now.darts.now c.args.self.now.kept c.args.rank c.requires _ _ c.next_kept.ensures.next

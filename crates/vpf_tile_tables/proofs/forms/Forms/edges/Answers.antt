@@ -6,8 +6,8 @@ use Rattle.vpf_tile_tables.specs.Grids.{edges_made}
 use Rattle.vpf_tile_tables.proofs.FormLemmas.{edge_rows}
 use Rattle.vpf_tile_tables.proofs.forms.Forms.edges.Goals as goal
 
-pub write-requires-clause-rows : goal.write-requires-clause-rows
-write-requires-clause-rows c = edge_rows c.args.cut.now.source c.self.inside c.args.self.now c.requires c.self.view_is
+pub write_edges-requires-clause-rows : goal.write_edges-requires-clause-rows
+write_edges-requires-clause-rows c = edge_rows c.args.cut.now.source c.self.inside c.args.self.now c.requires c.self.view_is
 
 pub returns : goal.returns
-returns c = subst (λ (t : PrimitiveTables). Writes (edges_made t.edg c.args.cut.now.source (plan_by c.args.cut.now.plan) c.args.tile) c.write.result) c.self.view_is c.write.ensures
+returns c = subst (λ (t : PrimitiveTables). Writes (edges_made t.edg c.args.cut.now.source (plan_by c.args.cut.now.plan) c.args.tile) c.write_edges.result) c.self.view_is c.write_edges.ensures

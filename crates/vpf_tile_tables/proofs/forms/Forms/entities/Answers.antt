@@ -7,24 +7,21 @@ use Rattle.vpf_tiling.specs.Presence.{containing_face, held_entities, holds_enti
 use Rattle.vpf_tiling.specs.Ranks.{numbered}
 use Rattle.vpf_cutting.specs.Cuts.{plan_by}
 use Rattle.vpf_tile_tables.specs.Grids.{WritesWhere, entities_made}
-use Rattle.vpf_tile_tables.specs.Models.{IsEntityForm}
-use Rattle.vpf_tile_tables.proofs.CountedRows.{length-numbered, made_of_items, rows_within}
+use Rattle.vpf_tile_tables.specs.Models.{NamesFaces}
+use Rattle.vpf_table_forms.proofs.CountedRows.{length-numbered, made_of_items, rows_within}
 use Rattle.vpf_tile_tables.proofs.FormLemmas.{entity_rows, entity_table, written_like}
 use Rattle.vpf_tile_tables.proofs.forms.Forms.entities.Goals as goal
 
-pub write-requires-clause-rows : goal.write-requires-clause-rows
-write-requires-clause-rows c =
+pub write_pairs-requires-clause-rows : goal.write_pairs-requires-clause-rows
+write_pairs-requires-clause-rows c =
     let cut = c.args.cut.now in
     let n = length (entities_in (Some cut.source)) in
     let within = rows_within (holds_entity cut.source (plan_by cut.plan) c.args.tile) n in
     let here : All (IsRowOf n) c.entities_in.result.now = subst (All (IsRowOf n)) (sym c.entities_in.ensures.entities) within in
     subst (λ (n : ℕ). All (IsRowOf n) c.entities_in.result.now) (entity_rows cut.source c.self.inside c.args.self.now c.in-Some.end c.requires c.self.view_is c.in-Some.is) here
 
-pub write-requires-clause-form : goal.write-requires-clause-form
-write-requires-clause-form c = (let form = subst IsEntityForm c.in-Some.is c.self.invariant.end in form.0)
-
-pub write-requires-clause-each : goal.write-requires-clause-each
-write-requires-clause-each c =
+pub write_pairs-requires-clause-each : goal.write_pairs-requires-clause-each
+write_pairs-requires-clause-each c =
     let cut = c.args.cut.now in
     let face = λ (n : ℕ). local_face cut.source (plan_by cut.plan) c.args.tile (containing_face cut.source n) in
     let held = held_entities cut.source (plan_by cut.plan) c.args.tile in
@@ -40,8 +37,8 @@ returns-in-Ok c =
     let held = held_entities cut.source (plan_by cut.plan) c.args.tile in
     let names = λ (k n : ℕ). face n in
     let told = c.deref.ensures.value ∙ c.in_ok-faces.ensures.faces ∙ sym (made_of_items face held) ∙ ap (λ (xs : List ℕ). numbered names xs) (sym c.entities_in.ensures.entities) in
-    let form = subst IsEntityForm c.in-Some.is c.self.invariant.end in
-    let written = written_like end.name.now (codes "containing_face") end.table.now end.table.now names c.entities_in.result.now held (Ok c.in-Ok.written) form.1 refl c.entities_in.ensures.entities
+    let named = subst NamesFaces c.in-Some.is c.self.invariant.containing_face in
+    let written = written_like end.name (codes "containing_face") end.table end.table names c.entities_in.result.now held (Ok c.in-Ok.written) named refl c.entities_in.ensures.entities
     (c.in-Ok.ensures names told) in
     subst (λ (o : Option Grid). WritesWhere o (λ end. entities_made end cut.source (plan_by cut.plan) c.args.tile) (Ok (Some c.in-Ok.written)))
     (sym (entity_table c.self.inside c.args.self.now end c.self.view_is c.in-Some.is)) written
@@ -54,8 +51,8 @@ returns c =
     let held = held_entities cut.source (plan_by cut.plan) c.args.tile in
     let names = λ (k n : ℕ). face n in
     let told = c.deref.ensures.value ∙ c.in_ok-faces.ensures.faces ∙ sym (made_of_items face held) ∙ ap (λ (xs : List ℕ). numbered names xs) (sym c.entities_in.ensures.entities) in
-    let form = subst IsEntityForm c.in-Some.is c.self.invariant.end in
-    let written = written_like end.name.now (codes "containing_face") end.table.now end.table.now names c.entities_in.result.now held (Err c.in-Err.error) form.1 refl c.entities_in.ensures.entities
+    let named = subst NamesFaces c.in-Some.is c.self.invariant.containing_face in
+    let written = written_like end.name (codes "containing_face") end.table end.table names c.entities_in.result.now held (Err c.in-Err.error) named refl c.entities_in.ensures.entities
     (c.in-Err.ensures names told) in
     subst (λ (o : Option Grid). WritesWhere o (λ end. entities_made end cut.source (plan_by cut.plan) c.args.tile) (Err c.in-Err.error))
     (sym (entity_table c.self.inside c.args.self.now end c.self.view_is c.in-Some.is)) written

@@ -1,0 +1,14 @@
+use Rattle.std.proofs.Common.{◌≡◌, codes, take}
+use Rattle.vpf_darts.specs.declared.darts.TileDart.{TileDart}
+use Rattle.vpf_darts.specs.Darts.{tile_dart_code}
+use Rattle.vpf_tiling.specs.Ranks.{numbered}
+use Rattle.vpf_write.specs.Tallies.{Holds}
+use Rattle.vpf_table_forms.specs.Forms.{head_like, pair_kinds}
+use Rattle.vpf_glued_tables.specs.Grids.{glued_node_row}
+use Rattle.vpf_glue.proofs.nodes.write_nodes.Given as goal
+
+abbrev pub invariant-loop-k : goal.invariant-loop-k
+invariant-loop-k l = record {
+  head : l.made.head ≡ head_like l.form.table (pair_kinds (codes "first_edge"));
+  put : Holds l.made (numbered (λ k (d : TileDart). glued_node_row l.form.table.head.columns l.edges k (tile_dart_code d)) (take l.k l.darts));
+}

@@ -1,0 +1,14 @@
+use Rattle.std.proofs.Common.{◌≡◌, ℕ, take}
+use Rattle.vpf_tiling.specs.Ranks.{numbered}
+use Rattle.vpf_write.specs.Tallies.{Holds}
+use Rattle.vpf_table_forms.specs.Forms.{ring_row}
+use Rattle.vpf_glued_faces.specs.declared.rings.GluedRing.{GluedRing}
+use Rattle.vpf_glued_faces.specs.Rings.{ring_of}
+use Rattle.vpf_glued_tables.specs.Grids.{whole_in}
+use Rattle.vpf_glue.proofs.rings.write_rings.Given as goal
+
+abbrev pub invariant-loop-k : goal.invariant-loop-k
+invariant-loop-k l = record {
+  like : l.made.like ≡ l.form;
+  put : Holds l.made.tally (numbered (λ (k : ℕ) (r : GluedRing). ring_row l.form.head.columns k (ring_of (whole_in l.edges) r)) (take l.k l.rings));
+}

@@ -1,0 +1,9 @@
+pub mod DistinctLemmas
+pub mod StartLemmas
+pub mod NumberLemmas
+pub mod FewLemmas
+pub mod FaceLemmas
+pub mod CountLemmas
+pub mod JoinedLemmas
+pub mod RingLemmas
+pub mod UniverseLemmas

@@ -1,0 +1,3 @@
+pub mod PlaceLemmas
+pub mod LikeRows
+pub mod TileRows

@@ -1,0 +1,3 @@
+pub mod Grids
+pub mod Numbers
+pub mod Laws

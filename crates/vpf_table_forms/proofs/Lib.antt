@@ -1,0 +1,5 @@
+pub mod ColumnLemmas
+pub mod CountedRows
+pub mod NewCellLemmas
+pub mod RingLemmas
+pub mod SameColumns

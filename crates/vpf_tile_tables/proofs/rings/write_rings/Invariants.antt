@@ -1,0 +1,13 @@
+use Rattle.std.proofs.Common.{◌≡◌, ℕ, take}
+use Rattle.vpf_tiling.specs.Ranks.{numbered}
+use Rattle.vpf_write.specs.Tallies.{Holds}
+use Rattle.vpf_cut_rings.specs.declared.rings.CutRing.{CutRing}
+use Rattle.vpf_cut_rings.specs.Rings.{ring_of}
+use Rattle.vpf_table_forms.specs.Forms.{ring_row}
+use Rattle.vpf_tile_tables.proofs.rings.write_rings.Given as goal
+
+abbrev pub invariant-loop-k : goal.invariant-loop-k
+invariant-loop-k l = record {
+  like : l.made.like ≡ l.form;
+  put : Holds l.made.tally (numbered (λ (k : ℕ) (r : CutRing). ring_row l.form.head.columns k (ring_of r)) (take l.k l.rings));
+}
