@@ -68,7 +68,7 @@ const NO_COMMANDS: [&[&str]; 17] = [
     &["table"],
     &["--help"],
     &["tile", "lib", "cov", "lib/out"],
-    &["glue", "lib", "cov", "out"],
+    &["glue", "lib", "cov", "lib/out"],
     &["drill"],
     &["drill", "0"],
     &["drill", "3"],
