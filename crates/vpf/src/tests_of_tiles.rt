@@ -1,4 +1,4 @@
-//! `tile` through `run`, over a coverage in memory.
+//! `tile` and `glue` through `run`, over a coverage in memory.
 
 use crate::running::run;
 use crate::status::Status;
@@ -15,6 +15,30 @@ const TILES: &[u8] =
 /// The plan of the coverage.
 const PLAN: &[u8] =
     b"\x39\0\0\0L;Plan;-;id=I,1,P,Face,-,-,-,:tile_id=I,1,N,Tile,-,-,-,:;\x02\0\0\0\x01\0\0\0\x03\0\0\0\x02\0\0\0";
+
+/// What is asked of the tree when the library is cut, what is printed, and the status.
+const JOINS: [(&[&str], &str, Status); 2] = [
+    (
+        &["glue", "out", "cov", "back"],
+        "made back/tileref/tileref.aft 86\nmade back/cov/edg 324\nmade back/cov/fac 85\nmade back/cov/rng 125\nmade back/cov/cnd 79\nmade back/cov/plan 77\nfiles 6\n",
+        Status::Done,
+    ),
+    (
+        &["glue", "lib", "cov", "back"],
+        "refused untiled lib/cov/edg\n",
+        Status::Refused,
+    ),
+];
+
+/// The files that the tiles are joined into, and those that they were cut from.
+const JOINED: [(&str, &str); 6] = [
+    ("back/tileref/tileref.aft", "lib/tileref/tileref.aft"),
+    ("back/cov/edg", "lib/cov/edg"),
+    ("back/cov/fac", "lib/cov/fac"),
+    ("back/cov/rng", "lib/cov/rng"),
+    ("back/cov/cnd", "lib/cov/cnd"),
+    ("back/cov/plan", "lib/cov/plan"),
+];
 
 /// A tree with the library, of which these calls fail.
 fn library_tree(alloc: Global, failing: Vec<u64>) -> Result<MemTree, AllocError> {
@@ -56,4 +80,22 @@ fn stops_where_the_third_file_is_not_made(rt: HostRuntime) -> Result<(), Fail> {
         }
     }
     Err("no call makes the third file")?
+}
+
+#[test]
+fn joins_what_it_cut(rt: HostRuntime) -> Result<(), Fail> {
+    let alloc = rt.alloc();
+    let mut tree = library_tree(alloc, Vec::new(alloc))?;
+    let (status, _) = tiled(alloc, &mut tree)?;
+    assert_eq!(rt; status, Status::Done);
+    for (words, text, wanted) in JOINS {
+        let words = words_of(alloc, words)?;
+        let mut out = MemSink::new(alloc, 4096, Vec::new(alloc));
+        assert_eq!(rt; run(alloc, &words, &mut tree, &mut out), wanted, "{text}");
+        assert_eq!(rt; out.bytes(), text.as_bytes(), "{text}");
+    }
+    for (made, source) in JOINED {
+        assert_eq!(rt; tree.file(made), tree.file(source), "{made}");
+    }
+    Ok(())
 }

@@ -44,6 +44,7 @@ is_answer Is h read (stops.Missing name) answer told is = stopped_in Is h read (
 is_answer Is h read (stops.Place name place) answer told is = stopped_in Is h read (stops.Place name place) answer told is
 is_answer Is h read (stops.Limit name limit) answer told is = stopped_in Is h read (stops.Limit name limit) answer told is
 is_answer Is h read (stops.Finding name f) answer told is = stopped_in Is h read (stops.Finding name f) answer told is
+is_answer Is h read (stops.Varies name) answer told is = stopped_in Is h read (stops.Varies name) answer told is
 
 -- the reply to what stopped the load is the answer
 pub stopped_answer : (Is : Result LoadedCoverage LoadStop → Answer → Type 0) → IsStopped Is → (read : Result LoadedCoverage LoadStop) (stop : LoadStop) (result : Result Answer Halt) → Told (stop_seen stop) (loaded_in read) → ComesTo (IsStopAnswer stop) result → ComesTo (Is read) result

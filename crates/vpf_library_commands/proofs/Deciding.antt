@@ -72,6 +72,7 @@ stop_refuses (stops.Missing name) h = absurd cc
 stop_refuses (stops.Place name place) h = fault_refuses name place place.code h
 stop_refuses (stops.Limit name limit) h = absurd cc
 stop_refuses (stops.Finding name f) h = absurd cc
+stop_refuses (stops.Varies name) h = absurd cc
 stop_refuses stops.Fault h = absurd cc
 stop_refuses stops.NoMemory h = absurd cc
 

@@ -72,6 +72,7 @@ is_answer request read (stops.Missing name) n answer told is = seen_answer reque
 is_answer request read (stops.Place name place) n answer told is = seen_answer request read (stops.Place name place) n answer told is
 is_answer request read (stops.Limit name limit) n answer told is = seen_answer request read (stops.Limit name limit) n answer told is
 is_answer request read (stops.Finding name f) n answer told is = seen_answer request read (stops.Finding name f) n answer told is
+is_answer request read (stops.Varies name) n answer told is = seen_answer request read (stops.Varies name) n answer told is
 
 -- the reply to what stopped the load is the answer
 pub tile_stopped : (request : MakeRequest) (read : Read TileParts) (stop : LoadStop) (n : ℕ) (result : Result Answer Halt) → ReadsStop stop n read

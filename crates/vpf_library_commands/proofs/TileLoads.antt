@@ -30,6 +30,7 @@ untiled_ends read (stops.Missing name) n told counted = ends_read read (stops.Mi
 untiled_ends read (stops.Place name place) n told counted = ends_read read (stops.Place name place) n told counted
 untiled_ends read (stops.Limit name limit) n told counted = ends_read read (stops.Limit name limit) n told counted
 untiled_ends read (stops.Finding name f) n told counted = ends_read read (stops.Finding name f) n told counted
+untiled_ends read (stops.Varies name) n told counted = ends_read read (stops.Varies name) n told counted
 
 -- what stops the first step stops both
 both_end : {V W : Type 0} (read : Read V) (next : V → ℕ → Read W) (seen : LoadStop) (n : ℕ) → read ≡ (Err seen, n) → (read and_then next) ≡ (Err seen, n)
@@ -42,6 +43,7 @@ ends_first read next (stops.Missing name) n e = both_end read next (stops.Missin
 ends_first read next (stops.Place name place) n e = both_end read next (stops.Place name place) n e
 ends_first read next (stops.Limit name limit) n e = both_end read next (stops.Limit name limit) n e
 ends_first read next (stops.Finding name f) n e = both_end read next (stops.Finding name f) n e
+ends_first read next (stops.Varies name) n e = both_end read next (stops.Varies name) n e
 
 -- two steps, the first of which comes to a value
 goes_on : {V W : Type 0} (read : Read V) (next : V → ℕ → Read W) (v : V) (n : ℕ) → read ≡ (Ok v, n) → (read and_then next) ≡ next v n

@@ -6,6 +6,7 @@ use Rattle.vpf_loading.specs.declared.loading.LoadStop.{LoadStop}
 use Rattle.vpf_loading.specs.declared.loading.LoadStop.TheVariants as stops
 use Rattle.vpf_replies.specs.Answer.{Answer, limited, refused}
 use Rattle.vpf_replies.specs.Found.{missing_answer}
+use Rattle.vpf_replies.specs.Refusals.{VaryingRows, refusal_answer}
 use Rattle.vpf_replies.specs.Tables.{fault_answer}
 use Rattle.vpf_replies.specs.Texts.{limit_text}
 
@@ -15,6 +16,7 @@ stop_answer (stops.Missing name) = missing_answer name
 stop_answer (stops.Place name place) = fault_answer name place
 stop_answer (stops.Limit name limit) = limited (limit_text (bound_text limit.what) name limit.found)
 stop_answer (stops.Finding name f) = refused (own_text name f)
+stop_answer (stops.Varies name) = refusal_answer (VaryingRows name)
 stop_answer stops.Fault = refused []
 stop_answer stops.NoMemory = refused []
 

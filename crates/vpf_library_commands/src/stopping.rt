@@ -21,6 +21,7 @@ pub(crate) fn stopped(alloc: Global, stop: LoadStop) -> Result<Reply, Halt>
         LoadStop::Limit(name, passed) => {
             Ok(limit(alloc, passed.what, name.as_str(), passed.found)?)
         }
+        LoadStop::Varies(name) => Ok(refuse(alloc, Refusal::Variable(name.as_str()))?),
         LoadStop::Finding(name, finding) => {
             Ok(kept_disagreement(alloc, name.as_str(), &finding)?)
         }

@@ -59,6 +59,7 @@ counted_stop (stops.Missing name) n read h = rw h refl
 counted_stop (stops.Place name place) n read h = rw h refl
 counted_stop (stops.Limit name limit) n read h = rw h refl
 counted_stop (stops.Finding name found) n read h = rw h refl
+counted_stop (stops.Varies name) n read h = rw h refl
 counted_stop stops.NoMemory n read h = tt
 
 abbrev Loaded : (lib cov : List ℕ) → Option Files → (before : ℕ) → Result (Vec File Global) LoadStop → ℕ → Type 0

@@ -5,5 +5,6 @@ pub mod laws;
 mod loading;
 
 pub use loading::{
-    LoadStop, load_coverage, load_folder, load_tileref, required_table, table_in, within,
+    LoadStop, load_coverage, load_folder, load_tileref, optional_file, optional_table,
+    required_table, table_in, within,
 };

@@ -14,9 +14,10 @@ mod tables;
 mod tileref;
 mod tiles;
 
+pub use files::optional_file;
 pub use names::within;
 use std::alloc::{AllocError, Global};
-pub use tables::required_table;
+pub use tables::{optional_table, required_table};
 pub use tileref::{load_tileref, table_in};
 pub use tiles::load_folder;
 use tiles::load_tiles;
@@ -38,8 +39,10 @@ pub enum LoadStop {
     Place(Name, Place),
     /// The file of this name passes a bound.
     Limit(Name, Limit),
-    /// The table of tiles of this name disagrees here first.
+    /// The table of tiles, the plan or the schema table of this name disagrees here first.
     Finding(Name, OwnFinding),
+    /// The rows of the schema table of this name aren't of one length; a coverage that is loaded has none of it.
+    Varies(Name),
     /// There was too little memory.
     NoMemory,
 }

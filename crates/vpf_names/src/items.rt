@@ -40,7 +40,8 @@ fn before_padding(item: &[u8]) -> &[u8]
     &item[..end]
 }
 
-fn trimmed(item: &[u8]) -> &[u8]
+/// An item of a header, or a cell, that names a file or a table, without the spaces and zeros around the name.
+pub fn trimmed(item: &[u8]) -> &[u8]
     ensures { result.now ≡ trimmed item.now }
 {
     before_padding(after_padding(item))

@@ -10,5 +10,5 @@ mod tests;
 
 pub use folders::last_part;
 pub use indexes::{ends_in_x, index_name};
-pub use items::file_beside;
+pub use items::{file_beside, trimmed};
 pub use naming::{coverage_name, file_name};

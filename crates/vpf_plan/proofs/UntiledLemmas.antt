@@ -74,6 +74,7 @@ counted_so read n (stops.Missing name) h = rw h refl
 counted_so read n (stops.Place name place) h = rw h refl
 counted_so read n (stops.Limit name limit) h = rw h refl
 counted_so read n (stops.Finding name found) h = rw h refl
+counted_so read n (stops.Varies name) h = rw h refl
 counted_so read n stops.NoMemory h = tt
 
 pub untiled_counted : (told : Option Files) (lib cov : List ℕ) (n0 n1 : ℕ) (result : Result (Vec File Global) LoadStop) → UntiledLoads told lib cov n0 n1 result

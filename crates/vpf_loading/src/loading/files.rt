@@ -77,6 +77,8 @@ fn found_in(
 }
 
 /// The bytes of the file of this name, which are counted, or nothing where it is absent.
+///
+/// The stops are `Limit`, `Fault` and `NoMemory`, as those of `load_coverage`.
 pub fn optional_file<T: Tree>(
     alloc: Global,
     tree: &mut T,

@@ -185,6 +185,8 @@ pub fn required_table<T: Tree>(
 }
 
 /// The files of the table of this name, or none where it is absent.
+///
+/// The stops are those of `load_coverage`, but for those of the table of tiles.
 pub fn optional_table<T: Tree>(
     alloc: Global,
     tree: &mut T,
