@@ -1,0 +1,3 @@
+pub mod KeyLemmas
+pub mod SearchLemmas
+pub mod PutLemmas

@@ -1,0 +1,4 @@
+mod ItemLemmas
+mod RowLemmas
+mod ListLemmas
+mod LeftLemmas

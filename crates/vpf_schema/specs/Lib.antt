@@ -1,0 +1,4 @@
+pub mod Items
+pub mod Joins
+pub mod Placed
+pub mod Listing
