@@ -25,19 +25,19 @@ pub record SchemaJoin : Type 0 where
 abbrev pub join_of : SchemaRow → SchemaJoin
 join_of r = record { class = r.class.text.now; table1 = r.table1.text.now; key1 = r.key1.text.now; table2 = r.table2.text.now; key2 = r.key2.text.now }
 
--- the text of a cell; other cells have none
-abbrev pub text_in : Value → List ℕ
-text_in (TextOf text) = text
-text_in v = []
+-- the item in a cell of text; other cells have none
+abbrev pub item_in : Value → List ℕ
+item_in (TextOf text) = text
+item_in v = []
 
 -- what a row says
 abbrev pub join_in_row : List Col → Row → SchemaJoin
 join_in_row columns row = record {
-  class = text_in (named_cell columns (codes "feature_class") row);
-  table1 = text_in (named_cell columns (codes "table1") row);
-  key1 = text_in (named_cell columns (codes "table1_key") row);
-  table2 = text_in (named_cell columns (codes "table2") row);
-  key2 = text_in (named_cell columns (codes "table2_key") row);
+  class = item_in (named_cell columns (codes "feature_class") row);
+  table1 = item_in (named_cell columns (codes "table1") row);
+  key1 = item_in (named_cell columns (codes "table1_key") row);
+  table2 = item_in (named_cell columns (codes "table2") row);
+  key2 = item_in (named_cell columns (codes "table2_key") row);
 }
 
 -- what the rows of a schema table say

@@ -3,7 +3,7 @@
 ghost use Rattle.std.specs.Prelude.{◌≡◌, ◌<◌, ◌^◌, IfOk, None, length, map};
 ghost use Rattle.vpf_prims.specs.Columns.{IsWithin, role_at};
 ghost use Rattle.vpf_prims.specs.References.{cell_at};
-ghost use Rattle.vpf_schema.specs.Joins.{join_of, joins_in, schema_finding, text_in};
+ghost use Rattle.vpf_schema.specs.Joins.{join_of, joins_in, schema_finding, item_in};
 
 use crate::columns::SchemaColumns;
 use crate::items::ItemName;
@@ -30,7 +30,7 @@ pub struct SchemaRow<'a> {
 /// The text of a row in a column.
 fn item_at<'a>(row: &RowView<'_, 'a>, column: &RoleColumn<'_>) -> ItemName<'a>
     requires { IsWithin (length row.now) (role_at column.now) }
-    ensures { result.text.now ≡ text_in (cell_at row.now (role_at column.now).place) }
+    ensures { result.text.now ≡ item_in (cell_at row.now (role_at column.now).place) }
 {
     match cell_at(row, column) {
         Cell::Text(text) => ItemName { text },

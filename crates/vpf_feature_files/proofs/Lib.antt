@@ -1,0 +1,5 @@
+mod Steps
+mod IndexLemmas
+mod TableLemmas
+mod FeatureLemmas
+mod SchemaLemmas

@@ -1,0 +1,4 @@
+pub mod Schemas
+pub mod Reading
+pub mod Held
+pub mod Loads

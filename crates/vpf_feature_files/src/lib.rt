@@ -1,0 +1,11 @@
+//! The files of the features of a coverage: its schema table, the feature tables that it names, and the thematic indexes that their columns name,
+//! read once and kept (MIL-STD-2407, 5.2.3, feature classes).
+#![tactic(auto)]
+
+mod files;
+mod indexes;
+mod schema;
+mod tables;
+
+pub use files::{FeatureFiles, TableFiles};
+pub use schema::load_features;

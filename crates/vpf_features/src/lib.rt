@@ -1,0 +1,16 @@
+//! The features of a coverage: its schema table and feature tables, opened, and the first place where they or their thematic indexes disagree
+//! (MIL-STD-2407, 5.2.3, feature classes).
+#![tactic(auto)]
+
+mod faults;
+mod opening;
+mod rows;
+mod schema;
+#[cfg(test)]
+mod tests;
+mod themes;
+
+pub use faults::FeatureFault;
+pub use opening::open_features;
+pub use schema::{FeatureView, IndexView, Schema};
+pub use themes::check_themes;
