@@ -1,15 +1,11 @@
 -- Lines of cycles, put one after another, and that they are those of the numbers of darts.
-use Rattle.std.proofs.Common.{◌≡◌, ℕ, ◌+◌, ◌^◌, ◌<◌, Bool, true, false, eqb, List, [], ◌∷◌, ◌++◌, drop, length, map, Some, codes, append_assoc, refl, sym, ap, ◌∙◌, arith}
+use Rattle.std.proofs.Common.{◌≡◌, ℕ, ◌+◌, ◌^◌, ◌<◌, Bool, true, false, eqb, List, ◌++◌, drop, Some, codes, append_assoc, refl, ap, arith}
 use Rattle.std.specs.Prelude.{slice_get}
-use Rattle.std.specs.List.{flat_map}
-use Rattle.std.specs.Fmt.{decimal}
 use Rattle.vpf_base.proofs.Lists.{next_item}
 use Rattle.vpf_darts.specs.declared.darts.TileDart.{TileDart}
-use Rattle.vpf_darts.specs.Darts.{code, edge_in, sign_in, sign_of, tile_dart_code, tile_dart_text, tile_in}
-use Rattle.vpf_darts.specs.Laws.{NumbersNameDarts, PartsGiveNumber}
-use Rattle.vpf_darts.specs.Listings.{numbers_of}
-use Rattle.vpf_text.specs.Texts.{◌&◌}
-use Rattle.vpf_replies.specs.Listings.{cycle_lines, cycle_text, dart_of, numbered_text, listing_text}
+use Rattle.vpf_darts.specs.Darts.{sign_in, sign_of, tile_dart_code, tile_dart_text}
+use Rattle.vpf_darts.specs.Laws.{NumbersNameDarts}
+use Rattle.vpf_replies.specs.Listings.{cycle_lines, cycle_text, dart_of, numbered_text}
 
 pub cycle_put : (text : List ℕ) (cycles : List (List TileDart)) (i : ℕ) (cycle : List TileDart) → slice_get cycles i ≡ Some cycle
     → ((text ++ cycle_text cycle) ++ codes "\n") ++ cycle_lines (drop (i + 1) cycles) ≡ text ++ cycle_lines (drop i cycles)

@@ -8,3 +8,4 @@ pub mod Found
 pub mod Halting
 pub mod Loading
 pub mod Listings
+pub mod Selecting

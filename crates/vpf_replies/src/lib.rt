@@ -10,6 +10,7 @@ mod loading;
 mod making;
 mod refusing;
 mod reply;
+mod selecting;
 mod texts;
 mod verdict;
 
@@ -21,5 +22,6 @@ pub use loading::{optional_file, required_file};
 pub use making::{file_of, makes};
 pub use refusing::{Refusal, refuse};
 pub use reply::Reply;
+pub use selecting::wrong_row;
 pub use texts::{fault, limit, usage};
 pub use verdict::Verdict;

@@ -17,21 +17,25 @@ pub enum Refusal<'a> {
     Variable(&'a str),
     /// The coverage isn't tiled: it has edges of its own, in the file of this name.
     Untiled(&'a str),
+    /// No feature class has this name.
+    NoClass(&'a [u8]),
+    /// No feature table stands for the class of this name.
+    NoTable(&'a [u8]),
     /// The table has no column of this name.
-    NoColumn(&'a str),
+    NoColumn(&'a [u8]),
     /// No thematic index can be made of the column of this name.
-    NoIndex(&'a str),
+    NoIndex(&'a [u8]),
     /// The word is no value of the column of this name.
-    BadValue(&'a str),
+    BadValue(&'a [u8]),
 }
 
 /// Puts a reason and the name that it is about.
-fn put_word(text: &mut String, reason: &str, name: &str) -> Result<(), AllocError>
+fn put_word(text: &mut String, reason: &str, name: &[u8]) -> Result<(), AllocError>
     ensures { OnOk result (string_bytes text.new ≡ string_bytes text.old ++ named_text reason.now name.now) }
 {
     text.push_str(reason)?;
     text.push_str(" ")?;
-    put_printed(text, name.as_bytes())
+    put_printed(text, name)
 }
 
 /// Puts what stands behind `refused` in the line of a refusal.
@@ -39,9 +43,11 @@ fn put_reason(text: &mut String, refusal: Refusal<'_>) -> Result<(), AllocError>
     ensures { OnOk result (string_bytes text.new ≡ string_bytes text.old ++ reason_text (reason_of refusal.entry)) }
 {
     match refusal {
-        Refusal::Missing(name) => put_word(text, "missing", name),
-        Refusal::Variable(name) => put_word(text, "variable", name),
-        Refusal::Untiled(name) => put_word(text, "untiled", name),
+        Refusal::Missing(name) => put_word(text, "missing", name.as_bytes()),
+        Refusal::Variable(name) => put_word(text, "variable", name.as_bytes()),
+        Refusal::Untiled(name) => put_word(text, "untiled", name.as_bytes()),
+        Refusal::NoClass(name) => put_word(text, "no-class", name),
+        Refusal::NoTable(name) => put_word(text, "no-table", name),
         Refusal::NoColumn(name) => put_word(text, "no-column", name),
         Refusal::NoIndex(name) => put_word(text, "no-index", name),
         Refusal::BadValue(name) => put_word(text, "bad-value", name),

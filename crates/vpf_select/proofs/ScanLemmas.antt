@@ -1,14 +1,15 @@
 -- The rows that are looked at, one after another.
-use Rattle.std.proofs.Common.{◌≡◌, ℕ, zero, suc, ◌+◌, ◌-◌, ◌<◌, Bool, true, false, List, [], ◌∷◌, ◌++◌, map, length, get_or, Some, append_assoc, refl, sym, ap, ◌∙◌, arith}
+use Rattle.std.proofs.Common.{◌≡◌, ℕ, zero, suc, ◌+◌, ◌-◌, ◌<◌, ◌≤◌, Bool, true, false, cond, List, [], ◌∷◌, ◌++◌, map, length, get_or, Some, append_assoc, refl, sym, ap, ◌∙◌, arith}
 use Rattle.std.specs.Prelude.{slice_get, slice_index_or}
-use Rattle.std.proofs.lemmas.List.{append-nil}
+use Rattle.std.proofs.lemmas.List.{append-nil, length-map}
+use Rattle.std.proofs.lemmas.List.Elements.{All-cons, All-nil}
 use Rattle.std.proofs.lemmas.Option.{get_or_from_slice_get}
 use Rattle.vpf_theme.proofs.WalkLemmas.{row_first, rows_rest}
 use Rattle.vpf_value.specs.Values.{Value, Nothing}
 use Rattle.vpf_table.specs.Grid.{Grid, Row}
 use Rattle.vpf_theme.specs.Ordering.{same_value}
 use Rattle.vpf_theme.specs.Findings.{cell_of, cells_of}
-use Rattle.vpf_theme.specs.Agreeing.{scan_from}
+use Rattle.vpf_theme.specs.Agreeing.{scan_from, scan_of}
 use Rattle.vpf_theme.specs.KeyLaws.{same_yes, same_no}
 use Rattle.vpf_theme.specs.Views.{AreRows}
 use Rattle.vpf_select.specs.Passing.{first_unmet, met_by}
@@ -77,3 +78,19 @@ unmet_other v cells (row ∷ rows) h =
     let first = row_first (length cells) row (row ∷ rows) rows refl h in
     let same : slice_index_or (met_by v cells) (row - 1) false ≡ same_value (cell_of cells row) v = met_at v cells (row - 1) (omega (arith, first.0, first.1)) in
     rw (same, unmet_other v cells rows (rows_rest (length cells) row (row ∷ rows) rows refl h)) refl
+
+-- ---- the rows that are found are rows of the table
+
+rows_case : (b : Bool) (n at : ℕ) (rest : List ℕ) → 1 ≤ at → at ≤ n → AreRows n rest → AreRows n (cond b (at ∷ rest) rest)
+rows_case true n at rest first last h = All-cons (λ row. (1 ≤ row) × (row ≤ n)) at rest (first, last) h
+rows_case false n at rest first last h = h
+
+scan_from_rows : (n at : ℕ) (v : Value) (cells : List Value) → 1 ≤ at → at + length cells ≡ n + 1 → AreRows n (scan_from at v cells)
+scan_from_rows n at v [] first count = All-nil (λ row. (1 ≤ row) × (row ≤ n))
+scan_from_rows n at v (cell ∷ cells) first count =
+    rows_case (same_value cell v) n at (scan_from (at + 1) v cells) first (omega (arith, count)) (scan_from_rows n (at + 1) v cells (omega arith) (omega (arith, count)))
+
+pub scan_rows : (v : Value) (grid : Grid) (c : ℕ) → AreRows (length grid.rows) (scan_of v (cells_of grid c))
+scan_rows v grid c =
+    let many = length-map grid.rows (cell_in c) in
+    scan_from_rows (length grid.rows) 1 v (cells_of grid c) (omega arith) (omega (arith, many))

@@ -4,6 +4,7 @@
 mod digits;
 pub mod laws;
 mod passing;
+mod rows;
 mod scanning;
 mod selecting;
 #[cfg(test)]
@@ -12,6 +13,7 @@ mod value;
 mod words;
 
 pub use passing::select_in_one_pass;
+pub use rows::{cell_in, select_rows, value_in};
 pub use scanning::{Test, scan};
 pub use selecting::{SelectError, select};
 pub use value::{Value, ValueError};

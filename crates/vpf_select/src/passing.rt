@@ -41,6 +41,7 @@ fn all_met(alloc: Global, met: &[bool], hits: Hits<'_>) -> Result<Vec<u32>, Sele
     requires { AreRows (length met.now) hits.left }
     ensures value { Selects (λ v. v.items) result (unless_unlike hits.entry.left (first_unmet met.now hits.entry.left)) }
     ensures refused { RefusesRow (length met.now) result }
+    ensures rows { IfOk result (λ rows. AreRows (length met.now) rows.items) }
 {
     let mut found = Vec::new(alloc);
     for row in hits {
@@ -70,6 +71,7 @@ pub fn select_in_one_pass<L: Ledger, M: Ledger>(
     ensures value { Selects (λ v. v.items) result (selected (Some theme.now) (view test.now.value) (cells_of table.now test.now.column)) }
     // A row that is refused is a row of the table.
     ensures refused { RefusesRow (length table.now.rows) result }
+    ensures rows { IfOk result (λ rows. AreRows (length table.now.rows) rows.items) }
     ensures more { steps.old ≤ steps.new }
     ensures cost { steps.new ≤ steps.old + length table.now.rows }
     ensures compared { Compares (Some theme.now) (view test.now.value) entries.old entries.new }

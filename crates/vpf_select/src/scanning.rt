@@ -4,6 +4,7 @@ ghost use Rattle.std.specs.Prelude.{◌≡◌, ◌<◌, ◌≤◌, ◌+◌, IfOk
 ghost use Rattle.vpf_value.specs.Values.{view};
 ghost use Rattle.vpf_theme.specs.Findings.{cells_of};
 ghost use Rattle.vpf_theme.specs.Agreeing.{scan_of};
+ghost use Rattle.vpf_theme.specs.Views.{AreRows};
 
 use std::alloc::{AllocError, Global};
 use std::sync::ledger::Ledger;
@@ -30,6 +31,7 @@ pub fn scan<L: Ledger>(
 ) -> Result<Vec<u32>, AllocError>
     requires { test.now.column < length table.now.head.columns }
     ensures value { IfOk result (λ rows. rows.items ≡ scan_of (view test.now.value) (cells_of table.now test.now.column)) }
+    ensures rows { IfOk result (λ rows. AreRows (length table.now.rows) rows.items) }
     ensures more { steps.old ≤ steps.new }
     ensures cost { steps.new ≤ steps.old + length table.now.rows }
     ensures ticked { OnOk result (steps.new ≡ steps.old + length table.now.rows) }

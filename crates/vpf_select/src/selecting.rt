@@ -1,6 +1,6 @@
 //! Selection by a thematic index, where there is one.
 
-ghost use Rattle.std.specs.Prelude.{◌≡◌, ◌<◌, ◌≤◌, ◌+◌, length};
+ghost use Rattle.std.specs.Prelude.{◌≡◌, ◌<◌, ◌≤◌, ◌+◌, IfOk, length};
 ghost use Rattle.std.specs.Option.{option_copied};
 ghost use Rattle.vpf_value.specs.Values.{view};
 ghost use Rattle.vpf_theme.specs.Findings.{cells_of};
@@ -61,6 +61,7 @@ fn tested<L: Ledger>(
     requires rows { AreRows (length table.now.rows) hits.left }
     ensures value { Selects (λ v. v.items) result (tested (view test.now.value) (cells_of table.now test.now.column) hits.entry.left) }
     ensures refused { RefusesRow (length table.now.rows) result }
+    ensures rows { IfOk result (λ rows. AreRows (length table.now.rows) rows.items) }
     ensures more { steps.old ≤ steps.new }
     ensures cost { steps.new ≤ steps.old + length hits.entry.left }
 {
@@ -94,6 +95,7 @@ pub fn select<L: Ledger, M: Ledger>(
     ensures value { Selects (λ v. v.items) result (selected (option_copied theme.entry) (view test.now.value) (cells_of table.now test.now.column)) }
     // A row that is refused is a row of the table.
     ensures refused { RefusesRow (length table.now.rows) result }
+    ensures rows { IfOk result (λ rows. AreRows (length table.now.rows) rows.items) }
     ensures more { steps.old ≤ steps.new }
     ensures cost { steps.new ≤ steps.old + most_looks (option_copied theme.entry) (view test.now.value) table.now }
     ensures compared { Compares (option_copied theme.entry) (view test.now.value) entries.old entries.new }

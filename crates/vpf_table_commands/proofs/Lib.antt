@@ -1,5 +1,4 @@
 pub mod AgreeingAnswers
-pub mod CellOfRow
 pub mod CyclesAnswers
 pub mod Elsewhere
 pub mod Lines

@@ -21,8 +21,6 @@ use Rattle.vpf_theme.specs.Reading.{theme_of}
 use Rattle.vpf_select.specs.Selecting.{selected}
 use Rattle.vpf_select.specs.Words.{value_in}
 use Rattle.vpf_text.specs.Texts.{◌&◌}
-use Rattle.vpf_text.specs.Bytes.{printed}
-use Rattle.vpf_text.specs.Cells.{cell_text}
 use Rattle.vpf_names.specs.Indexes.{index_name}
 use Rattle.vpf_names.specs.Items.{file_beside}
 use Rattle.vpf_names.specs.Naming.{file_name}
@@ -30,6 +28,7 @@ use Rattle.vpf_replies.specs.Answer.{Answer, done, refused}
 use Rattle.vpf_replies.specs.Columns.{on_column}
 use Rattle.vpf_replies.specs.Found.{on_optional_file, on_required_file}
 use Rattle.vpf_replies.specs.Refusals.{OtherValue, refusal_answer}
+use Rattle.vpf_replies.specs.Selecting.{wrong_row_text}
 use Rattle.vpf_replies.specs.Tables.{fault_answer, on_table}
 use Rattle.vpf_table_commands.specs.declared.selecting.RowsRequest.{RowsRequest}
 
@@ -50,17 +49,6 @@ found_line row = decimal row & codes "\n"
 -- a line for each row, and how many there are
 abbrev pub found_text : List ℕ → List ℕ
 found_text rows = flat_map found_line rows & codes "found " & decimal (length rows) & codes "\n"
-
--- where an index lists a row for a value that it hasn't: the index's file and the row
-abbrev pub wrong_place_text : List ℕ → ℕ → List ℕ
-wrong_place_text name row = codes "refused index-disagrees " & printed name & codes " row " & decimal row
-
--- the row's cell, and the value
-abbrev pub both_text : Kind → Value → Value → List ℕ
-both_text kind cell value = cell_text kind cell & codes ", " & cell_text kind value
-
-abbrev pub wrong_row_text : List ℕ → Kind → ℕ → Value → Value → List ℕ
-wrong_row_text name kind row cell value = wrong_place_text name row & codes ": " & both_text kind cell value & codes "\n"
 
 -- what is answered over the value that the word has in the column, or that it has none
 abbrev pub on_value : (Value → Answer) → RowsRequest → Option Value → Answer

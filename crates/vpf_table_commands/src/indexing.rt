@@ -108,7 +108,10 @@ fn index_of_column(
     let file = last_part(alloc, request.file.as_str())?;
     match build(alloc, table, file.as_bytes(), c, request.form) {
         Ok(bytes) => make_one(alloc, request.out.as_str(), bytes),
-        Err(BuildError::Kind) => refuse(alloc, Refusal::NoIndex(request.column.as_str())),
+        Err(BuildError::Kind) => refuse(
+            alloc,
+            Refusal::NoIndex(request.column.as_str().as_bytes()),
+        ),
         Err(BuildError::Limit { size }) => limit(alloc, Bound::File, request.out.as_str(), size),
         Err(BuildError::NoMemory) => Err(AllocError),
     }
@@ -124,7 +127,7 @@ fn index_of_table(
 {
     match place_of(table.header(), request.column.as_str()) {
         Some(c) => index_of_column(alloc, request, table, c),
-        None => refuse(alloc, Refusal::NoColumn(request.column.as_str())),
+        None => refuse(alloc, Refusal::NoColumn(request.column.as_str().as_bytes())),
     }
 }
 

@@ -137,7 +137,7 @@ fn rows_of_table<T: Tree>(
 {
     match place_of(table.header(), request.column.as_str()) {
         Some(c) => rows_of_column(alloc, request, table, c, tree),
-        None => Ok(refuse(alloc, Refusal::NoColumn(request.column.as_str()))?),
+        None => Ok(refuse(alloc, Refusal::NoColumn(request.column.as_str().as_bytes()))?),
     }
 }
 

@@ -1,4 +1,4 @@
-use Rattle.std.proofs.Common.{◌≡◌, ◌^◌, ◌<◌, ◌++◌, OnOk, string_bytes, subst, sym, arith}
+use Rattle.std.proofs.Common.{◌^◌, ◌<◌, arith}
 use Rattle.vpf_replies.proofs.CycleLines.{named}
 use Rattle.vpf_replies.proofs.listings.put_dart.Goals as goal
 

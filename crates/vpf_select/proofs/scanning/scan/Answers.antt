@@ -1,8 +1,11 @@
-use Rattle.std.proofs.Common.{◌≡◌, length, ap, arith, sym, ◌∙◌}
+use Rattle.std.proofs.Common.{◌≡◌, length, ap, arith, subst, sym, ◌∙◌}
 use Rattle.std.proofs.lemmas.List.Elements.{All-rest}
 use Rattle.vpf_value.specs.Values.{view}
 use Rattle.vpf_table.specs.Grid.{Row}
-use Rattle.vpf_select.proofs.ScanLemmas.{scan_hit, scan_miss}
+use Rattle.vpf_theme.specs.Findings.{cells_of}
+use Rattle.vpf_theme.specs.Agreeing.{scan_of}
+use Rattle.vpf_theme.specs.Views.{AreRows}
+use Rattle.vpf_select.proofs.ScanLemmas.{scan_done, scan_hit, scan_miss, scan_rows}
 use Rattle.vpf_select.proofs.scanning.scan.Goals as goal
 
 pub loop-row-preserved-in-Continue-1 : goal.loop-row-preserved-in-Continue-1
@@ -29,3 +32,11 @@ loop-row-preserved g c =
       cost = omega (arith, i.cost);
       width = All-rest (λ (row : Row). length row ≡ length c.args.table.now.head.columns) c.in-Some.row c.next.new.self c.loop-row.row-iterator steps i.width;
     }
+
+pub returns-clause-rows : goal.returns-clause-rows
+returns-clause-rows g c =
+    let grid = c.args.table.now in
+    let column = c.args.test.now.column in
+    let v = view c.args.test.now.value in
+    let whole = scan_done v column c.loop-row.k c.loop-row.found.items (scan_of v (cells_of grid column)) c.loop-row.row-iterator c.in-None.ensures.steps.0 c.loop-row.invariant.found in
+    subst (AreRows (length grid.rows)) (sym whole) (scan_rows v grid column)
