@@ -1,10 +1,10 @@
 -- The schema of a coverage: its schema table, and the feature tables that were read by it, with their thematic indexes (MIL-STD-2407, 5.2.3,
 -- feature classes).
-use Rattle.std.specs.Prelude.{ℕ, List, [], find, Option, Some, None}
+use Rattle.std.specs.Prelude.{ℕ, List, [], find, Option, Some, None, option_and_then}
 use Rattle.std.specs.Str.{bytes_eq}
 use Rattle.vpf_table.specs.Grid.{Grid}
 use Rattle.vpf_theme.specs.Entries.{Theme}
-use Rattle.vpf_schema.specs.Items.{name_in}
+use Rattle.vpf_schema.specs.Items.{own_file}
 use Rattle.vpf_schema.specs.Joins.{SchemaJoin, joins_in}
 
 -- a thematic index that is there, and the name of its file in the folder of the coverage
@@ -28,6 +28,10 @@ abbrev pub joins_of : Option Grid → List SchemaJoin
 joins_of None = []
 joins_of (Some grid) = joins_in grid
 
--- the feature table that an item names, among those that were read
+-- the feature table in the file of this name, among those that were read
+abbrev pub table_in_file : List FeatureTable → List ℕ → Option FeatureTable
+table_in_file tables name = find (λ (table : FeatureTable). bytes_eq table.name name) tables
+
+-- the feature table that an item names; none where it names no file of the folder
 abbrev pub table_called : Schema → List ℕ → Option FeatureTable
-table_called S item = find (λ (table : FeatureTable). bytes_eq table.name (name_in item)) S.tables
+table_called S item = option_and_then (table_in_file S.tables) (own_file item)

@@ -7,7 +7,7 @@ ghost use Rattle.vpf_feature_files.specs.Held.{AreIndexFiles, AreOfSchema, AreSc
 ghost use Rattle.vpf_feature_files.specs.Schemas.{FeatureTable, Index, Schema as SchemaOf};
 ghost use Rattle.vpf_features.specs.Finding.{TellsNamed, tables_finding};
 ghost use Rattle.vpf_features.specs.Opened.{HasIndexFile, HasSchemaFile, HaveIndexFiles, IsOfTable, AreOfTables};
-ghost use Rattle.vpf_features.specs.Views.{index_seen, table_seen};
+ghost use Rattle.vpf_features.specs.Views.{IsRightSchemaTable, index_seen, table_seen};
 
 use crate::faults::FeatureFault;
 use crate::rows::check_features;
@@ -99,7 +99,8 @@ fn open_schema_table<'a>(
     file: &'a Option<File>,
 ) -> Result<Option<TableView<'a>>, AllocError>
     requires { (folder : List ℕ) × HasSchemaFile folder file.now }
-    ensures { (folder : List ℕ) (fcs : Option Grid) → IsSchemaFileOption folder fcs file.now → IfOk result (λ table. table ≡ fcs) }
+    ensures opened { (folder : List ℕ) (fcs : Option Grid) → IsSchemaFileOption folder fcs file.now → IfOk result (λ table. table ≡ fcs) }
+    ensures right { IfOk result IsRightSchemaTable }
 {
     let Some(file) = file else {
         return Ok(None);

@@ -1,6 +1,12 @@
 //! The schema of a coverage, opened.
 
+ghost use Rattle.std.specs.Prelude.{◌≡◌, List, map, option_map};
+ghost use Rattle.vpf_feature_files.specs.Schemas.{table_in_file};
+ghost use Rattle.vpf_features.specs.Views.{table_seen};
+
+use std::alloc::{AllocError, Global};
 use std::marker::Model;
+use vpf_schema::{ItemName, SchemaRow, schema_rows};
 use vpf_source::Name;
 use vpf_table::TableView;
 use vpf_theme::ThemeView;
@@ -41,14 +47,33 @@ impl<'a> Model for Schema<'a> {
     ghost use Rattle.vpf_features.specs.Views.{schema_seen};
 
     ghost view = { λ s. schema_seen s.fcs s.tables.items };
+
+    ghost use Rattle.vpf_features.specs.Views.{HasRightTable};
+
+    ghost invariant = { HasRightTable };
+}
+
+/// The feature table in the file of this name.
+fn in_file<'s, 'a>(tables: &'s [FeatureView<'a>], name: &Name) -> Option<&'s FeatureView<'a>>
+    ensures { option_map (λ view. table_seen view.now) result ≡ table_in_file (map table_seen tables.now) name.now }
+{
+    for view in tables {
+        if view.name.as_str() == name.as_str() {
+            return Some(view);
+        }
+    }
+    None
 }
 
 impl<'a> Schema<'a> {
-    ghost use Rattle.std.specs.Prelude.{◌≡◌, map, option_map};
-    ghost use Rattle.vpf_features.specs.Views.{schema_seen, table_seen};
+    ghost use Rattle.std.specs.Prelude.{◌≡◌, IfOk, map, option_map};
+    ghost use Rattle.vpf_schema.specs.Joins.{join_of};
+    ghost use Rattle.vpf_feature_files.specs.Schemas.{joins_of, table_called};
+    ghost use Rattle.vpf_features.specs.Views.{IsRightSchemaTable, schema_seen, table_seen};
 
     /// The schema of a schema table and feature tables.
     pub(crate) fn new(fcs: Option<TableView<'a>>, tables: Vec<FeatureView<'a>>) -> Schema<'a>
+        requires { IsRightSchemaTable fcs }
         ensures { result ≡ schema_seen fcs.entry tables.entry.items }
     {
         Schema { fcs, tables }
@@ -66,5 +91,29 @@ impl<'a> Schema<'a> {
         ensures { map table_seen result.now ≡ self.now.tables }
     {
         &self.tables
+    }
+
+    /// The rows of the schema table, in their order: none where there is no schema table. Takes memory for each, and fails only for want of it.
+    pub fn rows(&self, alloc: Global) -> Result<Vec<SchemaRow<'a>>, AllocError>
+        ensures { IfOk result (λ rows. map join_of rows.items ≡ joins_of self.now.fcs) }
+    {
+        match &self.fcs {
+            Some(table) => schema_rows(alloc, table),
+            None => Ok(Vec::new(alloc)),
+        }
+    }
+
+    /// The feature table that an item of the schema table names, where its file is there. Fails only for want of memory.
+    pub fn table(
+        &self,
+        alloc: Global,
+        item: &ItemName<'_>,
+    ) -> Result<Option<&FeatureView<'a>>, AllocError>
+        ensures { IfOk result (λ view. option_map (λ view. table_seen view.now) view ≡ table_called self.now item.now.text.now) }
+    {
+        match item.file(alloc)? {
+            Some(name) => Ok(in_file(&self.tables, &name)),
+            None => Ok(None),
+        }
     }
 }

@@ -75,7 +75,7 @@ fn is_feature_end(end: &[u8]) -> bool
 
 impl<'a> ItemName<'a> {
     ghost use Rattle.std.specs.Prelude.{◌≡◌, IfOk};
-    ghost use Rattle.vpf_schema.specs.Items.{is_feature_table, own_file, primitive_named};
+    ghost use Rattle.vpf_schema.specs.Items.{is_feature_table, name_in, own_file, primitive_named};
 
     /// Whether it names a table of features: of points, `.pft`, of lines, `.lft`, or of areas, `.aft`.
     pub fn is_feature_table(&self) -> bool
@@ -101,6 +101,13 @@ impl<'a> ItemName<'a> {
         } else {
             None
         }
+    }
+
+    /// The name without padding, its ASCII letters made small. Fails only for want of memory.
+    pub fn name(&self, alloc: Global) -> Result<Vec<u8>, AllocError>
+        ensures { IfOk result (λ name. name.items ≡ name_in self.now.text.now) }
+    {
+        trimmed(self.text).to_ascii_lowercase(alloc)
     }
 
     /// The name of the file that it names in the folder of the coverage: without padding, in small letters. Nothing where no file of a folder can

@@ -41,7 +41,7 @@ fn item_at<'a>(row: &RowView<'_, 'a>, column: &RoleColumn<'_>) -> ItemName<'a>
 impl<'a> SchemaRow<'a> {
     ghost use Rattle.std.specs.Prelude.{◌≡◌, List, length};
     ghost use Rattle.vpf_head.specs.Head.{Col};
-    ghost use Rattle.vpf_schema.specs.Joins.{join_in_row, join_of};
+    ghost use Rattle.vpf_schema.specs.Joins.{has_class, is_join, join_in_row, join_of};
     ghost use Rattle.vpf_schema.specs.Placed.{AreSchemaColumns};
 
     /// What a row says, by the columns of its table.
@@ -56,6 +56,20 @@ impl<'a> SchemaRow<'a> {
             table2: item_at(row, &columns.table2),
             key2: item_at(row, &columns.key2),
         }
+    }
+
+    /// Whether it is of the class of this name, which may stand in capitals and between padding.
+    pub fn is_of(&self, class: &[u8]) -> bool
+        ensures { result ≡ has_class class.now (join_of self.now) }
+    {
+        self.class == ItemName { text: class }
+    }
+
+    /// Whether it joins a table of features to one of primitives, in this order.
+    pub fn is_join(&self) -> bool
+        ensures { result ≡ is_join (join_of self.now) }
+    {
+        self.table1.is_feature_table() && self.table2.primitive().is_some()
     }
 }
 

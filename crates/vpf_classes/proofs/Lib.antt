@@ -1,0 +1,5 @@
+mod HeaderLemmas
+mod RowLemmas
+mod ServingLemmas
+mod ScanLemmas
+mod KeyLemmas

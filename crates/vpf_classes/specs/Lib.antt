@@ -1,0 +1,4 @@
+pub mod Asking
+pub mod Lacks
+pub mod Keys
+pub mod Serving
