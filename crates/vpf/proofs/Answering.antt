@@ -20,6 +20,7 @@ use Rattle.vpf_table_commands.specs.Rows.{IndexAgrees, PlainRows, rows_answer, r
 use Rattle.vpf_table_commands.specs.Show.{show_answer, show_request}
 use Rattle.vpf_table_commands.specs.Swap.{swap_answer, swap_request}
 use Rattle.vpf_library_commands.specs.Check.{check_answer, check_request}
+use Rattle.vpf_feature_commands.specs.Select.{select_answer, select_request}
 use Rattle.vpf_library_commands.specs.Glue.{glue_answer}
 use Rattle.vpf_library_commands.specs.Make.{make_request}
 use Rattle.vpf_library_commands.specs.Tile.{tile_answer}
@@ -28,7 +29,7 @@ use Rattle.vpf_drill.specs.Drill.{IsDrill}
 use Rattle.vpf_drill.specs.Laws.{HasDrill, OneDrill}
 use Rattle.vpf_drill.specs.Request.{CanBeAsked, RequestsCanBeAsked, drill_request}
 use Rattle.vpf.specs.declared.command.Command.{Command}
-use Rattle.vpf.specs.declared.command.Command.TheVariants.{Show, Table, Cycles, Swap, Index, Rows, Check, Trace, Tile, Glue, Drill}
+use Rattle.vpf.specs.declared.command.Command.TheVariants.{Show, Table, Cycles, Swap, Index, Rows, Check, Trace, Tile, Glue, Select, Drill}
 use Rattle.vpf.specs.Commands.{IsAnswer, IsAnswerAlone, IsAnswerTo, command_of}
 use Rattle.vpf.specs.Deciding.{HasAnswer, OneAnswer}
 use Rattle.vpf.specs.Indexed.{IsPlainAnswer, PlainAnswers}
@@ -70,7 +71,8 @@ words_sided law (verb ∷ words) =
     (either_so HasSide (bytes_eq verb (codes "trace")) _ _ (asked_so HasSide Trace tt (λ request. tt) (check_request words))
     (either_so HasSide (bytes_eq verb (codes "drill")) _ _ (drill_sided law words)
     (either_so HasSide (bytes_eq verb (codes "glue")) _ _ (asked_so HasSide Glue tt (λ request. tt) (make_request words))
-    (either_so HasSide (bytes_eq verb (codes "tile")) _ None (asked_so HasSide Tile tt (λ request. tt) (make_request words)) tt))))))))))
+    (either_so HasSide (bytes_eq verb (codes "select")) _ _ (asked_so HasSide Select tt (λ request. tt) (select_request words))
+    (either_so HasSide (bytes_eq verb (codes "tile")) _ None (asked_so HasSide Tile tt (λ request. tt) (make_request words)) tt)))))))))))
 
 pub asked_side : RequestsCanBeAsked → (words : List (List ℕ)) (n : ℕ) → command_of words ≡ Some (Drill n) → CanBeAsked n
 asked_side law words n e = subst HasSide e (words_sided law words)
@@ -89,6 +91,7 @@ command_has cycles trace drill (Check request) files side bytes = (check_answer 
 command_has cycles trace drill (Trace request) files side bytes = trace files request bytes
 command_has cycles trace drill (Tile request) files side bytes = (tile_answer files request, refl)
 command_has cycles trace drill (Glue request) files side bytes = (glue_answer files request, refl)
+command_has cycles trace drill (Select request) files side bytes = (select_answer files request, refl)
 command_has cycles trace drill (Drill n) files side bytes = drill n side
 
 pub has_answer : HasCyclesAnswer → HasTraceAnswer → HasDrill → RequestsCanBeAsked → HasAnswer
@@ -105,6 +108,7 @@ commands_one cycles trace drill (Check request) files a b e f = e ∙ sym f
 commands_one cycles trace drill (Trace request) files a b e f = trace files request a b e f
 commands_one cycles trace drill (Tile request) files a b e f = e ∙ sym f
 commands_one cycles trace drill (Glue request) files a b e f = e ∙ sym f
+commands_one cycles trace drill (Select request) files a b e f = e ∙ sym f
 commands_one cycles trace drill (Drill n) files a b e f = drill n a b e f
 
 alone_one : OneDrill → (command : Command) (a b : Answer) → IsAnswerAlone command a → IsAnswerAlone command b → a ≡ b
@@ -118,6 +122,7 @@ alone_one drill (Check request) a b e f = absurd e
 alone_one drill (Trace request) a b e f = absurd e
 alone_one drill (Tile request) a b e f = absurd e
 alone_one drill (Glue request) a b e f = absurd e
+alone_one drill (Select request) a b e f = absurd e
 alone_one drill (Drill n) a b e f = drill n a b e f
 
 pub one_answer : OneCyclesAnswer → OneTraceAnswer → OneDrill → OneAnswer
@@ -220,7 +225,8 @@ words_apart law (verb ∷ words) =
     (either_so IsApart (bytes_eq verb (codes "trace")) _ _ (asked_so IsApart Trace tt (λ request. tt) (check_request words))
     (either_so IsApart (bytes_eq verb (codes "drill")) _ _ (asked_so IsApart Drill tt (λ request. tt) (drill_request words))
     (either_so IsApart (bytes_eq verb (codes "glue")) _ _ (asked_so IsApart Glue tt (λ request. tt) (make_request words))
-    (either_so IsApart (bytes_eq verb (codes "tile")) _ None (asked_so IsApart Tile tt (λ request. tt) (make_request words)) tt))))))))))
+    (either_so IsApart (bytes_eq verb (codes "select")) _ _ (asked_so IsApart Select tt (λ request. tt) (select_request words))
+    (either_so IsApart (bytes_eq verb (codes "tile")) _ None (asked_so IsApart Tile tt (λ request. tt) (make_request words)) tt)))))))))))
 
 pub made_elsewhere : IndexesElsewhere → (words : List (List ℕ)) (request : IndexRequest) → command_of words ≡ Some (Index request) → bytes_eq request.file request.out ≡ false
 made_elsewhere law words request e = subst IsApart e (words_apart law words)

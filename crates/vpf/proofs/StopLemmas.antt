@@ -7,7 +7,7 @@ use Rattle.vpf_loading.specs.declared.loading.LoadStop.{LoadStop}
 use Rattle.vpf_loading.specs.declared.loading.LoadStop.TheVariants as stops
 use Rattle.vpf_replies.specs.declared.verdict.Verdict.TheVariants.{Done}
 use Rattle.vpf_replies.specs.Tables.{answer_by}
-use Rattle.vpf_library_commands.specs.Stopping.{stop_answer}
+use Rattle.vpf_load_replies.specs.Stopping.{stop_answer}
 
 fault_refuses : (name : List ℕ) (place : Place) (code : Code) → (answer_by name place code).verdict ≡ Done → ⊥
 fault_refuses name place (codes.LimitHeader found) h = absurd cc

@@ -24,6 +24,7 @@ use Rattle.vpf_replies.specs.declared.verdict.Verdict.TheVariants.{Done}
 use Rattle.vpf_replies.specs.Answer.{Answer}
 use Rattle.vpf_library_commands.specs.declared.requesting.MakeRequest.{MakeRequest}
 use Rattle.vpf_library_commands.specs.Check.{coverage_finding}
+use Rattle.vpf_feature_commands.specs.Select.{select_request}
 use Rattle.vpf_library_commands.specs.Make.{make_request}
 use Rattle.vpf_library_commands.specs.Tile.{TileParts, parts_answer, read_parts, tables_answer, tile_answer}
 use Rattle.vpf_library_commands.specs.Tile.{tiled_answer, tiling_answer}
@@ -39,7 +40,7 @@ use Rattle.vpf_tilings.specs.Cutting.{IsCutFrom, cut_files, cut_tables}
 use Rattle.vpf_tilings.specs.Laws.{RequestsHaveNames, TilingsAgree}
 use Rattle.vpf_tilings.specs.Tilings.{HasNames, StandsAlone}
 use Rattle.vpf.specs.declared.command.Command.{Command}
-use Rattle.vpf.specs.declared.command.Command.TheVariants.{Show, Table, Cycles, Swap, Index, Rows, Check, Trace, Tile, Glue, Drill}
+use Rattle.vpf.specs.declared.command.Command.TheVariants.{Show, Table, Cycles, Swap, Index, Rows, Check, Trace, Tile, Glue, Select, Drill}
 use Rattle.vpf.specs.declared.status.Status.{Status}
 use Rattle.vpf.specs.declared.status.Status.TheVariants as statuses
 use Rattle.vpf.specs.Commands.{IsAnswer, command_by, command_of}
@@ -65,6 +66,7 @@ last_verb request false o h = absurd cc
 tile_verb : (verb : List ℕ) (words : List (List ℕ)) (request : MakeRequest) → command_by verb words ≡ Some (Tile request) → make_request words ≡ Some request
 tile_verb verb words request h =
     last_verb request (bytes_eq verb (codes "tile")) (make_request words)
+    (other_verb Select (Tile request) (bytes_eq verb (codes "select")) (select_request words) _ (λ r e. cc)
     (other_verb Glue (Tile request) (bytes_eq verb (codes "glue")) (make_request words) _ (λ r e. cc)
     (other_verb Drill (Tile request) (bytes_eq verb (codes "drill")) (drill_request words) _ (λ n e. cc)
     (other_verb Trace (Tile request) (bytes_eq verb (codes "trace")) (check_request words) _ (λ r e. cc)
@@ -74,7 +76,7 @@ tile_verb verb words request h =
     (other_verb Swap (Tile request) (bytes_eq verb (codes "swap")) (swap_request words) _ (λ r e. cc)
     (other_verb Cycles (Tile request) (bytes_eq verb (codes "cycles")) (cycles_request words) _ (λ r e. cc)
     (other_verb Table (Tile request) (bytes_eq verb (codes "table")) (table_request words) _ (λ r e. cc)
-    (other_verb Show (Tile request) (bytes_eq verb (codes "show")) (show_request words) _ (λ r e. cc) h))))))))))
+    (other_verb Show (Tile request) (bytes_eq verb (codes "show")) (show_request words) _ (λ r e. cc) h)))))))))))
 
 -- the names of a request that words of text spell
 command_names : RequestsHaveNames → (words : List (List ℕ)) (request : MakeRequest) → AllByRecursion IsUtf8 words → command_of words ≡ Some (Tile request)

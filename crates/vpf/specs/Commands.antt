@@ -15,10 +15,11 @@ use Rattle.vpf_library_commands.specs.Glue.{glue_answer}
 use Rattle.vpf_library_commands.specs.Make.{make_request}
 use Rattle.vpf_library_commands.specs.Tile.{tile_answer}
 use Rattle.vpf_library_commands.specs.Trace.{IsTraceAnswer}
+use Rattle.vpf_feature_commands.specs.Select.{select_answer, select_request}
 use Rattle.vpf_drill.specs.Drill.{IsDrill}
 use Rattle.vpf_drill.specs.Request.{drill_request}
 use Rattle.vpf.specs.declared.command.Command.{Command}
-use Rattle.vpf.specs.declared.command.Command.TheVariants.{Show, Table, Cycles, Swap, Index, Rows, Check, Trace, Tile, Glue, Drill}
+use Rattle.vpf.specs.declared.command.Command.TheVariants.{Show, Table, Cycles, Swap, Index, Rows, Check, Trace, Tile, Glue, Select, Drill}
 
 -- the command of a verb and the words after it
 abbrev pub command_by : List ℕ → List (List ℕ) → Option Command
@@ -33,6 +34,7 @@ command_by verb words =
     else if bytes_eq verb (codes "trace") then option_map Trace (check_request words)
     else if bytes_eq verb (codes "drill") then option_map Drill (drill_request words)
     else if bytes_eq verb (codes "glue") then option_map Glue (make_request words)
+    else if bytes_eq verb (codes "select") then option_map Select (select_request words)
     else if bytes_eq verb (codes "tile") then option_map Tile (make_request words)
     else None
 
@@ -53,6 +55,7 @@ IsAnswerTo (Check request) files answer = answer ≡ check_answer files request
 IsAnswerTo (Trace request) files answer = IsTraceAnswer files request answer
 IsAnswerTo (Tile request) files answer = answer ≡ tile_answer files request
 IsAnswerTo (Glue request) files answer = answer ≡ glue_answer files request
+IsAnswerTo (Select request) files answer = answer ≡ select_answer files request
 IsAnswerTo (Drill n) files answer = IsDrill n answer
 
 -- the answer of a command that reads no file, whatever the tree holds; any other has none of its own

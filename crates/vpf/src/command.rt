@@ -5,6 +5,7 @@ ghost use Rattle.vpf.specs.Commands.{command_by, command_of};
 
 use std::alloc::{AllocError, Global};
 use vpf_drill::DrillRequest;
+use vpf_feature_commands::SelectRequest;
 use vpf_library_commands::{CheckRequest, MakeRequest};
 use vpf_table_commands::{
     CyclesRequest, IndexRequest, RowsRequest, ShowRequest, SwapRequest, TableRequest,
@@ -33,6 +34,8 @@ pub enum Command {
     Tile(MakeRequest),
     /// Writes the untiled coverage that the tiles of a coverage are joined into.
     Glue(MakeRequest),
+    /// Lists the features of a class that have a value, with their primitives.
+    Select(SelectRequest),
     /// Makes a grid in memory, cuts it into tiles, checks and traces it.
     Drill(DrillRequest),
 }
@@ -52,6 +55,7 @@ fn read_verb(alloc: Global, verb: &str, words: &[String]) -> Result<Option<Comma
         "trace" => Ok(CheckRequest::read(alloc, words)?.map(Command::Trace)),
         "drill" => Ok(DrillRequest::read(words).map(Command::Drill)),
         "glue" => Ok(MakeRequest::read(alloc, words)?.map(Command::Glue)),
+        "select" => Ok(SelectRequest::read(alloc, words)?.map(Command::Select)),
         "tile" => Ok(MakeRequest::read(alloc, words)?.map(Command::Tile)),
         _ => Ok(None),
     }

@@ -18,6 +18,8 @@ mod tests_of_cycles;
 #[cfg(test)]
 mod tests_of_drills;
 #[cfg(test)]
+mod tests_of_features;
+#[cfg(test)]
 mod tests_of_rows;
 #[cfg(test)]
 mod tests_of_swaps;

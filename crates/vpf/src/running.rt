@@ -32,8 +32,10 @@ ghost use Rattle.vpf_trace.specs.Tracing.{IsTrace};
 ghost use Rattle.vpf_table_commands.specs.declared.indexing.IndexRequest.{IndexRequest};
 ghost use Rattle.vpf_table_commands.specs.declared.selecting.RowsRequest.{RowsRequest};
 ghost use Rattle.vpf_table_commands.specs.Rows.{IndexAgrees};
+ghost use Rattle.vpf_feature_commands.specs.declared.requesting.SelectRequest.{SelectRequest};
+ghost use Rattle.vpf_feature_commands.specs.Plain.{FeatureIndexesAgree, plain_select_answer};
 ghost use Rattle.vpf.specs.declared.command.Command.{Command};
-ghost use Rattle.vpf.specs.declared.command.Command.TheVariants.{Check, Drill, Index, Rows, Tile, Trace};
+ghost use Rattle.vpf.specs.declared.command.Command.TheVariants.{Check, Drill, Index, Rows, Select, Tile, Trace};
 ghost use Rattle.vpf.specs.Commands.{command_of, IsAnswerTo, IsAnswer, IsAnswerAlone};
 ghost use Rattle.vpf.specs.Grammar.{HasFile, IsOver, SaysOfTable};
 ghost use Rattle.vpf.specs.Indexed.{AsksForIndexed, IsPlainAnswer};
@@ -47,6 +49,8 @@ use crate::status::Status;
 use std::alloc::Global;
 use vpf_drill::drill;
 use vpf_drill::laws::{one_drill, requests_can_be_asked};
+use vpf_feature_commands::laws::plain_selections;
+use vpf_feature_commands::select;
 use vpf_library_commands::{check, glue, tile, trace};
 use vpf_replies::{Halt, Reply, Stop, settle, usage};
 use vpf_source::{DeviceError, Sink, Tree, make_all, put_all};
@@ -74,6 +78,7 @@ fn obey<T: Tree>(alloc: Global, command: &Command, tree: &mut T) -> Result<Reply
         Command::Trace(request) => trace(alloc, request, tree),
         Command::Tile(request) => tile(alloc, request, tree),
         Command::Glue(request) => glue(alloc, request, tree),
+        Command::Select(request) => select(alloc, request, tree),
         Command::Drill(request) => Ok(drill(alloc, request)?),
     }
 }
@@ -192,6 +197,12 @@ pub fn run<T: Tree, O: Sink>(alloc: Global, words: &[String], tree: &mut T, out:
         → T.files tree.old ≡ Some files → AsksForIndexed files request asked → result ≡ Status.Done
         → IfSome (T.files tree.new) (λ after. IndexAgrees after asked) }
 
+    // Where the thematic indexes of the feature tables agree with their columns, `select` does what plain scans of these do.
+    ensures selected { (files : Files) (request : SelectRequest) → command_of (map string_bytes words.now) ≡ Some (Select request)
+        → T.files tree.old ≡ Some files → FeatureIndexesAgree files request
+        → Carries (plain_select_answer files request) result (record { files = T.files tree.old; written = O.written out.old })
+        (record { files = T.files tree.new; written = O.written out.new }) }
+
     // `check` is done exactly where the files hold the coverage in the grammar of tables, its columns are right and its rows agree, in each
     // tile and across the tiles: then it prints the numbers of primitives of all its tiles. (The files of a tree that tells them are of
     // bytes.)
@@ -251,6 +262,7 @@ pub fn run<T: Tree, O: Sink>(alloc: Global, words: &[String], tree: &mut T, out:
     tilings_agree();
     requests_have_names();
     plain_answers();
+    plain_selections();
     one_answer();
     one_drill();
     requests_can_be_asked();

@@ -9,11 +9,11 @@ use std::test::Fail;
 use vpf_source::{MemSink, MemTree};
 
 /// The table of tiles of the library.
-const TILES: &[u8] =
+pub(crate) const TILES: &[u8] =
     b"\x3a\0\0\0L;Tiles;-;id=I,1,P,Id,-,-,-,:tile_name=T,8,N,Name,-,-,-,:;\x01\0\0\0t1      \x02\0\0\0t2      ";
 
 /// The plan of the coverage.
-const PLAN: &[u8] =
+pub(crate) const PLAN: &[u8] =
     b"\x39\0\0\0L;Plan;-;id=I,1,P,Face,-,-,-,:tile_id=I,1,N,Tile,-,-,-,:;\x02\0\0\0\x01\0\0\0\x03\0\0\0\x02\0\0\0";
 
 /// What is asked of the tree when the library is cut, what is printed, and the status.

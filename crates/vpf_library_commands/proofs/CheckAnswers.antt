@@ -13,8 +13,8 @@ use Rattle.vpf_replies.specs.declared.halting.Halt.{Halt}
 use Rattle.vpf_replies.specs.declared.halting.Halt.TheVariants as halts
 use Rattle.vpf_replies.specs.Answer.{Answer}
 use Rattle.vpf_replies.specs.Halting.{ComesTo}
+use Rattle.vpf_load_replies.specs.Stopping.{IsStopAnswer, stop_answer}
 use Rattle.vpf_library_commands.specs.Check.{coverage_finding, found_answer, read_answer}
-use Rattle.vpf_library_commands.specs.Stopping.{IsStopAnswer, stop_answer}
 
 abbrev pub loaded_of : Result (List File) LoadStop → List File
 loaded_of (Ok files) = files

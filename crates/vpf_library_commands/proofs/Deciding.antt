@@ -26,10 +26,10 @@ use Rattle.vpf_cross.specs.Laws.{AgreementDecides, LikeAreWhole}
 use Rattle.vpf_replies.specs.declared.verdict.Verdict.TheVariants.{Done}
 use Rattle.vpf_replies.specs.Answer.{Answer}
 use Rattle.vpf_replies.specs.Tables.{answer_by}
+use Rattle.vpf_load_replies.specs.Stopping.{stop_answer}
 use Rattle.vpf_library_commands.specs.declared.checking.CheckRequest.{CheckRequest}
 use Rattle.vpf_library_commands.specs.Agreeing.{Agrees, CheckCounts, CheckDecides}
 use Rattle.vpf_library_commands.specs.Check.{coverage_finding, found_answer, read_answer}
-use Rattle.vpf_library_commands.specs.Stopping.{stop_answer}
 
 -- ---- a stop is no answer of what is done
 

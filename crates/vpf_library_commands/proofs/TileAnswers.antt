@@ -23,8 +23,8 @@ use Rattle.vpf_replies.specs.declared.halting.Halt.{Halt}
 use Rattle.vpf_replies.specs.declared.halting.Halt.TheVariants as halts
 use Rattle.vpf_replies.specs.Answer.{Answer}
 use Rattle.vpf_replies.specs.Halting.{ComesTo}
+use Rattle.vpf_load_replies.specs.Stopping.{IsStopAnswer, stop_answer}
 use Rattle.vpf_library_commands.specs.declared.requesting.MakeRequest.{MakeRequest}
-use Rattle.vpf_library_commands.specs.Stopping.{IsStopAnswer, stop_answer}
 use Rattle.vpf_library_commands.specs.Check.{coverage_finding}
 use Rattle.vpf_library_commands.specs.Make.{make_request}
 use Rattle.vpf_library_commands.specs.Tile.{IsUntiledAnswer, TileParts, file_within, parts_answer, tables_answer, tiled_answer, tiling_answer}

@@ -20,8 +20,9 @@ use Rattle.vpf_trace.specs.Laws.{LibraryHasTrace, OneTrace}
 use Rattle.vpf_trace.specs.Tracing.{IsTrace}
 use Rattle.vpf_replies.specs.Answer.{Answer, done, refused}
 use Rattle.vpf_replies.specs.Listings.{cycle_lines, cycle_text, dart_of, numbered_text, listing_text}
-use Rattle.vpf_library_commands.specs.Check.{coverage_finding, found_answer, place_name, read_answer}
-use Rattle.vpf_library_commands.specs.Stopping.{stop_answer}
+use Rattle.vpf_load_replies.specs.Places.{place_name}
+use Rattle.vpf_load_replies.specs.Stopping.{stop_answer}
+use Rattle.vpf_library_commands.specs.Check.{coverage_finding, found_answer, read_answer}
 use Rattle.vpf_library_commands.specs.Trace.{HasTraceAnswer, IsReadTrace, IsTracedAnswer, OneTraceAnswer, TraceDecides, TraceLists}
 use Rattle.vpf_library_commands.proofs.CheckAnswers.{IsStopped, both_of, loaded_of}
 use Rattle.vpf_library_commands.proofs.Deciding.{CoverageLaws, agreement, check_decides}

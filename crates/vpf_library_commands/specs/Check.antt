@@ -1,5 +1,5 @@
 -- `check`: whether a coverage agrees.
-use Rattle.std.specs.Prelude.{ℕ, List, [], ◌∷◌, Option, None, Some, Result, Ok, Err, codes, slice_index_or, if◌then◌else◌}
+use Rattle.std.specs.Prelude.{ℕ, List, [], ◌∷◌, Option, None, Some, Result, Ok, Err, codes, if◌then◌else◌}
 use Rattle.std.specs.Fmt.{decimal}
 use Rattle.vpf_source.specs.Files.{Files}
 use Rattle.vpf_source.specs.declared.file.File.{File}
@@ -10,13 +10,14 @@ use Rattle.vpf_findings.specs.Printing.{disagree_text}
 use Rattle.vpf_text.specs.Texts.{◌&◌}
 use Rattle.vpf_prims.specs.Coverages.{CoverageTables, last_tile}
 use Rattle.vpf_numbers.specs.TableLines.{coverage_numbers}
-use Rattle.vpf_loading.specs.Loading.{LoadedCoverage, loaded_file, read_coverage}
+use Rattle.vpf_loading.specs.Loading.{LoadedCoverage, read_coverage}
 use Rattle.vpf_loading.specs.declared.loading.LoadStop.{LoadStop}
 use Rattle.vpf_cross.specs.CrossFinding.{topology_finding}
 use Rattle.vpf_replies.specs.Answer.{Answer, done, refused}
+use Rattle.vpf_load_replies.specs.Places.{place_name}
+use Rattle.vpf_load_replies.specs.Stopping.{stop_answer}
 use Rattle.vpf_library_commands.specs.declared.checking.CheckRequest.{CheckRequest}
 use Rattle.vpf_library_commands.specs.Counting.{all_edges, all_faces, all_nodes, all_entities}
-use Rattle.vpf_library_commands.specs.Stopping.{stop_answer}
 
 -- the request of a library and a coverage
 abbrev pub check_request_of : Option (List ℕ) → Option (List ℕ) → Option CheckRequest
@@ -45,10 +46,6 @@ agrees_text c =
     & codes " faces " & decimal (all_faces c)
     & codes " nodes " & decimal (all_nodes c)
     & codes " entities " & decimal (all_entities c) & codes "\n"
-
--- the name of the file at a place among those that were read, from 0
-abbrev pub place_name : List File → ℕ → List ℕ
-place_name files k = (slice_index_or files k (loaded_file [] [])).name
 
 -- the answer over a coverage, whose files these are, by its first finding
 abbrev pub found_answer : List File → CoverageTables → Option Disagreement → Answer

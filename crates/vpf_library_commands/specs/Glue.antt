@@ -17,9 +17,10 @@ use Rattle.vpf_replies.specs.Answer.{Answer, limited, refused}
 use Rattle.vpf_replies.specs.Making.{made_answer}
 use Rattle.vpf_replies.specs.Refusals.{UntiledCoverage, refusal_answer}
 use Rattle.vpf_replies.specs.Texts.{limit_text}
+use Rattle.vpf_load_replies.specs.Places.{place_name}
+use Rattle.vpf_load_replies.specs.Stopping.{stop_answer}
 use Rattle.vpf_library_commands.specs.declared.requesting.MakeRequest.{MakeRequest}
-use Rattle.vpf_library_commands.specs.Check.{coverage_finding, place_name}
-use Rattle.vpf_library_commands.specs.Stopping.{stop_answer}
+use Rattle.vpf_library_commands.specs.Check.{coverage_finding}
 use Rattle.vpf_library_commands.specs.Tile.{file_within}
 
 -- the file of the edges in a coverage's own folder, which a coverage in tiles doesn't have

@@ -1,4 +1,3 @@
-pub mod Stopping
 pub mod Counting
 pub mod Check
 pub mod Agreeing

@@ -22,9 +22,10 @@ use Rattle.vpf_tiler.specs.Making.{tiled}
 use Rattle.vpf_replies.specs.Answer.{Answer, limited, refused}
 use Rattle.vpf_replies.specs.Making.{made_answer}
 use Rattle.vpf_replies.specs.Texts.{limit_text}
+use Rattle.vpf_load_replies.specs.Places.{place_name}
+use Rattle.vpf_load_replies.specs.Stopping.{stop_answer}
 use Rattle.vpf_library_commands.specs.declared.requesting.MakeRequest.{MakeRequest}
-use Rattle.vpf_library_commands.specs.Check.{coverage_finding, place_name}
-use Rattle.vpf_library_commands.specs.Stopping.{stop_answer}
+use Rattle.vpf_library_commands.specs.Check.{coverage_finding}
 
 -- what is read: an untiled coverage, the table of tiles of its library, and its plan
 pub record TileParts : Type 0 where

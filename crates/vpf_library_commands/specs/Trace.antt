@@ -15,10 +15,11 @@ use Rattle.vpf_trace.specs.Tracing.{IsTrace}
 use Rattle.vpf_replies.specs.declared.verdict.Verdict.TheVariants.{Done}
 use Rattle.vpf_replies.specs.Answer.{Answer, done, refused}
 use Rattle.vpf_replies.specs.Listings.{listing_text}
+use Rattle.vpf_load_replies.specs.Places.{place_name}
+use Rattle.vpf_load_replies.specs.Stopping.{stop_answer}
 use Rattle.vpf_library_commands.specs.declared.checking.CheckRequest.{CheckRequest}
 use Rattle.vpf_library_commands.specs.Agreeing.{Agrees, IsAgreeing}
-use Rattle.vpf_library_commands.specs.Check.{coverage_finding, place_name}
-use Rattle.vpf_library_commands.specs.Stopping.{stop_answer}
+use Rattle.vpf_library_commands.specs.Check.{coverage_finding}
 
 -- the answer over a coverage, whose files these are, by its first finding: that, or else the listing of its boundary cycles past its lines
 abbrev pub IsTracedAnswer : List File → CoverageTables → Option Disagreement → Answer → Type 0

@@ -7,14 +7,14 @@ ghost use Rattle.vpf_prims.specs.Coverages.{CoverageTables};
 ghost use Rattle.vpf_loading.specs.Holding.{AreCoverageFiles, AreOfCoverage};
 ghost use Rattle.vpf_replies.specs.Answer.{done};
 ghost use Rattle.vpf_replies.specs.Halting.{ComesTo, TellsFault};
-ghost use Rattle.vpf_library_commands.specs.Check.{agrees_text, check_answer, check_request, coverage_finding, found_answer, place_name, tiling_text};
+ghost use Rattle.vpf_library_commands.specs.Check.{agrees_text, check_answer, check_request, coverage_finding, found_answer, tiling_text};
 
-use crate::stopping::stopped;
 use crate::totals::{Totals, totals_of};
 use std::alloc::{AllocError, Global};
 use vpf_coverage::{Coverage, open_coverage};
 use vpf_cross::check_coverage;
 use vpf_findings::FindError;
+use vpf_load_replies::{named, stopped};
 use vpf_loading::load_coverage;
 use vpf_names::{coverage_name, file_name};
 use vpf_replies::{Halt, Reply, Stop, Verdict, disagreement};
@@ -92,16 +92,6 @@ fn agrees_text(alloc: Global, coverage: &Coverage<'_>) -> Result<String, AllocEr
         " edges {edges} faces {faces} nodes {nodes} entities {entities}\n"
     )?;
     Ok(text)
-}
-
-/// The name of the file at a place among those that were read, from 0.
-pub(crate) fn named(files: &[File], place: u32) -> &str
-    ensures { result.now ≡ place_name files.now place }
-{
-    match files.get(place as usize) {
-        Some(file) => file.name.as_str(),
-        None => "",
-    }
 }
 
 /// The reply over a coverage that agrees.

@@ -12,14 +12,13 @@ ghost use Rattle.vpf_replies.specs.Refusals.{UntiledCoverage, refusal_answer};
 ghost use Rattle.vpf_library_commands.specs.Check.{coverage_finding};
 ghost use Rattle.vpf_library_commands.specs.Glue.{IsUngluedAnswer, glue_answer, glued_answer, gluing_answer, joined_answer, own_edges};
 
-use crate::checking::named;
 use crate::requesting::MakeRequest;
-use crate::stopping::stopped;
 use crate::tiling::all_within;
 use std::alloc::{AllocError, Global};
 use vpf_coverage::{Coverage, open_coverage};
 use vpf_cross::{Checked, check_coverage};
 use vpf_findings::FindError;
+use vpf_load_replies::{named, stopped};
 use vpf_loading::{load_coverage, within};
 use vpf_opening::open_tileref;
 use vpf_replies::{Halt, Refusal, Reply, Stop, disagreement, limit, makes, refuse};

@@ -5,7 +5,6 @@ mod checking;
 mod gluing;
 pub mod laws;
 mod requesting;
-mod stopping;
 mod tiling;
 mod totals;
 mod tracing;

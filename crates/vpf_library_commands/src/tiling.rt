@@ -20,13 +20,12 @@ ghost use Rattle.vpf_library_commands.specs.Tile.{IsUntiledAnswer, file_within, 
 ghost use Rattle.vpf_library_commands.specs.Tile.{tables_answer, tile_answer, tiling_answer};
 ghost use Rattle.vpf_library_commands.specs.TileFiles.{ArePartsFiles, ArePartsOf};
 
-use crate::checking::named;
 use crate::requesting::MakeRequest;
-use crate::stopping::stopped;
 use std::alloc::{AllocError, Global};
 use vpf_coverage::{Coverage, open_coverage};
 use vpf_cross::{Checked, check_coverage};
 use vpf_findings::FindError;
+use vpf_load_replies::{named, stopped};
 use vpf_loading::{LoadStop, load_tileref, table_in, within};
 use vpf_plan::{load_plan, load_untiled, open_plan};
 use vpf_replies::{Halt, Reply, Stop, Verdict, disagreement, limit, makes};

@@ -13,13 +13,13 @@ ghost use Rattle.vpf_replies.specs.Halting.{ComesTo, TellsFault};
 ghost use Rattle.vpf_library_commands.specs.Check.{coverage_finding};
 ghost use Rattle.vpf_library_commands.specs.Trace.{IsTraceAnswer, IsTracedAnswer};
 
-use crate::checking::{CheckRequest, named};
-use crate::stopping::stopped;
+use crate::checking::CheckRequest;
 use std::alloc::{AllocError, Global};
 use vpf_coverage::{Coverage, open_coverage};
 use vpf_cross::check_coverage;
 use vpf_darts::Listing;
 use vpf_findings::FindError;
+use vpf_load_replies::{named, stopped};
 use vpf_loading::load_coverage;
 use vpf_replies::{Halt, Reply, Stop, disagreement, listed};
 use vpf_source::{File, Tree};

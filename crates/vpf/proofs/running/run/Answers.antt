@@ -14,6 +14,10 @@ returns-clause-indexed g c files request answer e f agrees plain = c.do_words.en
 pub returns-clause-built : goal.returns-clause-built
 returns-clause-built g c files request asked e f asks done = index_serves c.opened_is_read.ensures c.indexes_are_elsewhere.ensures c.made_indexes_serve.ensures (map string_bytes c.args.words.now) files request asked _ _ _ e f asks done c.do_words.ensures.answer
 
+pub returns-clause-selected : goal.returns-clause-selected
+returns-clause-selected g c files request e f agree =
+    c.do_words.ensures.answer _ (words_said _ _ _ files _ e f (c.plain_selections.ensures files request agree))
+
 pub returns-clause-spelled : goal.returns-clause-spelled
 returns-clause-spelled g c command files name bytes grid answer e f has t said =
     c.do_words.ensures.answer answer (words_said _ _ command files answer e f (c.answers_follow_the_grammar.ensures.tables command files name bytes grid answer has t said))

@@ -2,14 +2,14 @@
 
 ghost use Rattle.std.specs.Prelude.{◌≡◌, ◌↔◌, IsErrOf};
 ghost use Rattle.vpf_replies.specs.Halting.{ComesTo};
-ghost use Rattle.vpf_library_commands.specs.Stopping.{IsStopAnswer};
+ghost use Rattle.vpf_load_replies.specs.Stopping.{IsStopAnswer};
 
 use std::alloc::Global;
 use vpf_loading::LoadStop;
 use vpf_replies::{Halt, Refusal, Reply, Stop, fault, kept_disagreement, limit, refuse};
 
-/// The reply to the file that stops a load, or what stops the run.
-pub(crate) fn stopped(alloc: Global, stop: LoadStop) -> Result<Reply, Halt>
+/// The reply to the file that stops a load, or what stops the run: a fault of the tree, or want of memory.
+pub fn stopped(alloc: Global, stop: LoadStop) -> Result<Reply, Halt>
     ensures told { ComesTo (IsStopAnswer stop) result }
     ensures fault { IsErrOf result (Halt.Stop Stop.TreeFault) ↔ (stop ≡ LoadStop.Fault) }
 {

@@ -1,0 +1,4 @@
+pub mod Select
+pub mod Lines
+pub mod Held
+pub mod Plain

@@ -1,0 +1,31 @@
+-- `select` where no thematic index is there: every value is found by a plain scan.
+use Rattle.std.specs.Prelude.{◌≡◌, Result, Ok, Err}
+use Rattle.vpf_source.specs.Files.{Files}
+use Rattle.vpf_loading.specs.declared.loading.LoadStop.{LoadStop}
+use Rattle.vpf_classes.specs.Serving.{IndexesServe, unindexed_schema}
+use Rattle.vpf_replies.specs.Answer.{Answer}
+use Rattle.vpf_feature_commands.specs.declared.requesting.SelectRequest.{SelectRequest}
+use Rattle.vpf_feature_commands.specs.Select.{FeaturedCoverage, featured_answer, read_featured, select_answer}
+
+-- what was read, without thematic indexes
+abbrev pub plain_read : Result FeaturedCoverage LoadStop → Result FeaturedCoverage LoadStop
+plain_read (Ok read) = Ok (record { coverage = read.coverage; schema = unindexed_schema read.schema })
+plain_read (Err stop) = Err stop
+
+-- the answer over what was read, where no index is there
+abbrev pub plain_select_answer : Files → SelectRequest → Answer
+plain_select_answer files request = featured_answer request (plain_read (read_featured files request.lib request.cov 0).0)
+
+-- the thematic indexes that were read agree with their columns
+abbrev pub ServeWhatIsRead : Result FeaturedCoverage LoadStop → Type 0
+ServeWhatIsRead (Ok read) = IndexesServe read.schema
+ServeWhatIsRead (Err stop) = Unit {0}
+
+-- .. those of the features that are selected from
+abbrev pub FeatureIndexesAgree : Files → SelectRequest → Type 0
+FeatureIndexesAgree files request = ServeWhatIsRead (read_featured files request.lib request.cov 0).0
+
+-- where the indexes agree, the answer is that by plain scans
+abbrev pub PlainSelections : Type 0
+PlainSelections = (files : Files) (request : SelectRequest) → FeatureIndexesAgree files request
+    → plain_select_answer files request ≡ select_answer files request
