@@ -1,6 +1,7 @@
 #!/usr/bin/env bash
 # `check` of the grid of 200 by 200 cells in tiles of two by two (10,000 tiles, 120,000 edges), next to one of 244 by 244 in four tiles with as many
-# edges, to sha256sum over the library's files read in one go, and to `check` of the untiled grid; and of a grid with a quarter of the tiles.
+# edges, to sha256sum over the library's bytes in one file, to the same behind cat of all its files, and to `check` of the untiled grid; and of a grid
+# with a quarter of the tiles.
 . "$(dirname "$0")/common.sh"
 cd "$work"
 for n in 100 200 244; do
@@ -21,6 +22,8 @@ ratio "time of many tiles to a quarter of them" "$many" "$quarter"
 ratio "time of many tiles to few" "$many" "$few"
 measure "sha256sum, many" sha256sum many.all
 ratio "check of many tiles to sha256sum" "$many" "$seconds"
+measure "cat and sha256sum, many" sh -c 'xargs -a many.files cat | sha256sum'
+ratio "check of many tiles to cat and sha256sum" "$many" "$seconds"
 measure "sha256sum, few" sha256sum few.all
 ratio "check of few tiles to sha256sum" "$few" "$seconds"
 measure "vpf check, untiled" "$vpf" check plain g200
