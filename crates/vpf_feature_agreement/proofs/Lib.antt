@@ -1,0 +1,4 @@
+mod ReadLemmas
+mod ThemeRows
+mod FeatureLines
+mod FeatureTables

@@ -1,0 +1,10 @@
+mod ThemeLemmas
+mod ColumnLemmas
+mod SourceTables
+mod SourceLemmas
+mod OwnFiles
+mod RebuiltLemmas
+mod HeldLemmas
+mod TableLemmas
+mod IndexLemmas
+mod SchemaLemmas
