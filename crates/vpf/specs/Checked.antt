@@ -5,7 +5,7 @@ use Rattle.vpf_darts.specs.declared.darts.TileDart.{TileDart}
 use Rattle.vpf_darts.specs.Listings.{numbers_of}
 use Rattle.vpf_prims.specs.Libraries.{library_of}
 use Rattle.vpf_loading.specs.Holding.{HoldsBytes}
-use Rattle.vpf_loading.specs.Loading.{LoadedCoverage}
+use Rattle.vpf_featured.specs.Reading.{FeaturedCoverage}
 use Rattle.vpf_replies.specs.declared.verdict.Verdict.TheVariants.{Done}
 use Rattle.vpf_replies.specs.Answer.{Answer, done}
 use Rattle.vpf_replies.specs.Listings.{listing_text}
@@ -18,8 +18,8 @@ use Rattle.vpf.specs.Commands.{IsAnswerTo}
 
 -- where the coverage agrees, the numbers of primitives of its tiles are the answer
 abbrev pub AgreementIsSaid : Type 0
-AgreementIsSaid = (files : Files) (request : CheckRequest) (c : LoadedCoverage) → IsAgreeing files request c
-    → IsAnswerTo (Check request) files (done (agrees_text c.coverage))
+AgreementIsSaid = (files : Files) (request : CheckRequest) (read : FeaturedCoverage) → IsAgreeing files request read
+    → IsAnswerTo (Check request) files (done (agrees_text read.coverage.coverage))
 
 -- where the answer over files of bytes is that `check` is done, the coverage agrees
 abbrev pub OnlyAgreementIsDone : Type 0
@@ -27,8 +27,8 @@ OnlyAgreementIsDone = (files : Files) (request : CheckRequest) (answer : Answer)
 
 -- where the coverage agrees, the listing of its boundary cycles past its lines between tiles is the answer of `trace`
 abbrev pub CyclesAreSaid : Type 0
-CyclesAreSaid = (files : Files) (request : CheckRequest) (c : LoadedCoverage) (cycles : List (List TileDart)) → IsAgreeing files request c
-    → IsTrace (library_of c.coverage) (numbers_of cycles) → IsAnswerTo (Trace request) files (done (listing_text cycles))
+CyclesAreSaid = (files : Files) (request : CheckRequest) (read : FeaturedCoverage) (cycles : List (List TileDart)) → IsAgreeing files request read
+    → IsTrace (library_of read.coverage.coverage) (numbers_of cycles) → IsAnswerTo (Trace request) files (done (listing_text cycles))
 
 -- where the answer over files of bytes is that `trace` is done, the coverage agrees
 abbrev pub OnlyAgreementIsTraced : Type 0

@@ -13,14 +13,14 @@ ghost use Rattle.vpf_replies.specs.Answer.{Answer, done};
 ghost use Rattle.vpf_replies.specs.Tables.{fault_answer};
 ghost use Rattle.vpf_replies.specs.Halting.{ComesTo, TellsFault};
 ghost use Rattle.vpf_loading.specs.Holding.{HoldsBytes};
-ghost use Rattle.vpf_loading.specs.Loading.{LoadedCoverage};
+ghost use Rattle.vpf_featured.specs.Reading.{FeaturedCoverage};
 ghost use Rattle.vpf_library_commands.specs.declared.checking.CheckRequest.{CheckRequest};
 ghost use Rattle.vpf_library_commands.specs.declared.requesting.MakeRequest.{MakeRequest};
 ghost use Rattle.vpf_library_commands.specs.Agreeing.{Agrees, IsAgreeing};
 ghost use Rattle.vpf_library_commands.specs.Tile.{TileParts, tile_answer};
 ghost use Rattle.vpf_prims.specs.Tables.{TileTables};
 ghost use Rattle.vpf_replies.specs.Making.{made_answer};
-ghost use Rattle.vpf.specs.Cutting.{IsTiling};
+ghost use Rattle.vpf.specs.Cutting.{IsTiling, LacksAfter};
 ghost use Rattle.vpf_tilings.specs.Cutting.{IsCutFrom, cut_files};
 ghost use Rattle.vpf_tilings.specs.Tilings.{StandsAlone};
 ghost use Rattle.vpf_library_commands.specs.Check.{agrees_text};
@@ -204,38 +204,40 @@ pub fn run<T: Tree, O: Sink>(alloc: Global, words: &[String], tree: &mut T, out:
         (record { files = T.files tree.new; written = O.written out.new }) }
 
     // `check` is done exactly where the files hold the coverage in the grammar of tables, its columns are right and its rows agree, in each
-    // tile and across the tiles: then it prints the numbers of primitives of all its tiles. (The files of a tree that tells them are of
+    // tile and across the tiles, and the features that are read behind it agree: then it prints the numbers of primitives of all its tiles. (The files of a tree that tells them are of
     // bytes.)
-    ensures checked { (files : Files) (request : CheckRequest) (c : LoadedCoverage) → command_of (map string_bytes words.now) ≡ Some (Check request)
-        → T.files tree.old ≡ Some files → IsAgreeing files request c
-        → Carries (done (agrees_text c.coverage)) result (record { files = T.files tree.old; written = O.written out.old })
+    ensures checked { (files : Files) (request : CheckRequest) (read : FeaturedCoverage) → command_of (map string_bytes words.now) ≡ Some (Check request)
+        → T.files tree.old ≡ Some files → IsAgreeing files request read
+        → Carries (done (agrees_text read.coverage.coverage)) result (record { files = T.files tree.old; written = O.written out.old })
         (record { files = T.files tree.new; written = O.written out.new }) }
     ensures agrees { (files : Files) (request : CheckRequest) → HoldsBytes files → command_of (map string_bytes words.now) ≡ Some (Check request)
         → T.files tree.old ≡ Some files → result ≡ Status.Done → Agrees files request }
 
     // `trace` is done exactly where `check` is: then it prints the boundary cycles of the coverage, its lines between tiles passed over, each
     // home dart of another edge once.
-    ensures traced { (files : Files) (request : CheckRequest) (c : LoadedCoverage) (cycles : List (List TileDart))
-        → command_of (map string_bytes words.now) ≡ Some (Trace request) → T.files tree.old ≡ Some files → IsAgreeing files request c
-        → IsTrace (library_of c.coverage) (numbers_of cycles)
+    ensures traced { (files : Files) (request : CheckRequest) (read : FeaturedCoverage) (cycles : List (List TileDart))
+        → command_of (map string_bytes words.now) ≡ Some (Trace request) → T.files tree.old ≡ Some files → IsAgreeing files request read
+        → IsTrace (library_of read.coverage.coverage) (numbers_of cycles)
         → Carries (done (listing_text cycles)) result (record { files = T.files tree.old; written = O.written out.old })
         (record { files = T.files tree.new; written = O.written out.new }) }
     ensures traceable { (files : Files) (request : CheckRequest) → HoldsBytes files → command_of (map string_bytes words.now) ≡ Some (Trace request)
         → T.files tree.old ≡ Some files → result ≡ Status.Done → Agrees files request }
 
-    // Where an untiled coverage agrees, nothing speaks against its plan, and no file passes a bound, `tile` makes the files of its tiled library:
-    // the tables of the tiles, each primitive in the tiles of its faces, in their order, and no others.
+    // Where an untiled coverage agrees with its features, nothing speaks against its plan, no features are joined by numbers, and no file passes a bound,
+    // `tile` makes the files of its tiled library: the tables of the tiles, each primitive in the tiles of its faces, in their order, and behind them the
+    // files of the features, with thematic indexes built anew, and no others.
     ensures tiled { (files : Files) (request : MakeRequest) (parts : TileParts) (tables : TileTables) → command_of (map string_bytes words.now) ≡ Some (Tile request)
         → T.files tree.old ≡ Some files → IsCutFrom files request parts tables
         → Carries (made_answer (cut_files request parts tables)) result (record { files = T.files tree.old; written = O.written out.old })
         (record { files = T.files tree.new; written = O.written out.new }) }
 
-    // And what it makes is that coverage: where `tile` is done, no file stood in its folder before, and those that it makes have no more bytes in all
-    // than a run reads, then `check` accepts the library that was made, and `trace` lists exactly the boundary cycles of the coverage without its
-    // lines between tiles, each dart called by its name in the tiles.
+    // And what it makes is that coverage: where `tile` is done, no file stood in its folder before, no two of the files that it makes have one name, they
+    // have no more bytes in all than a run reads, and what the features lacked isn't there after, then `check` accepts the library that was made, with its
+    // features, and `trace` lists exactly the boundary cycles of the coverage without its lines between tiles, each dart called by its name in the tiles.
     ensures rejoined { (before after : Files) (request : MakeRequest) → HoldsBytes before → HoldsBytes after
         → command_of (map string_bytes words.now) ≡ Some (Tile request) → T.files tree.old ≡ Some before → T.files tree.new ≡ Some after
-        → result ≡ Status.Done → StandsAlone before request.out (tile_answer before request).made → IsTiling before after request }
+        → result ≡ Status.Done → StandsAlone before request.out (tile_answer before request).made → LacksAfter before after request
+        → IsTiling before after request }
 
     // A fault is answered exactly where its count rose in this call; where neither rose, the run is completed.
     ensures tree_fault { result ≡ Status.TreeFault → Rose (T.faults tree.old) (T.faults tree.new) }

@@ -1,4 +1,4 @@
-//! `select` through `run`, over roads in memory that are joined to the edges of a coverage, untiled and in tiles.
+//! `select`, `check`, `tile` and `glue` through `run`, over roads in memory that are joined to the edges of a coverage, untiled and in tiles.
 
 use crate::running::run;
 use crate::status::Status;
@@ -22,6 +22,9 @@ const CLASSES: &str =
     "L;Classes;-;feature_class=T,8,N,Class,-,-,-,:table1=T,12,N,Table,-,-,-,:table1_key=T,4,N,Key,-,-,-,:table2=T,4,N,Table,-,-,-,:table2_key=T,12,N,Key,-,-,-,:;";
 
 const CLASS: &[u8] = b"roadl   ROADL.LFT   id  edg roadl.lft_id";
+
+/// The same, where edges are named by their numbers.
+const NUMBERED: &[u8] = b"roadl   ROADL.LFT   id  edg id          ";
 
 /// The same by a key that roads don't have.
 const KEYLESS: &[u8] = b"roadl   roadl.lft   Idenedg\0roadl.lft_id";
@@ -170,18 +173,105 @@ fn selects_roads(rt: HostRuntime) -> Result<(), Fail> {
     Ok(())
 }
 
+/// The files of the roads in a folder, by this row of the schema table and this index.
+fn put_roads(
+    alloc: Global,
+    tree: &mut MemTree,
+    class: &[u8],
+    index: &[u8],
+) -> Result<(), AllocError> {
+    tree.put("lib/cov/fcs", &table(alloc, CLASSES, class)?)?;
+    tree.put("lib/cov/roadl.lft", &table(alloc, ROADS, ROAD_ROWS)?)?;
+    tree.put("lib/cov/f_code.lti", index)
+}
+
+/// The schema table's row, the index, words, what is printed, and the status.
+const REFUSED: [(&[u8], &[u8], &[&str], &str); 5] = [
+    (
+        CLASS,
+        WRONG,
+        &["check", "lib", "cov"],
+        "disagree 1 lib/cov/f_code.lti row 0 f_code: none, 2\n",
+    ),
+    (
+        CLASS,
+        LONGER,
+        &["trace", "lib", "cov"],
+        "disagree 1 lib/cov/f_code.lti row 0 f_code: 4, 3\n",
+    ),
+    (
+        CLASS,
+        WRONG,
+        &["tile", "lib", "cov", "out"],
+        "disagree 1 lib/cov/f_code.lti row 0 f_code: none, 2\n",
+    ),
+    (
+        NUMBERED,
+        INDEX,
+        &["tile", "lib", "cov", "out"],
+        "refused key-in-table roadl\n",
+    ),
+    (
+        CLASS,
+        b"T",
+        &["check", "lib", "cov"],
+        "refused theme-cut lib/cov/f_code.lti at 0\n",
+    ),
+];
+
 #[test]
-fn selects_roads_in_tiles(rt: HostRuntime) -> Result<(), Fail> {
+fn refuses_roads(rt: HostRuntime) -> Result<(), Fail> {
+    let alloc = rt.alloc();
+    for (class, index, words, text) in REFUSED {
+        let mut tree = coverage_tree(alloc)?;
+        put_roads(alloc, &mut tree, class, index)?;
+        let (status, out) = answered(alloc, &mut tree, words)?;
+        assert_eq!(rt; out.bytes(), text.as_bytes(), "{text}");
+        assert_eq!(rt; status, Status::Refused, "{text}");
+    }
+    Ok(())
+}
+
+/// Words, one command after another over the tree that those before have left, and what is printed first.
+const KEPT: [(&[&str], &str); 6] = [
+    (
+        &["check", "lib", "cov"],
+        "agrees untiled edges 3 faces 3 nodes 2 entities 0\n",
+    ),
+    (
+        &["tile", "lib", "cov", "out"],
+        "made out/tileref/tileref.aft 86\n",
+    ),
+    (
+        &["check", "out", "cov"],
+        "agrees tiles 2 edges 4 faces 4 nodes 4 entities 0\n",
+    ),
+    (
+        &["select", "out", "cov", "roadl", "f_code", "AP030"],
+        "1 1:edg:1\n3 1:edg:2 2:edg:2\nfeatures 2\n",
+    ),
+    (
+        &["glue", "out", "cov", "back"],
+        "made back/tileref/tileref.aft 86\n",
+    ),
+    (
+        &["select", "back", "cov", "roadl", "f_code", "AP030"],
+        "1 edg:1\n3 edg:3\nfeatures 2\n",
+    ),
+];
+
+#[test]
+fn keeps_roads_through_tiles(rt: HostRuntime) -> Result<(), Fail> {
     let alloc = rt.alloc();
     let mut tree = coverage_tree(alloc)?;
-    let (status, _) = answered(alloc, &mut tree, &["tile", "lib", "cov", "out"])?;
-    assert_eq!(rt; status, Status::Done);
-    tree.put("out/cov/fcs", &table(alloc, CLASSES, CLASS)?)?;
-    tree.put("out/cov/roadl.lft", &table(alloc, ROADS, ROAD_ROWS)?)?;
-    let words = ["select", "out", "cov", "roadl", "f_code", "AP030"];
-    let (status, out) = answered(alloc, &mut tree, &words)?;
-    let text = "1 1:edg:1\n3 1:edg:2 2:edg:2\nfeatures 2\n";
-    assert_eq!(rt; out.bytes(), text.as_bytes());
-    assert_eq!(rt; status, Status::Done);
+    put_roads(alloc, &mut tree, CLASS, INDEX)?;
+    for (words, text) in KEPT {
+        let (status, out) = answered(alloc, &mut tree, words)?;
+        assert!(rt; out.bytes().starts_with(text.as_bytes()), "{text}");
+        assert_eq!(rt; status, Status::Done, "{text}");
+    }
+    for folder in ["out/cov/f_code.lti", "back/cov/f_code.lti"] {
+        assert_eq!(rt; tree.file(folder), Some(INDEX));
+    }
     Ok(())
 }

@@ -1,3 +1,2 @@
-pub mod LoadLemmas
 pub mod SelectAnswers
 mod PlainLemmas

@@ -12,7 +12,8 @@ use Rattle.vpf_classes.specs.Serving.{IndexesServe, ServesAsScans, unindexed_sch
 use Rattle.vpf_prims.specs.Coverages.{CoverageTables}
 use Rattle.vpf_feature_commands.specs.declared.requesting.SelectRequest.{SelectRequest}
 use Rattle.vpf_feature_commands.specs.Plain.{ServeWhatIsRead, plain_read}
-use Rattle.vpf_feature_commands.specs.Select.{FeaturedCoverage, asked_answer, coverage_answer, featured_answer, schema_answer}
+use Rattle.vpf_featured.specs.Reading.{FeaturedCoverage}
+use Rattle.vpf_feature_commands.specs.Select.{asked_answer, coverage_answer, featured_answer, schema_answer}
 
 -- indexes aren't looked at for findings on feature tables
 plain_findings : (folder : List ℕ) (tables : List FeatureTable) → tables_finding folder (map unindexed_table tables) ≡ tables_finding folder tables

@@ -14,7 +14,8 @@ use Rattle.vpf_replies.specs.Answer.{Answer}
 use Rattle.vpf_replies.specs.Halting.{ComesTo}
 use Rattle.vpf_load_replies.specs.Stopping.{IsStopAnswer, stop_answer}
 use Rattle.vpf_feature_commands.specs.declared.requesting.SelectRequest.{SelectRequest}
-use Rattle.vpf_feature_commands.specs.Select.{FeaturedCoverage, coverage_answer, featured_answer, schema_answer, select_request}
+use Rattle.vpf_featured.specs.Reading.{FeaturedCoverage}
+use Rattle.vpf_feature_commands.specs.Select.{coverage_answer, featured_answer, schema_answer, select_request}
 
 -- ---- the request
 

@@ -1,4 +1,3 @@
 pub mod Select
 pub mod Lines
-pub mod Held
 pub mod Plain

@@ -5,7 +5,8 @@ use Rattle.vpf_loading.specs.declared.loading.LoadStop.{LoadStop}
 use Rattle.vpf_classes.specs.Serving.{IndexesServe, unindexed_schema}
 use Rattle.vpf_replies.specs.Answer.{Answer}
 use Rattle.vpf_feature_commands.specs.declared.requesting.SelectRequest.{SelectRequest}
-use Rattle.vpf_feature_commands.specs.Select.{FeaturedCoverage, featured_answer, read_featured, select_answer}
+use Rattle.vpf_featured.specs.Reading.{FeaturedCoverage, read_featured}
+use Rattle.vpf_feature_commands.specs.Select.{featured_answer, select_answer}
 
 -- what was read, without thematic indexes
 abbrev pub plain_read : Result FeaturedCoverage LoadStop → Result FeaturedCoverage LoadStop

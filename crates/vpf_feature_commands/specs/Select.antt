@@ -6,11 +6,11 @@ use Rattle.vpf_findings.specs.Findings.{Disagreement}
 use Rattle.vpf_findings.specs.Printing.{disagree_text}
 use Rattle.vpf_prims.specs.Coverages.{CoverageTables}
 use Rattle.vpf_numbers.specs.TableLines.{coverage_numbers}
-use Rattle.vpf_loading.specs.Loading.{LoadedCoverage, Read, ◌and_then◌, read_coverage, within}
+use Rattle.vpf_loading.specs.Loading.{within}
 use Rattle.vpf_loading.specs.declared.loading.LoadStop.{LoadStop}
-use Rattle.vpf_feature_files.specs.Reading.{read_schema}
 use Rattle.vpf_feature_files.specs.Schemas.{Schema}
 use Rattle.vpf_features.specs.Finding.{Named, tables_finding}
+use Rattle.vpf_featured.specs.Reading.{FeaturedCoverage, read_featured}
 use Rattle.vpf_joins.specs.Features.{FeatureJoined}
 use Rattle.vpf_classes.specs.Asking.{features_asked}
 use Rattle.vpf_classes.specs.Lacks.{Lack, ClassLacks, TableLacks, ColumnLacks, IndexUnfit, ValueLacks, IndexWrong}
@@ -34,20 +34,6 @@ select_request_of (Some lib) (Some cov) class column value = Some (record { lib 
 abbrev pub select_request : List (List ℕ) → Option SelectRequest
 select_request (lib ∷ cov ∷ class ∷ column ∷ value ∷ []) = select_request_of (file_name lib) (coverage_name cov) class column value
 select_request words = None
-
--- ---- what is read
-
--- a coverage, with all its files, and its features
-pub record FeaturedCoverage : Type 0 where
-  pub coverage : LoadedCoverage
-  pub schema : Schema
-
--- their files, in reading order
-abbrev pub read_featured : Files → (lib cov : List ℕ) → ℕ → Read FeaturedCoverage
-read_featured files lib cov loaded =
-    read_coverage files lib cov loaded and_then λ coverage n.
-    read_schema files (within lib cov) n and_then λ schema n.
-    (Ok (record { coverage = coverage; schema = schema }), n)
 
 -- ---- the answer; the folder is that of the coverage
 

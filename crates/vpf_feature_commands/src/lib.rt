@@ -3,7 +3,6 @@
 
 mod lacks;
 pub mod laws;
-mod loading;
 mod printing;
 mod requesting;
 mod selecting;

@@ -13,6 +13,8 @@ use Rattle.vpf_loading.specs.Loading.{LoadedTable, LoadedTile, loaded_tile, most
 use Rattle.vpf_loading.specs.Loading.{read_tile, read_tileref, tileref_name, untiled_loaded, within}
 use Rattle.vpf_plan.specs.PlanLoads.{read_plan}
 use Rattle.vpf_plan.specs.Plans.{plan_finding}
+use Rattle.vpf_feature_files.specs.Reading.{schema_name}
+use Rattle.vpf_featured.specs.Reading.{no_features}
 use Rattle.vpf_library_commands.specs.Tile.{plan_name, read_parts}
 use Rattle.vpf_grid_cutting.specs.Held.{read_alone}
 
@@ -66,18 +68,19 @@ plan_comes : (held : Files) (name : List ℕ) (grid : Grid) (m : ℕ) → IsTher
 plan_comes held name grid m t sum none = rw (table_comes held name grid m t sum, none) refl
 
 all_come : (held : Files) (lib cov : List ℕ) (n4 n5 n6 : ℕ) (tile : LoadedTile) (tileref plan : LoadedTable)
-    → read_tile held (within lib cov) 0 ≡ (Ok (Some tile), n4) → read_tileref held lib n4 ≡ (Ok tileref, n5)
-    → read_plan held (plan_name lib cov) n5 ≡ (Ok plan, n6)
-    → (read_parts held lib cov 0).0 ≡ Ok (record { coverage = untiled_loaded tile; tileref = tileref; plan = plan })
-all_come held lib cov n4 n5 n6 tile tileref plan e f g = rw (e, f, g) refl
+    → read_tile held (within lib cov) 0 ≡ (Ok (Some tile), n4) → held (schema_name (within lib cov)) ≡ None
+    → read_tileref held lib n4 ≡ (Ok tileref, n5) → read_plan held (plan_name lib cov) n5 ≡ (Ok plan, n6)
+    → (read_parts held lib cov 0).0 ≡ Ok (record { coverage = untiled_loaded tile; schema = no_features; tileref = tileref; plan = plan })
+all_come held lib cov n4 n5 n6 tile tileref plan e none f g = rw (e, none, f, g) refl
 
--- a tree holds the files that are read to cut a coverage without entity nodes
+-- a tree holds the files that are read to cut a coverage without entity nodes and without features
 pub record HoldsParts (held : Files) (lib cov : List ℕ) (edg fac rng cnd tileref plan : Grid) : Type 0 where
   pub edg_there : IsThere held (within (within lib cov) (codes "edg")) edg
   pub fac_there : IsThere held (within (within lib cov) (codes "fac")) fac
   pub rng_there : IsThere held (within (within lib cov) (codes "rng")) rng
   pub cnd_there : IsThere held (within (within lib cov) (codes "cnd")) cnd
   pub no_entities : held (within (within lib cov) (codes "end")) ≡ None
+  pub no_schema : held (schema_name (within lib cov)) ≡ None
   pub tileref_there : IsThere held (tileref_name lib) tileref
   pub plan_there : IsThere held (plan_name lib cov) plan
   pub goes_on : tileref_stop tileref ≡ None
@@ -92,6 +95,7 @@ pub parts_come : (held : Files) (lib cov : List ℕ) (edg fac rng cnd tileref pl
     ≡ Ok (record {
       coverage = untiled_loaded (loaded_tile (read_alone (within (within lib cov) (codes "edg")) edg) (read_alone (within (within lib cov) (codes "fac")) fac)
           (read_alone (within (within lib cov) (codes "rng")) rng) (read_alone (within (within lib cov) (codes "cnd")) cnd) None);
+      schema = no_features;
       tileref = read_alone (tileref_name lib) tileref;
       plan = read_alone (plan_name lib cov) plan;
     })
@@ -111,5 +115,5 @@ parts_come held lib cov edg fac rng cnd tileref plan h =
     all_come held lib cov n4 n5 (n5 + size plan) _ (read_alone (tileref_name lib) tileref) (read_alone (plan_name lib cov) plan)
     (tile_comes held folder n1 n2 n3 n4 _ _ _ _ (option_comes held (within folder (codes "edg")) edg 0 h.edg_there r1.0)
     (table_comes held (within folder (codes "fac")) fac n1 h.fac_there r2.0) (table_comes held (within folder (codes "rng")) rng n2 h.rng_there r3.0)
-    (table_comes held (within folder (codes "cnd")) cnd n3 h.cnd_there r4.0) (none_comes held (within folder (codes "end")) n4 h.no_entities))
+    (table_comes held (within folder (codes "cnd")) cnd n3 h.cnd_there r4.0) (none_comes held (within folder (codes "end")) n4 h.no_entities)) h.no_schema
     (tileref_comes held lib tileref n4 h.tileref_there r5.0 h.goes_on) (plan_comes held (plan_name lib cov) plan n5 h.plan_there r6.0 h.has_columns)

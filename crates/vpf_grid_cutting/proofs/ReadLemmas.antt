@@ -56,6 +56,7 @@ parts_there read stops n even least most =
       rng_there = record { there = refl; read = r.1.1.1.0; one_length = refl; few = rings_few n most };
       cnd_there = record { there = refl; read = r.1.1.1.1.0; one_length = refl; few = nodes_few n most };
       no_entities = refl;
+      no_schema = refl;
       tileref_there = record { there = refl; read = r.0; one_length = refl; few = tileref_few n most };
       plan_there = record { there = refl; read = r.1.1.1.1.1.0; one_length = refl; few = plan_few n most };
       goes_on = goes_on stops (tiles n) (some_tiles n least) (few_tiles n most);

@@ -14,6 +14,11 @@ use Rattle.vpf_numbers.specs.TableLines.{coverage_numbers}
 use Rattle.vpf_cross.specs.CrossFinding.{topology_finding}
 use Rattle.vpf_cross.specs.Laws.{AgreementDecides, AreWhole}
 use Rattle.vpf_grid.specs.Rows.{edge_rows, face_rows, ring_rows, node_rows}
+use Rattle.vpf_loading.specs.Loading.{LoadedCoverage, within}
+use Rattle.vpf_featured.specs.Finding.{featured_finding}
+use Rattle.vpf_featured.specs.Reading.{unfeatured}
+use Rattle.vpf_library_commands.specs.Tile.{parts_finding}
+use Rattle.vpf_grid_cutting.specs.Reading.{grid_parts, grid_request}
 use Rattle.vpf_vectors.specs.Library.{coverage_tables}
 use Rattle.vpf_vectors.specs.Tables.{edge_cells, ring_cells, pair_cells}
 use Rattle.vpf_grid_agreement.specs.Agreement.{GridAgrees, GridHasColumns, grid_coverage}
@@ -55,10 +60,32 @@ whole n = record {
   nodes = λ s t S T e f. ap (λ (x : PrimitiveTables). length (carried_columns node_roles x.cnd.head.columns)) (alike n s t S T e f);
 }
 
+-- nothing is found on its numbers, nor on its topology
+record AreUnfound (n : ℕ) : Type 0 where
+  numbers : coverage_numbers (grid_coverage n) ≡ None
+  topology : topology_finding (grid_coverage n) ≡ None
+
+both_unfound : CoverageNumbersDecide → AgreementDecides → GridHasColumns → GridAgrees → (n : ℕ) → 1 ≤ n → n ≤ 200 → AreUnfound n
+both_unfound numbers topology columns agrees n least most =
+    let rows = agrees n least most in
+    record {
+      numbers = (numbers (grid_coverage n)).1 (columns n, rows.numbered);
+      topology = (topology (grid_coverage n) rows.library rows.numbered (whole n)).1 rows;
+    }
+
 pub unfound : CoverageNumbersDecide → AgreementDecides → GridHasColumns → GridAgrees → (n : ℕ) → 1 ≤ n → n ≤ 200
     → (coverage_numbers (grid_coverage n) or topology_finding (grid_coverage n)) ≡ None
 unfound numbers topology columns agrees n least most =
-    let rows = agrees n least most in
-    let none : coverage_numbers (grid_coverage n) ≡ None = (numbers (grid_coverage n)).1 (columns n, rows.numbered) in
-    let behind : topology_finding (grid_coverage n) ≡ None = (topology (grid_coverage n) rows.library rows.numbered (whole n)).1 rows in
-    rw none behind
+    let none = both_unfound numbers topology columns agrees n least most in
+    rw none.numbers none.topology
+
+-- nor in what is read to cut it, where there are no features
+without_features : (folder : List ℕ) (c : LoadedCoverage) → coverage_numbers c.coverage ≡ None → topology_finding c.coverage ≡ None
+    → featured_finding folder (unfeatured c) ≡ None
+without_features folder c numbers topology = rw (numbers, topology) refl
+
+pub parts_unfound : CoverageNumbersDecide → AgreementDecides → GridHasColumns → GridAgrees → (n : ℕ) → 1 ≤ n → n ≤ 200
+    → parts_finding grid_request (grid_parts n) ≡ None
+parts_unfound numbers topology columns agrees n least most =
+    let none = both_unfound numbers topology columns agrees n least most in
+    without_features (within grid_request.lib grid_request.cov) (grid_parts n).coverage none.numbers none.topology

@@ -11,7 +11,8 @@ use Rattle.vpf_vectors.specs.Tables.{edge_table, pair_table, ring_table}
 use Rattle.vpf_library_commands.specs.declared.requesting.MakeRequest.{MakeRequest}
 use Rattle.vpf_library_commands.specs.Check.{coverage_finding}
 use Rattle.vpf_library_commands.specs.Make.{make_request}
-use Rattle.vpf_library_commands.specs.Tile.{TileParts, read_parts}
+use Rattle.vpf_library_commands.specs.Tile.{TileParts, parts_finding, read_parts}
+use Rattle.vpf_featured.specs.Reading.{no_features}
 use Rattle.vpf_grid_cutting.specs.Held.{grid_held, grid_out, plan_grid, read_alone, tileref_grid}
 
 -- the request that its coverage `g` is cut into tiles, as a library in the folder beside it
@@ -32,10 +33,11 @@ grid_tile n =
     loaded_tile (read_alone (codes "grid/g/edg") (edge_table (edge_rows n))) (read_alone (codes "grid/g/fac") (pair_table face_head 1 (face_rows n)))
     (read_alone (codes "grid/g/rng") (ring_table (ring_rows n))) (read_alone (codes "grid/g/cnd") (pair_table node_head 1 (node_rows n))) None
 
--- the coverage, the table of tiles and the plan
+-- the coverage, which has no features, the table of tiles and the plan
 abbrev pub grid_parts : ℕ → TileParts
 grid_parts n = record {
   coverage = untiled_loaded (grid_tile n);
+  schema = no_features;
   tileref = read_alone (codes "grid/tileref/tileref.aft") (tileref_grid n);
   plan = read_alone (codes "grid/g/plan") (plan_grid n);
 }
@@ -55,3 +57,7 @@ GridHasTables = (n : ℕ) → tile_at (grid_parts n).coverage.coverage 0 ≡ Som
 -- nothing is found in it
 abbrev pub GridIsUnfound : Type 0
 GridIsUnfound = (n : ℕ) → 1 ≤ n → n ≤ 200 → coverage_finding (grid_parts n).coverage.coverage ≡ None
+
+-- nor in all that is read to cut it
+abbrev pub GridPartsAreUnfound : Type 0
+GridPartsAreUnfound = (n : ℕ) → 1 ≤ n → n ≤ 200 → parts_finding grid_request (grid_parts n) ≡ None

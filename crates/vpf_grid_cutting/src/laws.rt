@@ -2,7 +2,7 @@
 
 ghost use Rattle.vpf_grid_cutting.specs.Held.{GridHoldsBytes, GridIsMade, OutIsEmpty};
 ghost use Rattle.vpf_grid_cutting.specs.Plans.{GridIsTileable, GridServes, PlanNamesTiles, RowsAreTiles};
-ghost use Rattle.vpf_grid_cutting.specs.Reading.{GridHasTables, GridIsAsked, GridIsReadToCut, GridIsUnfound};
+ghost use Rattle.vpf_grid_cutting.specs.Reading.{GridHasTables, GridIsAsked, GridIsReadToCut, GridIsUnfound, GridPartsAreUnfound};
 
 use vpf_cross::laws::agreement_decides;
 use vpf_grid::laws as grids;
@@ -13,9 +13,10 @@ use vpf_tileable::laws::refusals_decide;
 use vpf_tileref::laws::stops_decide;
 use vpf_vectors::laws as vectors;
 
-/// Nothing is found in the coverage of the grid, since it agrees.
+/// Nothing is found in the coverage of the grid, since it agrees, nor in all that is read to cut it, since it has no features.
 pub fn grid_is_unfound()
-    ensures { GridIsUnfound }
+    ensures coverage { GridIsUnfound }
+    ensures parts { GridPartsAreUnfound }
 {
     numbers_decide();
     agreement_decides();

@@ -1,65 +1,71 @@
 -- The answer of `check` by what was loaded.
-use Rattle.std.proofs.Common.{◌≡◌, ℕ, Option, Some, None, List, [], refl, sym, ap, ◌∙◌}
+use Rattle.std.proofs.Common.{◌≡◌, ℕ, Option, None, List, refl, sym, ap, ◌∙◌}
 use Rattle.std.specs.Prelude.{Result, Ok, Err}
-use Rattle.vpf_base.specs.Results.{Told}
 use Rattle.vpf_source.specs.declared.file.File.{File}
 use Rattle.vpf_prims.specs.Coverages.{CoverageTables}
-use Rattle.vpf_numbers.specs.TableLines.{coverage_numbers}
-use Rattle.vpf_loading.specs.Loading.{LoadedCoverage, Read, loaded_in, stop_seen}
+use Rattle.vpf_loading.specs.Loading.{Read}
 use Rattle.vpf_loading.specs.declared.loading.LoadStop.{LoadStop}
 use Rattle.vpf_loading.specs.declared.loading.LoadStop.TheVariants as stops
 use Rattle.vpf_cross.specs.CrossFinding.{topology_finding}
 use Rattle.vpf_replies.specs.declared.halting.Halt.{Halt}
 use Rattle.vpf_replies.specs.declared.halting.Halt.TheVariants as halts
-use Rattle.vpf_replies.specs.Answer.{Answer}
+use Rattle.vpf_replies.specs.Answer.{Answer, done}
 use Rattle.vpf_replies.specs.Halting.{ComesTo}
 use Rattle.vpf_load_replies.specs.Stopping.{IsStopAnswer, stop_answer}
-use Rattle.vpf_library_commands.specs.Check.{coverage_finding, found_answer, read_answer}
+use Rattle.vpf_loading.specs.Loads.{ReadsStop}
+use Rattle.vpf_features.specs.Finding.{Named}
+use Rattle.vpf_featured.specs.Finding.{featured_finding, placed_finding, tables_or_features_finding}
+use Rattle.vpf_featured.specs.Reading.{FeaturedCoverage}
+use Rattle.vpf_library_commands.specs.declared.checking.CheckRequest.{CheckRequest}
+use Rattle.vpf_library_commands.specs.Check.{agrees_text, found_answer, read_answer, read_finding}
 
-abbrev pub loaded_of : Result (List File) LoadStop → List File
-loaded_of (Ok files) = files
-loaded_of (Err stop) = []
-
-abbrev stop_of : Result (List File) LoadStop → LoadStop
-stop_of (Ok files) = stops.Fault
-stop_of (Err stop) = stop
-
--- what is answered over the coverage of the files that were loaded is the answer
-pub loaded_answer : (read : Result LoadedCoverage LoadStop) (files : List File) (answer : Answer) → loaded_in read ≡ Ok files → ((c : LoadedCoverage) → read ≡ Ok c → answer ≡ found_answer files c.coverage (coverage_finding c.coverage)) → answer ≡ read_answer read
-loaded_answer (Ok c) files answer h is = let e : c.files ≡ files = ap loaded_of h in rw e (is c refl)
-loaded_answer (Err stop) files answer h is = absurd cc
+-- ---- a coverage with its features
 
 -- an answer to what was read, which is that to the stop where there is one
-pub record IsStopped (Is : Result LoadedCoverage LoadStop → Answer → Type 0) : Type 0 where
+pub record IsReadStopped (Is : Result FeaturedCoverage LoadStop → Answer → Type 0) : Type 0 where
   pub at : (stop : LoadStop) (answer : Answer) → answer ≡ stop_answer stop → Is (Err stop) answer
 
-stopped_in : (Is : Result LoadedCoverage LoadStop → Answer → Type 0) → IsStopped Is → (read : Result LoadedCoverage LoadStop) (stop : LoadStop) (answer : Answer) → loaded_in read ≡ Err stop → answer ≡ stop_answer stop → Is read answer
-stopped_in Is h (Ok c) stop answer e is = absurd cc
-stopped_in Is h (Err other) stop answer e is = let same : other ≡ stop = ap stop_of e in h.at other answer (is ∙ ap stop_answer (sym same))
+seen_answer : (Is : Result FeaturedCoverage LoadStop → Answer → Type 0) → IsReadStopped Is → (read : Read FeaturedCoverage) (stop : LoadStop) (n : ℕ) (answer : Answer)
+    → read ≡ (Err stop, n) → answer ≡ stop_answer stop → Is read.0 answer
+seen_answer Is h read stop n answer e is = rw e (h.at stop answer is)
 
-is_answer : (Is : Result LoadedCoverage LoadStop → Answer → Type 0) → IsStopped Is → (read : Result LoadedCoverage LoadStop) (stop : LoadStop) (answer : Answer) → Told (stop_seen stop) (loaded_in read) → IsStopAnswer stop answer → Is read answer
-is_answer Is h read stops.Fault answer told is = absurd is
-is_answer Is h read stops.NoMemory answer told is = absurd is
-is_answer Is h read (stops.Missing name) answer told is = stopped_in Is h read (stops.Missing name) answer told is
-is_answer Is h read (stops.Place name place) answer told is = stopped_in Is h read (stops.Place name place) answer told is
-is_answer Is h read (stops.Limit name limit) answer told is = stopped_in Is h read (stops.Limit name limit) answer told is
-is_answer Is h read (stops.Finding name f) answer told is = stopped_in Is h read (stops.Finding name f) answer told is
-is_answer Is h read (stops.Varies name) answer told is = stopped_in Is h read (stops.Varies name) answer told is
+ends_so : (Is : Result FeaturedCoverage LoadStop → Answer → Type 0) → IsReadStopped Is → (read : Read FeaturedCoverage) (stop : LoadStop) (n : ℕ) (answer : Answer)
+    → ReadsStop stop n read → IsStopAnswer stop answer → Is read.0 answer
+ends_so Is h read stops.Fault n answer told is = absurd is
+ends_so Is h read stops.NoMemory n answer told is = absurd is
+ends_so Is h read (stops.Missing name) n answer told is = seen_answer Is h read (stops.Missing name) n answer told is
+ends_so Is h read (stops.Place name place) n answer told is = seen_answer Is h read (stops.Place name place) n answer told is
+ends_so Is h read (stops.Limit name limit) n answer told is = seen_answer Is h read (stops.Limit name limit) n answer told is
+ends_so Is h read (stops.Finding name f) n answer told is = seen_answer Is h read (stops.Finding name f) n answer told is
+ends_so Is h read (stops.Varies name) n answer told is = seen_answer Is h read (stops.Varies name) n answer told is
 
 -- the reply to what stopped the load is the answer
-pub stopped_answer : (Is : Result LoadedCoverage LoadStop → Answer → Type 0) → IsStopped Is → (read : Result LoadedCoverage LoadStop) (stop : LoadStop) (result : Result Answer Halt) → Told (stop_seen stop) (loaded_in read) → ComesTo (IsStopAnswer stop) result → ComesTo (Is read) result
-stopped_answer Is h read stop (Ok answer) told is = is_answer Is h read stop answer told is
-stopped_answer Is h read stop (Err (halts.Answered answer)) told is = is_answer Is h read stop answer told is
-stopped_answer Is h read stop (Err (halts.Stop cause)) told is = is
+pub read_stopped : (Is : Result FeaturedCoverage LoadStop → Answer → Type 0) → IsReadStopped Is → (read : Read FeaturedCoverage) (stop : LoadStop) (n : ℕ)
+    (result : Result Answer Halt) → ReadsStop stop n read → ComesTo (IsStopAnswer stop) result → ComesTo (Is read.0) result
+read_stopped Is h read stop n (Ok answer) told is = ends_so Is h read stop n answer told is
+read_stopped Is h read stop n (Err (halts.Answered answer)) told is = ends_so Is h read stop n answer told is
+read_stopped Is h read stop n (Err (halts.Stop cause)) told is = is
 
 -- `check` answers a stop so
-pub check_stopped : IsStopped (λ read answer. answer ≡ read_answer read)
-check_stopped = record { at = λ stop answer is. is }
+pub check_stopped : (request : CheckRequest) → IsReadStopped (λ read answer. answer ≡ read_answer request read)
+check_stopped request = record { at = λ stop answer is. is }
+
+-- the answer over what was read
+pub check_read : (request : CheckRequest) (read : Read FeaturedCoverage) (v : FeaturedCoverage) (n : ℕ) (answer : Answer) → read ≡ (Ok v, n)
+    → answer ≡ found_answer v.coverage.coverage (read_finding request v) → answer ≡ read_answer request read.0
+check_read request read v n answer e is = rw e is
+
+-- where nothing is found, the counts of the coverage are answered
+pub agreed_so : (c d : CoverageTables) (first : Option Named) (answer : Answer) → first ≡ None → c ≡ d → answer ≡ done (agrees_text c) → answer ≡ found_answer d first
+agreed_so c d first answer none same is = is ∙ (ap (λ (x : CoverageTables). done (agrees_text x)) same ∙ sym (ap (found_answer d) none))
+
+-- where nothing is found in tables and features, what is found in the topology is found first
+pub found_featured : (folder : List ℕ) (files : List File) (c : CoverageTables) (read : FeaturedCoverage) → tables_or_features_finding folder read ≡ None
+    → c ≡ read.coverage.coverage → files ≡ read.coverage.files → placed_finding files (topology_finding c) ≡ featured_finding folder read
+found_featured folder files c read none same listed =
+    rw none (ap (λ (x : CoverageTables). placed_finding files (topology_finding x)) same
+    ∙ ap (λ (fs : List File). placed_finding fs (topology_finding read.coverage.coverage)) listed)
 
 -- what was read, with the count of bytes
-pub both_of : (read : Read LoadedCoverage) (c : LoadedCoverage) → read.0 ≡ Ok c → read ≡ (Ok c, read.1)
-both_of read c e = rw e refl
-
--- where the numbers of a coverage are right, what is found in its topology is found first
-pub found_behind : (coverage c : CoverageTables) → coverage_numbers c ≡ None → coverage ≡ c → topology_finding coverage ≡ coverage_finding c
-found_behind coverage c none same = rw none (ap topology_finding same)
+pub both_of : {V : Type 0} (read : Read V) (v : V) → read.0 ≡ Ok v → read ≡ (Ok v, read.1)
+both_of read v e = rw e refl

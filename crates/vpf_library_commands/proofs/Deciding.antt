@@ -1,23 +1,21 @@
 -- `check` is done exactly where the coverage agrees.
-use Rattle.std.proofs.Common.{◌≡◌, ℕ, Option, Some, None, List, refl, ap, ◌∙◌}
+use Rattle.std.proofs.Common.{◌≡◌, ℕ, Option, Some, None, List, refl, sym, ap, subst, ◌∙◌}
 use Rattle.std.specs.Prelude.{◌↔◌, Result, Ok, Err}
+use Rattle.std.specs.Option.{option_map}
 use Rattle.vpf_source.specs.Files.{Files}
 use Rattle.vpf_source.specs.declared.file.File.{File}
 use Rattle.vpf_triplet.specs.declared.places.Place.{Place}
 use Rattle.vpf_triplet.specs.declared.places.Code.{Code}
 use Rattle.vpf_triplet.specs.declared.places.Code.TheVariants as codes
-use Rattle.vpf_findings.specs.Findings.{Disagreement}
 use Rattle.vpf_findings.specs.FirstLaws.{or-none_both}
-use Rattle.vpf_prims.specs.Coverages.{CoverageTables, tile_at}
-use Rattle.vpf_prims.specs.Laws.{AreFilled}
+use Rattle.vpf_prims.specs.Coverages.{CoverageTables}
 use Rattle.vpf_prims.specs.Libraries.{library_of}
-use Rattle.vpf_prims.specs.Tables.{TileTables}
 use Rattle.vpf_numbers.specs.Laws.{CoverageNumbersDecide}
 use Rattle.vpf_numbers.specs.Matching.{HaveColumns}
 use Rattle.vpf_numbers.specs.TableLines.{coverage_numbers}
-use Rattle.vpf_loading.specs.Holding.{AreCoverageFiles, HoldsBytes}
-use Rattle.vpf_loading.specs.Laws.{AreNamedApart, FilesAreLibraries, FilesAreWhole, HeldIsRead, ReadIsHeld}
-use Rattle.vpf_loading.specs.Loading.{LoadedCoverage, read_coverage}
+use Rattle.vpf_loading.specs.Holding.{AreCoverageFiles, HoldsBytes, bytes_in}
+use Rattle.vpf_loading.specs.Laws.{FilesAreLibraries, FilesAreWhole, HeldIsRead, ReadIsHeld}
+use Rattle.vpf_loading.specs.Loading.{Read, read_coverage, within}
 use Rattle.vpf_loading.specs.declared.loading.LoadStop.{LoadStop}
 use Rattle.vpf_loading.specs.declared.loading.LoadStop.TheVariants as stops
 use Rattle.vpf_cross.specs.Agreeing.{LibraryAgrees}
@@ -28,8 +26,14 @@ use Rattle.vpf_replies.specs.Answer.{Answer}
 use Rattle.vpf_replies.specs.Tables.{answer_by}
 use Rattle.vpf_load_replies.specs.Stopping.{stop_answer}
 use Rattle.vpf_library_commands.specs.declared.checking.CheckRequest.{CheckRequest}
-use Rattle.vpf_library_commands.specs.Agreeing.{Agrees, CheckCounts, CheckDecides}
-use Rattle.vpf_library_commands.specs.Check.{coverage_finding, found_answer, read_answer}
+use Rattle.vpf_feature_files.specs.Reading.{read_schema}
+use Rattle.vpf_features.specs.Finding.{Named}
+use Rattle.vpf_feature_agreement.specs.Agreeing.{FeaturesAgree, FeaturesDecide, features_finding}
+use Rattle.vpf_feature_agreement.specs.Steps.{both_ok, came, count_same, value_same}
+use Rattle.vpf_featured.specs.Finding.{in_its_file, placed_finding, tables_or_features_finding}
+use Rattle.vpf_featured.specs.Reading.{FeaturedCoverage, read_featured}
+use Rattle.vpf_library_commands.specs.Agreeing.{AgreeingIsRead, Agrees, CheckCounts, CheckDecides, CoverageDecides, IsAgreeing}
+use Rattle.vpf_library_commands.specs.Check.{coverage_finding, found_answer, read_answer, read_finding}
 
 -- ---- a stop is no answer of what is done
 
@@ -76,9 +80,9 @@ stop_refuses (stops.Varies name) h = absurd cc
 stop_refuses stops.Fault h = absurd cc
 stop_refuses stops.NoMemory h = absurd cc
 
-finding_refuses : (files : List File) (c : CoverageTables) (first : Option Disagreement) → (found_answer files c first).verdict ≡ Done → first ≡ None
-finding_refuses files c None h = refl
-finding_refuses files c (Some d) h = absurd cc
+finding_refuses : (c : CoverageTables) (first : Option Named) → (found_answer c first).verdict ≡ Done → first ≡ None
+finding_refuses c None h = refl
+finding_refuses c (Some (name, d)) h = absurd cc
 
 -- ---- there is no finding exactly where the coverage agrees
 
@@ -107,23 +111,111 @@ agreement laws lib cov c files are =
           rw none behind,
     )
 
+-- a coverage that is read alone
+pub coverage_decides : ReadIsHeld → CoverageLaws → CoverageDecides
+coverage_decides held laws files lib cov c loaded bytes e = agreement laws lib cov c.coverage c.files (held files lib cov c loaded bytes e).are
+
+-- ---- the same with features
+
+-- what is so of reading coverages, of their findings, and of those of features
+pub record ReadLaws : Type 0 where
+  pub held : HeldIsRead
+  pub read : ReadIsHeld
+  pub coverage : CoverageLaws
+  pub features : FeaturesDecide
+
+pub read_laws : HeldIsRead → ReadIsHeld → CoverageLaws → FeaturesDecide → ReadLaws
+read_laws held read coverage features = record { held = held; read = read; coverage = coverage; features = features }
+
+-- a coverage was read, and its features behind it
+record PartsRead (files : Files) (request : CheckRequest) (v : FeaturedCoverage) (n : ℕ) : Type 0 where
+  middle : ℕ
+  coverage : read_coverage files request.lib request.cov 0 ≡ (Ok v.coverage, middle)
+  schema : read_schema files (within request.lib request.cov) middle ≡ (Ok v.schema, n)
+
+parts_read : (files : Files) (request : CheckRequest) (v : FeaturedCoverage) (n : ℕ) → read_featured files request.lib request.cov 0 ≡ (Ok v, n) → PartsRead files request v n
+parts_read files request v n e =
+    let folder = within request.lib request.cov in
+    let a = both_ok (read_coverage files request.lib request.cov 0) _ v n e in
+    let b = both_ok (read_schema files folder a.count) _ v n a.then in
+    let is = value_same (record { coverage = a.value; schema = b.value }) v b.count n b.then in
+    record {
+      middle = a.count;
+      coverage = a.comes ∙ ap (λ (x : FeaturedCoverage). came x.coverage a.count) is;
+      schema = b.comes ∙ (ap (λ (x : FeaturedCoverage). came x.schema b.count) is ∙ ap (came v.schema) (count_same _ v b.count n b.then));
+    }
+
+map_none : {A B : Type 0} (f : A → B) (o : Option A) → option_map f o ≡ None → o ≡ None
+map_none f None e = refl
+map_none f (Some x) e = absurd cc
+
+-- a coverage agrees, and its features do
+Agreed : FeaturedCoverage → Type 0
+Agreed v = HaveColumns v.coverage.coverage × LibraryAgrees (library_of v.coverage.coverage) × FeaturesAgree v.schema
+
+featured_agreement : ReadLaws → (files : Files) (request : CheckRequest) (v : FeaturedCoverage) (before n : ℕ)
+    → AreCoverageFiles request.lib request.cov v.coverage.coverage v.coverage.files → read_schema files (within request.lib request.cov) before ≡ (Ok v.schema, n)
+    → (read_finding request v ≡ None) ↔ Agreed v
+unfolding Agreed
+featured_agreement laws files request v before n are read =
+    let folder = within request.lib request.cov in
+    let c = v.coverage.coverage in
+    let numbers = placed_finding v.coverage.files (coverage_numbers c) in
+    let topology = placed_finding v.coverage.files (topology_finding c) in
+    let alone = agreement laws.coverage request.lib request.cov c v.coverage.files are in
+    let featured = laws.features files folder before n v.schema read in (
+      λ none.
+          let apart = or-none_both (tables_or_features_finding folder v) topology none in
+          let first = or-none_both numbers (features_finding folder v.schema.tables) apart.0 in
+          let no_numbers : coverage_numbers c ≡ None = map_none (in_its_file v.coverage.files) (coverage_numbers c) first.0 in
+          let no_topology : topology_finding c ≡ None = map_none (in_its_file v.coverage.files) (topology_finding c) apart.1 in
+          let fine = alone.0 (rw (no_numbers, no_topology) refl) in
+          (fine.0, fine.1, featured.0 first.1),
+      λ agrees.
+          let none : coverage_finding c ≡ None = alone.1 (agrees.0, agrees.1) in
+          let apart : (coverage_numbers c ≡ None) × (topology_finding c ≡ None) = or-none_both (coverage_numbers c) (topology_finding c) none in
+          let no_features : features_finding folder v.schema.tables ≡ None = featured.1 agrees.2 in
+          rw (apart.0, no_features, apart.1) refl,
+    )
+
 -- ---- both ways
 
-agrees_so : ReadIsHeld → CoverageLaws → (files : Files) (request : CheckRequest) → HoldsBytes files → (read : Result LoadedCoverage LoadStop) (n : ℕ) → read_coverage files request.lib request.cov 0 ≡ (read, n) → (read_answer read).verdict ≡ Done → Agrees files request
-agrees_so held laws files request bytes (Ok c) n e h =
-    let holds = held files request.lib request.cov c n bytes e in
-    let fine = (agreement laws request.lib request.cov c.coverage c.files holds.are).0 (finding_refuses c.files c.coverage (coverage_finding c.coverage) h) in
-    (c, record { held = holds; columns = fine.0; rows = fine.1 })
-agrees_so held laws files request bytes (Err stop) n e h = absurd (stop_refuses stop h)
+-- what is read, and in which nothing is found, agrees
+pub agreeing_read : ReadLaws → (files : Files) (request : CheckRequest) → HoldsBytes files → (v : FeaturedCoverage) (n : ℕ)
+    → read_featured files request.lib request.cov 0 ≡ (Ok v, n) → read_finding request v ≡ None → IsAgreeing files request v
+unfolding Agreed
+agreeing_read laws files request bytes v n e none =
+    let parts = parts_read files request v n e in
+    let holds = laws.read files request.lib request.cov v.coverage parts.middle bytes parts.coverage in
+    let again = laws.held files request.lib request.cov v.coverage holds in
+    let count : parts.middle ≡ bytes_in v.coverage.files = count_same v.coverage v.coverage parts.middle (bytes_in v.coverage.files) (sym parts.coverage ∙ again) in
+    let featured = subst (λ (m : ℕ). read_schema files (within request.lib request.cov) m ≡ came v.schema n) count parts.schema in
+    let fine = (featured_agreement laws files request v parts.middle n holds.are parts.schema).0 none in
+    record { held = holds; columns = fine.0; rows = fine.1; behind = n; featured = featured; features = fine.2 }
 
-pub check_counts : HeldIsRead → CoverageLaws → CheckCounts
-check_counts reads laws files request c agrees =
-    let read = reads files request.lib request.cov c agrees.held in
-    let none : coverage_finding c.coverage ≡ None = (agreement laws request.lib request.cov c.coverage c.files agrees.held.are).1 (agrees.columns, agrees.rows) in
-    ap (λ (r : Result LoadedCoverage LoadStop × ℕ). read_answer r.0) read ∙ ap (found_answer c.files c.coverage) none
+-- what agrees is read
+pub agreeing_is_read : HeldIsRead → AgreeingIsRead
+agreeing_is_read held files request v agrees = rw (held files request.lib request.cov v.coverage agrees.held, agrees.featured) refl
 
-pub check_decides : HeldIsRead → ReadIsHeld → CoverageLaws → CheckDecides
-check_decides reads held laws files request bytes = (
-  λ h. agrees_so held laws files request bytes (read_coverage files request.lib request.cov 0).0 (read_coverage files request.lib request.cov 0).1 refl h,
-  λ agrees. ap (λ (answer : Answer). answer.verdict) (check_counts reads laws files request agrees.0 agrees.1),
+-- and nothing is found in it
+pub agreeing_has_none : ReadLaws → (files : Files) (request : CheckRequest) (v : FeaturedCoverage) → IsAgreeing files request v → read_finding request v ≡ None
+unfolding Agreed
+agreeing_has_none laws files request v agrees =
+    (featured_agreement laws files request v (bytes_in v.coverage.files) agrees.behind agrees.held.are agrees.featured).1 (agrees.columns, agrees.rows, agrees.features)
+
+agrees_so : ReadLaws → (files : Files) (request : CheckRequest) → HoldsBytes files → (read : Result FeaturedCoverage LoadStop) (n : ℕ)
+    → read_featured files request.lib request.cov 0 ≡ (read, n) → (read_answer request read).verdict ≡ Done → Agrees files request
+agrees_so laws files request bytes (Ok v) n e h =
+    (v, agreeing_read laws files request bytes v n e (finding_refuses v.coverage.coverage (read_finding request v) h))
+agrees_so laws files request bytes (Err stop) n e h = absurd (stop_refuses stop h)
+
+pub check_counts : ReadLaws → CheckCounts
+check_counts laws files request v agrees =
+    ap (λ (r : Read FeaturedCoverage). read_answer request r.0) (agreeing_is_read laws.held files request v agrees)
+    ∙ ap (found_answer v.coverage.coverage) (agreeing_has_none laws files request v agrees)
+
+pub check_decides : ReadLaws → CheckDecides
+check_decides laws files request bytes = (
+  λ h. agrees_so laws files request bytes (read_featured files request.lib request.cov 0).0 (read_featured files request.lib request.cov 0).1 refl h,
+  λ agrees. ap (λ (answer : Answer). answer.verdict) (check_counts laws files request agrees.0 agrees.1),
 )

@@ -1,12 +1,8 @@
 -- The answer of `glue` by what was read.
-use Rattle.std.proofs.Common.{◌≡◌, ◌∙◌, ℕ, Bool, true, false, cond, List, [], ◌∷◌, ◌++◌, Option, None, Some, map, refl, sym, ap, subst, inl, inr}
-use Rattle.std.specs.Prelude.{IfOk, Result, Ok, Err, is_some, length}
-use Rattle.std.specs.Option.{option_map}
-use Rattle.std.specs.List.{list_any}
-use Rattle.vpf_base.specs.Results.{Told}
+use Rattle.std.proofs.Common.{◌≡◌, ◌∙◌, ℕ, Bool, true, false, cond, List, ◌++◌, Option, None, Some, refl, sym, ap, subst, inl, inr}
+use Rattle.std.specs.Prelude.{Ok, Err, is_some, length}
 use Rattle.vpf_source.specs.Files.{Files}
 use Rattle.vpf_source.specs.declared.file.File.{File}
-use Rattle.vpf_findings.specs.Findings.{Disagreement}
 use Rattle.vpf_table.specs.Grid.{Grid}
 use Rattle.vpf_table.specs.Opening.{opened_of}
 use Rattle.vpf_table.specs.Reading.{table_of}
@@ -14,20 +10,22 @@ use Rattle.vpf_table.specs.Spans.{IsOpened}
 use Rattle.vpf_prims.specs.Coverages.{CoverageTables}
 use Rattle.vpf_tileref.specs.Stops.{path_texts}
 use Rattle.vpf_loading.specs.Holding.{AreCoverageFiles, AreFilesOf, AreTiledFiles, AreTilesFiles}
-use Rattle.vpf_loading.specs.Loading.{LoadedCoverage, Read, ◌and_then◌, has_some, loaded_in, read_coverage}
+use Rattle.vpf_loading.specs.Loading.{LoadedCoverage, Read, ◌and_then◌, has_some, read_coverage}
 use Rattle.vpf_loading.specs.Loading.{read_tiled, read_tileref, read_tiles, tileref_name, within}
 use Rattle.vpf_loading.specs.declared.loading.LoadStop.{LoadStop}
-use Rattle.vpf_table_files.specs.declared.errors.AddError.{AddError}
-use Rattle.vpf_table_files.specs.declared.errors.AddError.TheVariants as errors
-use Rattle.vpf_table_files.specs.Adding.{error_seen}
 use Rattle.vpf_glue.specs.Tables.{glued_made}
 use Rattle.vpf_replies.specs.Answer.{Answer}
-use Rattle.vpf_replies.specs.Making.{made_answer}
+use Rattle.vpf_features.specs.Finding.{Named}
+use Rattle.vpf_feature_files.specs.Reading.{read_schema}
+use Rattle.vpf_feature_files.specs.Schemas.{Schema}
+use Rattle.vpf_feature_agreement.specs.Steps.{both_ok, came, value_same}
+use Rattle.vpf_feature_writing.specs.Making.{features_made, made_then}
+use Rattle.vpf_featured.specs.Finding.{featured_finding}
+use Rattle.vpf_featured.specs.Reading.{FeaturedCoverage, read_featured}
 use Rattle.vpf_library_commands.specs.declared.requesting.MakeRequest.{MakeRequest}
-use Rattle.vpf_library_commands.specs.Glue.{IsUngluedAnswer, first_table, glued_answer, gluing_answer, joined_answer, own_edges, tileref_answer}
-use Rattle.vpf_library_commands.specs.Tile.{file_within}
-use Rattle.vpf_library_commands.specs.Check.{coverage_finding}
-use Rattle.vpf_library_commands.proofs.CheckAnswers.{IsStopped, loaded_of}
+use Rattle.vpf_library_commands.specs.Glue.{first_table, gluing_answer, joined_answer, own_edges, tileref_answer}
+use Rattle.vpf_library_commands.specs.Made.{files_answer}
+use Rattle.vpf_library_commands.proofs.CheckAnswers.{IsReadStopped}
 
 -- ---- the table of tiles
 
@@ -81,11 +79,11 @@ moved_tiled lib other cov name c files are e f =
       refl,
     )
 
--- gluing comes to the same of the same names and tables
-pub glued_same : (cov name : List ℕ) (c there : CoverageTables) (tileref other : Grid) → cov ≡ name → c ≡ there → tileref ≡ other
-    → glued_made cov c tileref ≡ glued_made name there other
-glued_same cov name c there tileref other e f h =
-    ap (λ (x : List ℕ). glued_made x c tileref) e ∙ (ap (λ (x : CoverageTables). glued_made name x tileref) f ∙ ap (λ (x : Grid). glued_made name there x) h)
+-- the answer is that to the same of the same names and tables
+pub answer_same : (out folder cov name : List ℕ) (c there : CoverageTables) (tileref other : Grid) (S : Schema) (answer : Answer) → out ≡ folder → cov ≡ name
+    → c ≡ there → tileref ≡ other → answer ≡ files_answer out (made_then (glued_made cov c tileref) (features_made cov S))
+    → answer ≡ files_answer folder (made_then (glued_made name there other) (features_made name S))
+answer_same out folder cov name c there tileref other S answer e f g h is = rw (e, f, g, h) at is
 
 -- ---- a coverage without edges of its own is tiled
 
@@ -125,39 +123,34 @@ read_is_tiled files lib cov c none e =
     value_tiled (read_tiled files lib cov 0) c (tiled_read files lib cov 0)
     (sym (ap (λ (r : Read LoadedCoverage). r.0) (no_edges files lib cov (files (own_edges lib cov)) refl none)) ∙ e)
 
--- ---- the files, or the limit that one passes
+-- .. also with its features
+abbrev with_schema : LoadedCoverage → Schema → ℕ → Read FeaturedCoverage
+with_schema c schema n = came {V = FeaturedCoverage} (record { coverage = c; schema = schema }) n
 
-fails_so : (out : List ℕ) (ought : Result (List File) AddError) (error : AddError) (answer : Answer) → ought ≡ Err error → answer ≡ glued_answer out (Err error)
-    → answer ≡ glued_answer out ought
-fails_so out ought error answer e is = rw e is
-
--- why tiles aren't glued is what gluing comes to
-pub unglued_so : (out : List ℕ) (ought : Result (List File) AddError) (error : AddError) (answer : Answer) → Told (error_seen error) ought
-    → IsUngluedAnswer out error answer → answer ≡ glued_answer out ought
-unglued_so out ought errors.NoMemory answer told is = absurd is
-unglued_so out ought (errors.Limit name limit) answer told is = fails_so out ought (errors.Limit name limit) answer told is
-
--- the files are
-pub glued_so : (out : List ℕ) (ought : Result (List File) AddError) (files : List File) (answer : Answer) → ought ≡ Ok files
-    → answer ≡ made_answer (map (file_within out) files) → answer ≡ glued_answer out ought
-glued_so out ought files answer e is = is ∙ sym (ap (glued_answer out) e)
+pub featured_is_tiled : (files : Files) (lib cov : List ℕ) (read : FeaturedCoverage) (n : ℕ) → is_some (files (own_edges lib cov)) ≡ false
+    → read_featured files lib cov 0 ≡ (Ok read, n) → read.coverage.coverage.is_tiled ≡ true
+featured_is_tiled files lib cov read n none e =
+    let first = both_ok (read_coverage files lib cov 0) (λ c m. read_schema files (within lib cov) m and_then with_schema c) read n e in
+    let second = both_ok (read_schema files (within lib cov) first.count) (with_schema first.value) read n first.then in
+    let featured : FeaturedCoverage = record { coverage = first.value; schema = second.value } in
+    let same : featured ≡ read = value_same featured read second.count n second.then in
+    let loaded : (read_coverage files lib cov 0).0 ≡ Ok first.value = ap (λ (r : Read LoadedCoverage). r.0) first.comes in
+    subst (λ (r : FeaturedCoverage). r.coverage.coverage.is_tiled ≡ true) same (read_is_tiled files lib cov first.value none loaded)
 
 -- ---- findings
 
 -- where nothing is found, the tables are glued
-pub none_answers : (request : MakeRequest) (c : LoadedCoverage) (tileref : Grid) (first : Option Disagreement) (answer : Answer) → first ≡ None
-    → first_table c.files ≡ Some tileref → answer ≡ tileref_answer request c (Some tileref) → answer ≡ gluing_answer request c first
-none_answers request c tileref first answer none table is = rw (none, table) is
+pub none_answers : (request : MakeRequest) (read : FeaturedCoverage) (tileref : Grid) (first : Option Named) (answer : Answer) → first ≡ None
+    → first_table read.coverage.files ≡ Some tileref → answer ≡ tileref_answer request read (Some tileref) → answer ≡ gluing_answer request read first
+none_answers request read tileref first answer none table is = rw (none, table) is
 
 -- ---- a stop
 
 -- `glue` answers a stop so
-pub glue_stopped : (request : MakeRequest) → IsStopped (λ read answer. answer ≡ joined_answer request read)
+pub glue_stopped : (request : MakeRequest) → IsReadStopped (λ read answer. answer ≡ joined_answer request read)
 glue_stopped request = record { at = λ stop answer is. is }
 
--- what is answered over the coverage of the files that were loaded is the answer
-pub joined_loaded : (request : MakeRequest) (read : Result LoadedCoverage LoadStop) (files : List File) (answer : Answer) → loaded_in read ≡ Ok files
-    → ((c : LoadedCoverage) → read ≡ Ok c → c.files ≡ files → answer ≡ gluing_answer request c (coverage_finding c.coverage))
-    → answer ≡ joined_answer request read
-joined_loaded request (Ok c) files answer h is = is c refl (ap loaded_of h)
-joined_loaded request (Err stop) files answer h is = absurd cc
+-- the answer over what was read
+pub glue_read : (request : MakeRequest) (read : Read FeaturedCoverage) (v : FeaturedCoverage) (n : ℕ) (answer : Answer) → read ≡ (Ok v, n)
+    → answer ≡ gluing_answer request v (featured_finding (within request.lib request.cov) v) → answer ≡ joined_answer request read.0
+glue_read request read v n answer e is = rw e is

@@ -1,10 +1,17 @@
 -- The answer of `tile` by what was read.
-use Rattle.std.proofs.Common.{◌≡◌, ◌∙◌, ℕ, ◌<◌, ◌≤◌, List, [], ◌∷◌, ◌++◌, length, Option, None, Some, map, refl, sym, ap, append_assoc, rules, arith}
+use Rattle.std.proofs.Common.{◌≡◌, ◌∙◌, ℕ, ◌<◌, ◌≤◌, List, [], ◌∷◌, ◌++◌, length, Option, None, Some, map, refl, ap, append_assoc, rules, arith}
 use Rattle.std.specs.Prelude.{IfOk, OnOk, Result, Ok, Err}
-use Rattle.vpf_base.specs.Results.{Told}
 use Rattle.vpf_source.specs.declared.file.File.{File}
 use Rattle.vpf_table.specs.Grid.{Grid}
+use Rattle.vpf_table.specs.declared.limit.Limit.{Limit as Passed}
+use Rattle.vpf_tileable.specs.declared.refusals.Refusal.{Refusal}
+use Rattle.vpf_table_files.specs.declared.errors.AddError.TheVariants as adds
+use Rattle.vpf_feature_files.specs.Schemas.{Schema, joins_of}
+use Rattle.vpf_features.specs.Finding.{Named}
+use Rattle.vpf_feature_writing.specs.Making.{Made, features_made, made_then}
 use Rattle.vpf_findings.specs.Findings.{Disagreement}
+use Rattle.vpf_findings.specs.Firsts.{◌or◌}
+use Rattle.vpf_findings.specs.Printing.{disagree_text}
 use Rattle.vpf_prims.specs.Coverages.{CoverageTables, tile_at}
 use Rattle.vpf_prims.specs.Reading.{PrimitiveTables}
 use Rattle.vpf_prims.specs.Tables.{TileTables}
@@ -12,22 +19,21 @@ use Rattle.vpf_text.specs.Texts.{◌&◌}
 use Rattle.vpf_loading.specs.Holding.{AreUntiledFiles}
 use Rattle.vpf_tiler.specs.declared.errors.TileError.{TileError}
 use Rattle.vpf_tiler.specs.declared.errors.TileError.TheVariants as errors
-use Rattle.vpf_tiler.specs.Making.{tile_error_seen}
 use Rattle.vpf_tiler.specs.Making.{tiled}
-use Rattle.vpf_replies.specs.Making.{made_answer}
 use Rattle.vpf_loading.specs.Loading.{Read}
 use Rattle.vpf_loading.specs.Loads.{ReadsStop}
 use Rattle.vpf_loading.specs.declared.loading.LoadStop.{LoadStop}
 use Rattle.vpf_loading.specs.declared.loading.LoadStop.TheVariants as stops
 use Rattle.vpf_replies.specs.declared.halting.Halt.{Halt}
 use Rattle.vpf_replies.specs.declared.halting.Halt.TheVariants as halts
-use Rattle.vpf_replies.specs.Answer.{Answer}
+use Rattle.vpf_replies.specs.Answer.{Answer, refused}
 use Rattle.vpf_replies.specs.Halting.{ComesTo}
 use Rattle.vpf_load_replies.specs.Stopping.{IsStopAnswer, stop_answer}
 use Rattle.vpf_library_commands.specs.declared.requesting.MakeRequest.{MakeRequest}
-use Rattle.vpf_library_commands.specs.Check.{coverage_finding}
 use Rattle.vpf_library_commands.specs.Make.{make_request}
-use Rattle.vpf_library_commands.specs.Tile.{IsUntiledAnswer, TileParts, file_within, parts_answer, tables_answer, tiled_answer, tiling_answer}
+use Rattle.vpf_library_commands.specs.Keys.{keyed_text, numbered_class}
+use Rattle.vpf_library_commands.specs.Made.{files_answer}
+use Rattle.vpf_library_commands.specs.Tile.{TileParts, cut_answer, parts_answer, parts_finding, tables_answer, tiled_answer, tiling_answer, untiled_text}
 
 -- ---- the request
 
@@ -83,17 +89,6 @@ tile_stopped request read stop n (Err (halts.Stop cause)) told is = is
 
 -- ---- the files, or why there are none
 
--- why a coverage isn't tiled is what tiling comes to
-fails_so : (out : List ℕ) (ought : Result (List File) TileError) (error : TileError) (answer : Answer) → ought ≡ Err error → answer ≡ tiled_answer out (Err error)
-    → answer ≡ tiled_answer out ought
-fails_so out ought error answer e is = rw e is
-
-fails : (out : List ℕ) (ought : Result (List File) TileError) (error : TileError) (answer : Answer) → Told (tile_error_seen error) ought → IsUntiledAnswer out error answer
-    → answer ≡ tiled_answer out ought
-fails out ought errors.NoMemory answer told is = absurd is
-fails out ought (errors.Refused refusal) answer told is = fails_so out ought (errors.Refused refusal) answer told is
-fails out ought (errors.Limit name limit) answer told is = fails_so out ought (errors.Limit name limit) answer told is
-
 -- the tables of an untiled coverage
 pub untiled_tables : (lib cov : List ℕ) (c : CoverageTables) (files : List File) → AreUntiledFiles lib cov c files → (T : TileTables) × (tile_at c 0 ≡ Some T)
 untiled_tables lib cov c files are = (record { first = 0; tables = are.tables }, ap (λ (x : CoverageTables). tile_at x 0) are.is)
@@ -105,30 +100,52 @@ tiled_same T cov cov' plan plan' tileref tileref' e f h =
     ap (λ (x : List ℕ). tiled x T plan tileref) e ∙ (ap (λ (x : Grid). tiled cov' T x tileref) f ∙ ap (λ (x : Grid). tiled cov' T plan' x) h)
 
 -- the answer over the tables
-over_tables : (request : MakeRequest) (c : CoverageTables) (plan tileref : Grid) (T : TileTables) → tile_at c 0 ≡ Some T
-    → tables_answer request (tile_at c 0) plan tileref ≡ tiled_answer request.out (tiled request.cov T.tables plan tileref)
-over_tables request c plan tileref T e = rw e refl
+pub over_tables : (request : MakeRequest) (S : Schema) (c : CoverageTables) (plan tileref : Grid) (T : TileTables) (answer : Answer) → tile_at c 0 ≡ Some T
+    → answer ≡ tiled_answer request S (tiled request.cov T.tables plan tileref) → answer ≡ tables_answer request S (tile_at c 0) plan tileref
+over_tables request S c plan tileref T answer e is = rw e is
 
-pub tiled_so : (request : MakeRequest) (c : CoverageTables) (plan tileref : Grid) (T : TileTables) (files : List File) (answer : Answer) → tile_at c 0 ≡ Some T
-    → tiled request.cov T.tables plan tileref ≡ Ok files → answer ≡ made_answer (map (file_within request.out) files)
-    → answer ≡ tables_answer request (tile_at c 0) plan tileref
-tiled_so request c plan tileref T files answer e made is =
-    is ∙ sym (over_tables request c plan tileref T e ∙ ap (tiled_answer request.out) made)
+-- ---- features that are joined by numbers
 
-pub untiled_so : (request : MakeRequest) (c : CoverageTables) (plan tileref : Grid) (T : TileTables) (error : TileError) (answer : Answer) → tile_at c 0 ≡ Some T
-    → Told (tile_error_seen error) (tiled request.cov T.tables plan tileref) → IsUntiledAnswer request.out error answer
-    → answer ≡ tables_answer request (tile_at c 0) plan tileref
-untiled_so request c plan tileref T error answer e told is =
-    fails request.out (tiled request.cov T.tables plan tileref) error answer told is ∙ sym (over_tables request c plan tileref T e)
+pub keyed_so : (request : MakeRequest) (S : Schema) (class : List ℕ) (tables : Made) (answer : Answer) → Some class ≡ numbered_class (joins_of S.fcs)
+    → answer ≡ refused (keyed_text class) → answer ≡ cut_answer request S tables
+keyed_so request S class tables answer e is = rw (← e) is
+
+pub unkeyed_so : (request : MakeRequest) (S : Schema) (tables : Made) (answer : Answer) → None ≡ numbered_class (joins_of S.fcs)
+    → answer ≡ files_answer request.out (made_then tables (features_made request.cov S)) → answer ≡ cut_answer request S tables
+unkeyed_so request S tables answer e is = rw (← e) is
+
+-- ---- what tiling comes to
+
+pub refused_so : (request : MakeRequest) (S : Schema) (ought : Result (List File) TileError) (refusal : Refusal) (answer : Answer) → ought ≡ Err (errors.Refused refusal)
+    → answer ≡ refused (untiled_text refusal) → answer ≡ tiled_answer request S ought
+refused_so request S ought refusal answer e is = rw e is
+
+pub limited_so : (request : MakeRequest) (S : Schema) (ought : Result (List File) TileError) (name : List ℕ) (limit : Passed) (answer : Answer)
+    → ought ≡ Err (errors.Limit name limit) → answer ≡ cut_answer request S (Err (adds.Limit name limit)) → answer ≡ tiled_answer request S ought
+limited_so request S ought name limit answer e is = rw e is
+
+pub files_so : (request : MakeRequest) (S : Schema) (ought : Result (List File) TileError) (files : List File) (answer : Answer) → ought ≡ Ok files
+    → answer ≡ cut_answer request S (Ok files) → answer ≡ tiled_answer request S ought
+files_so request S ought files answer e is = rw e is
 
 -- ---- a finding
 
 -- where nothing is found, the tables are tiled
-pub none_answers : (request : MakeRequest) (parts : TileParts) (first : Option Disagreement) (answer : Answer) → first ≡ None
-    → answer ≡ tables_answer request (tile_at parts.coverage.coverage 0) parts.plan.grid parts.tileref.grid → answer ≡ tiling_answer request parts first
-none_answers request parts first answer e is = rw e is
+pub none_answers : (request : MakeRequest) (parts : TileParts) (S : Schema) (first : Option Named) (answer : Answer) → first ≡ None → S ≡ parts.schema
+    → answer ≡ tables_answer request S (tile_at parts.coverage.coverage 0) parts.plan.grid parts.tileref.grid → answer ≡ tiling_answer request parts first
+none_answers request parts S first answer e same is =
+    rw e (is ∙ ap (λ (x : Schema). tables_answer request x (tile_at parts.coverage.coverage 0) parts.plan.grid parts.tileref.grid) same)
+
+-- where something is found, that is told
+pub finding_answers : (request : MakeRequest) (parts : TileParts) (first : Option Named) (name shown : List ℕ) (d : Disagreement) (answer : Answer) → first ≡ Some (name, d)
+    → shown ≡ name → answer ≡ refused (disagree_text shown d) → answer ≡ tiling_answer request parts first
+finding_answers request parts first name shown d answer e same is = rw e (is ∙ ap (λ (n : List ℕ). refused (disagree_text n d)) same)
+
+-- what is found first is found
+pub first_of_both : (first later : Option Named) (name : List ℕ) (d : Disagreement) → first ≡ Some (name, d) → (first or later) ≡ Some (name, d)
+first_of_both first later name d e = rw e refl
 
 -- the answer over what was read
 pub read_answers : (request : MakeRequest) (read : Read TileParts) (parts : TileParts) (n : ℕ) (answer : Answer) → read ≡ (Ok parts, n)
-    → answer ≡ tiling_answer request parts (coverage_finding parts.coverage.coverage) → answer ≡ parts_answer request read.0
+    → answer ≡ tiling_answer request parts (parts_finding request parts) → answer ≡ parts_answer request read.0
 read_answers request read parts n answer e is = rw e is

@@ -1,25 +1,32 @@
--- That a coverage of a library agrees, by the grammar of its files and the field's words alone.
-use Rattle.std.specs.Prelude.{◌≡◌, ◌↔◌}
+-- That a coverage of a library agrees with its features, by the grammar of its files and the field's words alone.
+use Rattle.std.specs.Prelude.{◌≡◌, ◌↔◌, ℕ, List, None, Ok}
 use Rattle.vpf_source.specs.Files.{Files}
 use Rattle.vpf_prims.specs.Libraries.{library_of}
 use Rattle.vpf_numbers.specs.Matching.{HaveColumns}
-use Rattle.vpf_loading.specs.Loading.{LoadedCoverage}
-use Rattle.vpf_loading.specs.Holding.{HoldsBytes, HoldsCoverage}
+use Rattle.vpf_loading.specs.Loading.{LoadedCoverage, read_coverage, within}
+use Rattle.vpf_loading.specs.Holding.{HoldsBytes, HoldsCoverage, bytes_in}
+use Rattle.vpf_feature_files.specs.Reading.{read_schema}
+use Rattle.vpf_feature_agreement.specs.Agreeing.{FeaturesAgree}
+use Rattle.vpf_featured.specs.Reading.{FeaturedCoverage, read_featured}
 use Rattle.vpf_cross.specs.Agreeing.{LibraryAgrees}
 use Rattle.vpf_replies.specs.declared.verdict.Verdict.TheVariants.{Done}
 use Rattle.vpf_replies.specs.Answer.{done}
 use Rattle.vpf_library_commands.specs.declared.checking.CheckRequest.{CheckRequest}
-use Rattle.vpf_library_commands.specs.Check.{agrees_text, check_answer}
+use Rattle.vpf_library_commands.specs.Check.{agrees_text, check_answer, coverage_finding}
 
--- the tree holds the tables of the coverage, which have their columns, and whose rows agree in each tile and across the tiles
-pub record IsAgreeing (files : Files) (request : CheckRequest) (c : LoadedCoverage) : Type 0 where
-  pub held : HoldsCoverage files request.lib request.cov c
-  pub columns : HaveColumns c.coverage
-  pub rows : LibraryAgrees (library_of c.coverage)
+-- The tree holds the tables of the coverage, which have their columns, and whose rows agree in each tile and across the tiles; the features that are read
+-- behind them agree.
+pub record IsAgreeing (files : Files) (request : CheckRequest) (read : FeaturedCoverage) : Type 0 where
+  pub held : HoldsCoverage files request.lib request.cov read.coverage
+  pub columns : HaveColumns read.coverage.coverage
+  pub rows : LibraryAgrees (library_of read.coverage.coverage)
+  pub behind : ℕ
+  pub featured : read_schema files (within request.lib request.cov) (bytes_in read.coverage.files) ≡ (Ok read.schema, behind)
+  pub features : FeaturesAgree read.schema
 
 -- the coverage that is asked for agrees
 abbrev pub Agrees : Files → CheckRequest → Type 0
-Agrees files request = (c : LoadedCoverage) × IsAgreeing files request c
+Agrees files request = (read : FeaturedCoverage) × IsAgreeing files request read
 
 -- over files of bytes `check` is done exactly where the coverage agrees
 abbrev pub CheckDecides : Type 0
@@ -27,4 +34,15 @@ CheckDecides = (files : Files) (request : CheckRequest) → HoldsBytes files →
 
 -- and then it counts the primitives of its tiles
 abbrev pub CheckCounts : Type 0
-CheckCounts = (files : Files) (request : CheckRequest) (c : LoadedCoverage) → IsAgreeing files request c → check_answer files request ≡ done (agrees_text c.coverage)
+CheckCounts = (files : Files) (request : CheckRequest) (read : FeaturedCoverage) → IsAgreeing files request read
+    → check_answer files request ≡ done (agrees_text read.coverage.coverage)
+
+-- what agrees is what is read
+abbrev pub AgreeingIsRead : Type 0
+AgreeingIsRead = (files : Files) (request : CheckRequest) (read : FeaturedCoverage) (agrees : IsAgreeing files request read)
+    → read_featured files request.lib request.cov 0 ≡ (Ok read, agrees.behind)
+
+-- of a coverage that is read from files of bytes, features apart, nothing is found exactly where its columns are right and its rows agree
+abbrev pub CoverageDecides : Type 0
+CoverageDecides = (files : Files) (lib cov : List ℕ) (c : LoadedCoverage) (loaded : ℕ) → HoldsBytes files → read_coverage files lib cov 0 ≡ (Ok c, loaded)
+    → (coverage_finding c.coverage ≡ None) ↔ (HaveColumns c.coverage × LibraryAgrees (library_of c.coverage))

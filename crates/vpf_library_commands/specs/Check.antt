@@ -2,7 +2,6 @@
 use Rattle.std.specs.Prelude.{ℕ, List, [], ◌∷◌, Option, None, Some, Result, Ok, Err, codes, if◌then◌else◌}
 use Rattle.std.specs.Fmt.{decimal}
 use Rattle.vpf_source.specs.Files.{Files}
-use Rattle.vpf_source.specs.declared.file.File.{File}
 use Rattle.vpf_names.specs.Naming.{coverage_name, file_name}
 use Rattle.vpf_findings.specs.Findings.{Disagreement}
 use Rattle.vpf_findings.specs.Firsts.{◌or◌}
@@ -10,12 +9,14 @@ use Rattle.vpf_findings.specs.Printing.{disagree_text}
 use Rattle.vpf_text.specs.Texts.{◌&◌}
 use Rattle.vpf_prims.specs.Coverages.{CoverageTables, last_tile}
 use Rattle.vpf_numbers.specs.TableLines.{coverage_numbers}
-use Rattle.vpf_loading.specs.Loading.{LoadedCoverage, read_coverage}
+use Rattle.vpf_loading.specs.Loading.{within}
 use Rattle.vpf_loading.specs.declared.loading.LoadStop.{LoadStop}
 use Rattle.vpf_cross.specs.CrossFinding.{topology_finding}
 use Rattle.vpf_replies.specs.Answer.{Answer, done, refused}
-use Rattle.vpf_load_replies.specs.Places.{place_name}
 use Rattle.vpf_load_replies.specs.Stopping.{stop_answer}
+use Rattle.vpf_features.specs.Finding.{Named}
+use Rattle.vpf_featured.specs.Finding.{featured_finding}
+use Rattle.vpf_featured.specs.Reading.{FeaturedCoverage, read_featured}
 use Rattle.vpf_library_commands.specs.declared.checking.CheckRequest.{CheckRequest}
 use Rattle.vpf_library_commands.specs.Counting.{all_edges, all_faces, all_nodes, all_entities}
 
@@ -47,16 +48,20 @@ agrees_text c =
     & codes " nodes " & decimal (all_nodes c)
     & codes " entities " & decimal (all_entities c) & codes "\n"
 
--- the answer over a coverage, whose files these are, by its first finding
-abbrev pub found_answer : List File → CoverageTables → Option Disagreement → Answer
-found_answer files c None = done (agrees_text c)
-found_answer files c (Some d) = refused (disagree_text (place_name files d.file) d)
+-- the answer over a coverage by the first finding on it and its features, in its file
+abbrev pub found_answer : CoverageTables → Option Named → Answer
+found_answer c None = done (agrees_text c)
+found_answer c (Some (name, d)) = refused (disagree_text name d)
+
+-- the first finding on what was read of the coverage that is asked for
+abbrev pub read_finding : CheckRequest → FeaturedCoverage → Option Named
+read_finding request read = featured_finding (within request.lib request.cov) read
 
 -- the answer to what was read
-abbrev pub read_answer : Result LoadedCoverage LoadStop → Answer
-read_answer (Ok c) = found_answer c.files c.coverage (coverage_finding c.coverage)
-read_answer (Err stop) = stop_answer stop
+abbrev pub read_answer : CheckRequest → Result FeaturedCoverage LoadStop → Answer
+read_answer request (Ok read) = found_answer read.coverage.coverage (read_finding request read)
+read_answer request (Err stop) = stop_answer stop
 
 -- the answer over the files of a tree
 abbrev pub check_answer : Files → CheckRequest → Answer
-check_answer files request = read_answer (read_coverage files request.lib request.cov 0).0
+check_answer files request = read_answer request (read_featured files request.lib request.cov 0).0

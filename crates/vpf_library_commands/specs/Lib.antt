@@ -7,3 +7,5 @@ pub mod Make
 pub mod Tile
 pub mod TileFiles
 pub mod Glue
+pub mod Made
+pub mod Keys

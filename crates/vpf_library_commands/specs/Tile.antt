@@ -1,12 +1,10 @@
 -- `tile`: the files of the tiled library of an untiled coverage.
-use Rattle.std.specs.Prelude.{◌≡◌, ℕ, List, [], map, codes, Option, Some, None, Result, Ok, Err}
+use Rattle.std.specs.Prelude.{ℕ, List, [], codes, Option, Some, None, Result, Ok, Err}
 use Rattle.std.specs.Fmt.{decimal, signed_decimal}
 use Rattle.vpf_source.specs.Files.{Files}
 use Rattle.vpf_source.specs.declared.file.File.{File}
-use Rattle.vpf_findings.specs.Findings.{Disagreement}
 use Rattle.vpf_findings.specs.Printing.{disagree_text}
 use Rattle.vpf_table.specs.Grid.{Grid}
-use Rattle.vpf_table.specs.Limits.{bound_text}
 use Rattle.vpf_text.specs.Texts.{◌&◌}
 use Rattle.vpf_prims.specs.Coverages.{tile_at}
 use Rattle.vpf_prims.specs.Tables.{TileTables}
@@ -16,34 +14,55 @@ use Rattle.vpf_plan.specs.PlanLoads.{read_plan}
 use Rattle.vpf_plan.specs.Untiled.{read_untiled}
 use Rattle.vpf_tileable.specs.declared.refusals.Refusal.{Refusal}
 use Rattle.vpf_tileable.specs.declared.refusals.Refusal.TheVariants as refusals
+use Rattle.vpf_table_files.specs.declared.errors.AddError.TheVariants as adds
+use Rattle.vpf_feature_files.specs.Reading.{read_schema}
+use Rattle.vpf_feature_files.specs.Schemas.{Schema, joins_of}
+use Rattle.vpf_features.specs.Finding.{Named}
+use Rattle.vpf_feature_writing.specs.Making.{Made, features_made, made_then}
+use Rattle.vpf_featured.specs.Finding.{featured_finding}
+use Rattle.vpf_featured.specs.Reading.{FeaturedCoverage}
 use Rattle.vpf_tiler.specs.declared.errors.TileError.{TileError}
 use Rattle.vpf_tiler.specs.declared.errors.TileError.TheVariants as errors
 use Rattle.vpf_tiler.specs.Making.{tiled}
-use Rattle.vpf_replies.specs.Answer.{Answer, limited, refused}
-use Rattle.vpf_replies.specs.Making.{made_answer}
-use Rattle.vpf_replies.specs.Texts.{limit_text}
-use Rattle.vpf_load_replies.specs.Places.{place_name}
+use Rattle.vpf_replies.specs.Answer.{Answer, refused}
 use Rattle.vpf_load_replies.specs.Stopping.{stop_answer}
 use Rattle.vpf_library_commands.specs.declared.requesting.MakeRequest.{MakeRequest}
-use Rattle.vpf_library_commands.specs.Check.{coverage_finding}
+use Rattle.vpf_library_commands.specs.Keys.{keyed_text, numbered_class}
+use Rattle.vpf_library_commands.specs.Made.{files_answer}
 
--- what is read: an untiled coverage, the table of tiles of its library, and its plan
+-- what is read: an untiled coverage, its features, the table of tiles of its library, and its plan
 pub record TileParts : Type 0 where
   pub coverage : LoadedCoverage
+  pub schema : Schema
   pub tileref : LoadedTable
   pub plan : LoadedTable
+
+-- the coverage with its features
+abbrev pub featured_in : TileParts → FeaturedCoverage
+featured_in parts = record { coverage = parts.coverage; schema = parts.schema }
 
 -- the name of the plan of a coverage
 abbrev pub plan_name : (lib cov : List ℕ) → List ℕ
 plan_name lib cov = within (within lib cov) (codes "plan")
 
--- their files, in reading order
+-- an untiled coverage and its features, in reading order
+abbrev pub read_untiled_featured : Files → (lib cov : List ℕ) → ℕ → Read FeaturedCoverage
+read_untiled_featured files lib cov loaded =
+    read_untiled files lib cov loaded and_then λ coverage n.
+    read_schema files (within lib cov) n and_then λ schema n.
+    (Ok (record { coverage = coverage; schema = schema }), n)
+
+-- the parts of a coverage with its features, a table of tiles and a plan
+abbrev pub parts_of : FeaturedCoverage → (tileref plan : LoadedTable) → TileParts
+parts_of read tileref plan = record { coverage = read.coverage; schema = read.schema; tileref = tileref; plan = plan }
+
+-- all files, in reading order
 abbrev pub read_parts : Files → (lib cov : List ℕ) → ℕ → Read TileParts
 read_parts files lib cov loaded =
-    read_untiled files lib cov loaded and_then λ coverage n.
+    read_untiled_featured files lib cov loaded and_then λ read n.
     read_tileref files lib n and_then λ tileref n.
     read_plan files (plan_name lib cov) n and_then λ plan n.
-    (Ok (record { coverage = coverage; tileref = tileref; plan = plan }), n)
+    (Ok (parts_of read tileref plan), n)
 
 -- why a coverage isn't tiled, as it is printed
 abbrev pub refusal_reason : Refusal → List ℕ
@@ -56,35 +75,39 @@ refusal_reason (refusals.EntityOutside n) = codes "entity-outside node " & decim
 abbrev pub untiled_text : Refusal → List ℕ
 untiled_text refusal = codes "refused " & refusal_reason refusal & codes "\n"
 
--- a file under its name in a folder
-abbrev pub file_within : List ℕ → File → File
-file_within folder file = record { name = within folder file.name; bytes = file.bytes }
+-- the answer to files that are made of tables, or the limit of one, where no features are joined by numbers; those of features come behind
+abbrev pub keyed_answer : MakeRequest → Schema → Option (List ℕ) → Made → Answer
+keyed_answer request S None tables = files_answer request.out (made_then tables (features_made request.cov S))
+keyed_answer request S (Some class) tables = refused (keyed_text class)
 
--- the answer to what tiling comes to: the files are made in this folder
-abbrev pub tiled_answer : List ℕ → Result (List File) TileError → Answer
-tiled_answer out (Ok files) = made_answer (map (file_within out) files)
-tiled_answer out (Err (errors.Refused refusal)) = refused (untiled_text refusal)
-tiled_answer out (Err (errors.Limit name limit)) = limited (limit_text (bound_text limit.what) (within out name) limit.found)
-tiled_answer out (Err errors.NoMemory) = refused []
+-- .. by whether they are
+abbrev pub cut_answer : MakeRequest → Schema → Made → Answer
+cut_answer request S tables = keyed_answer request S (numbered_class (joins_of S.fcs)) tables
 
--- this is the answer to why a coverage isn't tiled; nothing is the answer to want of memory
-abbrev pub IsUntiledAnswer : List ℕ → TileError → Answer → Type 0
-IsUntiledAnswer out errors.NoMemory answer = ⊥
-IsUntiledAnswer out error answer = answer ≡ tiled_answer out (Err error)
+-- the answer to what tiling comes to
+abbrev pub tiled_answer : MakeRequest → Schema → Result (List File) TileError → Answer
+tiled_answer request S (Ok files) = cut_answer request S (Ok files)
+tiled_answer request S (Err (errors.Refused refusal)) = refused (untiled_text refusal)
+tiled_answer request S (Err (errors.Limit name limit)) = cut_answer request S (Err (adds.Limit name limit))
+tiled_answer request S (Err errors.NoMemory) = refused []
 
 -- the answer over the tables of a coverage that agrees
-abbrev pub tables_answer : MakeRequest → Option TileTables → (plan tileref : Grid) → Answer
-tables_answer request None plan tileref = refused []
-tables_answer request (Some T) plan tileref = tiled_answer request.out (tiled request.cov T.tables plan tileref)
+abbrev pub tables_answer : MakeRequest → Schema → Option TileTables → (plan tileref : Grid) → Answer
+tables_answer request S None plan tileref = refused []
+tables_answer request S (Some T) plan tileref = tiled_answer request S (tiled request.cov T.tables plan tileref)
 
--- the answer over what was read, by the first finding on the coverage
-abbrev pub tiling_answer : MakeRequest → TileParts → Option Disagreement → Answer
-tiling_answer request parts None = tables_answer request (tile_at parts.coverage.coverage 0) parts.plan.grid parts.tileref.grid
-tiling_answer request parts (Some d) = refused (disagree_text (place_name parts.coverage.files d.file) d)
+-- the answer over what was read, by the first finding on the coverage and its features
+abbrev pub tiling_answer : MakeRequest → TileParts → Option Named → Answer
+tiling_answer request parts None = tables_answer request parts.schema (tile_at parts.coverage.coverage 0) parts.plan.grid parts.tileref.grid
+tiling_answer request parts (Some (name, d)) = refused (disagree_text name d)
+
+-- the first finding on what was read
+abbrev pub parts_finding : MakeRequest → TileParts → Option Named
+parts_finding request parts = featured_finding (within request.lib request.cov) (featured_in parts)
 
 -- the answer to what was read
 abbrev pub parts_answer : MakeRequest → Result TileParts LoadStop → Answer
-parts_answer request (Ok parts) = tiling_answer request parts (coverage_finding parts.coverage.coverage)
+parts_answer request (Ok parts) = tiling_answer request parts (parts_finding request parts)
 parts_answer request (Err stop) = stop_answer stop
 
 -- the answer over the files of a tree

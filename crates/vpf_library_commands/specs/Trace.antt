@@ -1,39 +1,37 @@
 -- `trace`: the boundary cycles of a coverage, past its lines between tiles.
 use Rattle.std.specs.Prelude.{◌≡◌, ◌↔◌, List, Option, None, Some, Result, Ok, Err}
 use Rattle.vpf_source.specs.Files.{Files}
-use Rattle.vpf_source.specs.declared.file.File.{File}
 use Rattle.vpf_darts.specs.declared.darts.TileDart.{TileDart}
 use Rattle.vpf_darts.specs.Listings.{numbers_of}
-use Rattle.vpf_findings.specs.Findings.{Disagreement}
 use Rattle.vpf_findings.specs.Printing.{disagree_text}
 use Rattle.vpf_prims.specs.Coverages.{CoverageTables}
 use Rattle.vpf_prims.specs.Libraries.{library_of}
 use Rattle.vpf_loading.specs.Holding.{HoldsBytes}
-use Rattle.vpf_loading.specs.Loading.{LoadedCoverage, read_coverage}
 use Rattle.vpf_loading.specs.declared.loading.LoadStop.{LoadStop}
 use Rattle.vpf_trace.specs.Tracing.{IsTrace}
 use Rattle.vpf_replies.specs.declared.verdict.Verdict.TheVariants.{Done}
 use Rattle.vpf_replies.specs.Answer.{Answer, done, refused}
 use Rattle.vpf_replies.specs.Listings.{listing_text}
-use Rattle.vpf_load_replies.specs.Places.{place_name}
 use Rattle.vpf_load_replies.specs.Stopping.{stop_answer}
+use Rattle.vpf_features.specs.Finding.{Named}
+use Rattle.vpf_featured.specs.Reading.{FeaturedCoverage, read_featured}
 use Rattle.vpf_library_commands.specs.declared.checking.CheckRequest.{CheckRequest}
 use Rattle.vpf_library_commands.specs.Agreeing.{Agrees, IsAgreeing}
-use Rattle.vpf_library_commands.specs.Check.{coverage_finding}
+use Rattle.vpf_library_commands.specs.Check.{read_finding}
 
--- the answer over a coverage, whose files these are, by its first finding: that, or else the listing of its boundary cycles past its lines
-abbrev pub IsTracedAnswer : List File → CoverageTables → Option Disagreement → Answer → Type 0
-IsTracedAnswer files c None answer = (cycles : List (List TileDart)) × IsTrace (library_of c) (numbers_of cycles) × (answer ≡ done (listing_text cycles))
-IsTracedAnswer files c (Some d) answer = answer ≡ refused (disagree_text (place_name files d.file) d)
+-- the answer over a coverage by the first finding on it and its features: that, or else the listing of its boundary cycles past its lines
+abbrev pub IsTracedAnswer : CoverageTables → Option Named → Answer → Type 0
+IsTracedAnswer c None answer = (cycles : List (List TileDart)) × IsTrace (library_of c) (numbers_of cycles) × (answer ≡ done (listing_text cycles))
+IsTracedAnswer c (Some (name, d)) answer = answer ≡ refused (disagree_text name d)
 
 -- the answer to what was read
-abbrev pub IsReadTrace : Result LoadedCoverage LoadStop → Answer → Type 0
-IsReadTrace (Ok c) answer = IsTracedAnswer c.files c.coverage (coverage_finding c.coverage) answer
-IsReadTrace (Err stop) answer = answer ≡ stop_answer stop
+abbrev pub IsReadTrace : CheckRequest → Result FeaturedCoverage LoadStop → Answer → Type 0
+IsReadTrace request (Ok read) answer = IsTracedAnswer read.coverage.coverage (read_finding request read) answer
+IsReadTrace request (Err stop) answer = answer ≡ stop_answer stop
 
 -- the answer over the files of a tree
 abbrev pub IsTraceAnswer : Files → CheckRequest → Answer → Type 0
-IsTraceAnswer files request answer = IsReadTrace (read_coverage files request.lib request.cov 0).0 answer
+IsTraceAnswer files request answer = IsReadTrace request (read_featured files request.lib request.cov 0).0 answer
 
 -- each request has an answer over files of bytes
 abbrev pub HasTraceAnswer : Type 0
@@ -49,5 +47,5 @@ TraceDecides = (files : Files) (request : CheckRequest) (answer : Answer) → Ho
 
 -- and then it lists the boundary cycles of the coverage past its lines
 abbrev pub TraceLists : Type 0
-TraceLists = (files : Files) (request : CheckRequest) (c : LoadedCoverage) (cycles : List (List TileDart)) → IsAgreeing files request c
-    → IsTrace (library_of c.coverage) (numbers_of cycles) → IsTraceAnswer files request (done (listing_text cycles))
+TraceLists = (files : Files) (request : CheckRequest) (read : FeaturedCoverage) (cycles : List (List TileDart)) → IsAgreeing files request read
+    → IsTrace (library_of read.coverage.coverage) (numbers_of cycles) → IsTraceAnswer files request (done (listing_text cycles))

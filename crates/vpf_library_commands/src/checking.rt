@@ -2,23 +2,21 @@
 
 ghost use Rattle.std.specs.Prelude.{◌≡◌, ◌++◌, IfOk, OnOk, map, string_bytes};
 ghost use Rattle.vpf_source.specs.Files.{Files};
-ghost use Rattle.vpf_findings.specs.Firsts.{Tells};
-ghost use Rattle.vpf_prims.specs.Coverages.{CoverageTables};
-ghost use Rattle.vpf_loading.specs.Holding.{AreCoverageFiles, AreOfCoverage};
 ghost use Rattle.vpf_replies.specs.Answer.{done};
 ghost use Rattle.vpf_replies.specs.Halting.{ComesTo, TellsFault};
-ghost use Rattle.vpf_library_commands.specs.Check.{agrees_text, check_answer, check_request, coverage_finding, found_answer, tiling_text};
+ghost use Rattle.vpf_featured.specs.Held.{AreFeaturedFiles, AreOfFeatured};
+ghost use Rattle.vpf_featured.specs.Reading.{FeaturedCoverage};
+ghost use Rattle.vpf_library_commands.specs.Check.{agrees_text, check_answer, check_request, found_answer, read_finding, tiling_text};
 
 use crate::totals::{Totals, totals_of};
 use std::alloc::{AllocError, Global};
-use vpf_coverage::{Coverage, open_coverage};
-use vpf_cross::check_coverage;
-use vpf_findings::FindError;
-use vpf_load_replies::{named, stopped};
-use vpf_loading::load_coverage;
+use vpf_coverage::Coverage;
+use vpf_featured::{FeaturedFiles, load_featured, open_agreeing};
+use vpf_features::FeatureFault;
+use vpf_load_replies::stopped;
 use vpf_names::{coverage_name, file_name};
 use vpf_replies::{Halt, Reply, Stop, Verdict, disagreement};
-use vpf_source::{File, Name, Tree};
+use vpf_source::{Name, Tree};
 
 /// A coverage of a library that is checked, by `check` and before `trace`.
 #[derive(Debug, Drop)]
@@ -45,22 +43,6 @@ impl CheckRequest {
         };
         Ok(Some(CheckRequest { lib, cov }))
     }
-}
-
-/// The coverage of files that were loaded, where nothing disagrees, or the first finding: rule by rule.
-fn agreeing<'a>(
-    alloc: Global,
-    files: &'a [File],
-    request: &CheckRequest,
-) -> Result<Coverage<'a>, FindError<'a>>
-    requires { AreOfCoverage request.now.lib request.now.cov files.now }
-    ensures first { (c : CoverageTables) → AreCoverageFiles request.now.lib request.now.cov c files.now → Tells result (coverage_finding c) }
-    ensures opened { (c : CoverageTables) → AreCoverageFiles request.now.lib request.now.cov c files.now
-        → IfOk result (λ coverage. coverage ≡ c) }
-{
-    let coverage = open_coverage(alloc, files, request.lib.as_str(), request.cov.as_str())?;
-    check_coverage(alloc, &coverage)?;
-    Ok(coverage)
 }
 
 /// Puts how a coverage is cut into tiles.
@@ -102,23 +84,26 @@ fn agreed(alloc: Global, coverage: &Coverage<'_>) -> Result<Reply, AllocError>
 }
 
 /// The reply over files that were loaded.
-fn checked(alloc: Global, files: &[File], request: &CheckRequest) -> Result<Reply, AllocError>
-    requires { AreOfCoverage request.now.lib request.now.cov files.now }
-    ensures { (c : CoverageTables) → AreCoverageFiles request.now.lib request.now.cov c files.now
-        → IfOk result (λ reply. reply ≡ found_answer files.now c (coverage_finding c)) }
+fn checked(
+    alloc: Global,
+    files: &FeaturedFiles,
+    request: &CheckRequest,
+) -> Result<Reply, AllocError>
+    requires { AreOfFeatured request.now.lib request.now.cov files.now }
+    ensures { (read : FeaturedCoverage) → AreFeaturedFiles request.now.lib request.now.cov files.now read
+        → IfOk result (λ reply. reply ≡ found_answer read.coverage.coverage (read_finding request.now read)) }
 {
-    match agreeing(alloc, files, request) {
-        Ok(coverage) => agreed(alloc, &coverage),
-        Err(FindError::Finding(finding)) => {
-            disagreement(alloc, named(files, finding.file), &finding)
-        }
-        Err(FindError::NoMemory) => Err(AllocError),
+    match open_agreeing(alloc, files, request.lib.as_str(), request.cov.as_str()) {
+        Ok(featured) => agreed(alloc, &featured.coverage),
+        Err(FeatureFault::Finding(name, finding)) => disagreement(alloc, name.as_str(), &finding),
+        Err(FeatureFault::NoMemory) => Err(AllocError),
     }
 }
 
 /// Does `check`: tells that a coverage agrees, with its numbers of primitives in all tiles, or the first place where it doesn't. Its files are
-/// read in order, each once; then the columns and numbers of its tables are looked at, tile by tile, and then its topology, rule by rule
-/// (MIL-STD-2407, 5.2.2, primitives and winged-edge topology, and 5.2.3, cross-tile topology).
+/// read in order, each once, and behind them those of its features; then the columns and numbers of its tables are looked at, tile by tile, then those of its
+/// feature tables, and their thematic indexes, and then its topology, rule by rule (MIL-STD-2407, 5.2.2, primitives and winged-edge topology, and 5.2.3,
+/// cross-tile topology and feature classes).
 pub fn check<T: Tree>(alloc: Global, request: &CheckRequest, tree: &mut T) -> Result<Reply, Halt>
     ensures told { (files : Files) → T.files tree.old ≡ Some files → ComesTo (λ answer. answer ≡ check_answer files request.now) result }
     ensures fault { TellsFault result (Halt.Stop Stop.TreeFault) (T.faults tree.old) (T.faults tree.new) }
@@ -126,7 +111,7 @@ pub fn check<T: Tree>(alloc: Global, request: &CheckRequest, tree: &mut T) -> Re
 {
     let mut loaded = 0;
     let (lib, cov) = (request.lib.as_str(), request.cov.as_str());
-    match load_coverage(alloc, tree, lib, cov, &mut loaded) {
+    match load_featured(alloc, tree, lib, cov, &mut loaded) {
         Ok(files) => Ok(checked(alloc, &files, request)?),
         Err(stop) => stopped(alloc, stop),
     }

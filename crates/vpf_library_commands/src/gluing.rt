@@ -3,28 +3,31 @@
 ghost use Rattle.std.specs.Prelude.{◌≡◌, IfErr, IfOk, Some, false, is_some, string_bytes, true};
 ghost use Rattle.vpf_source.specs.Files.{Files};
 ghost use Rattle.vpf_prims.specs.Coverages.{CoverageTables};
-ghost use Rattle.vpf_loading.specs.Holding.{AreCoverageFiles, AreOfCoverage, AreTiledFiles};
-ghost use Rattle.vpf_loading.specs.Loading.{LoadedCoverage, read_coverage};
+ghost use Rattle.vpf_loading.specs.Holding.{AreTiledFiles};
+ghost use Rattle.vpf_loading.specs.Loading.{within};
 ghost use Rattle.vpf_cross.specs.CrossFinding.{topology_finding};
 ghost use Rattle.vpf_glue.specs.Tables.{glued_made};
+ghost use Rattle.vpf_feature_writing.specs.Making.{features_made, made_then};
 ghost use Rattle.vpf_replies.specs.Halting.{ComesTo, TellsFault};
 ghost use Rattle.vpf_replies.specs.Refusals.{UntiledCoverage, refusal_answer};
-ghost use Rattle.vpf_library_commands.specs.Check.{coverage_finding};
-ghost use Rattle.vpf_library_commands.specs.Glue.{IsUngluedAnswer, glue_answer, glued_answer, gluing_answer, joined_answer, own_edges};
+ghost use Rattle.vpf_featured.specs.Finding.{featured_finding, placed_finding};
+ghost use Rattle.vpf_featured.specs.Held.{AreFeaturedFiles, AreOfFeatured};
+ghost use Rattle.vpf_featured.specs.Reading.{FeaturedCoverage, read_featured};
+ghost use Rattle.vpf_library_commands.specs.Glue.{glue_answer, gluing_answer, joined_answer, own_edges};
+ghost use Rattle.vpf_library_commands.specs.Made.{files_answer};
 
+use crate::making::{made_in, with_features};
 use crate::requesting::MakeRequest;
-use crate::tiling::all_within;
 use std::alloc::{AllocError, Global};
-use vpf_coverage::{Coverage, open_coverage};
-use vpf_cross::{Checked, check_coverage};
-use vpf_findings::FindError;
-use vpf_load_replies::{named, stopped};
-use vpf_loading::{load_coverage, within};
+use vpf_cross::Checked;
+use vpf_featured::{Featured, FeaturedFiles, check_topology, load_featured, open_featured};
+use vpf_features::{FeatureFault, Schema};
+use vpf_load_replies::stopped;
+use vpf_loading::within;
 use vpf_opening::open_tileref;
-use vpf_replies::{Halt, Refusal, Reply, Stop, disagreement, limit, makes, refuse};
+use vpf_replies::{Halt, Refusal, Reply, Stop, disagreement, refuse};
 use vpf_source::{File, Tree};
 use vpf_table::laws::{opened_is_read, spelled_is_opened};
-use vpf_table_files::AddError;
 
 /// The name of the edges in a coverage's own folder.
 fn own_edges(alloc: Global, lib: &str, cov: &str) -> Result<String, AllocError>
@@ -47,78 +50,64 @@ fn has_file<T: Tree>(tree: &mut T, name: &str) -> Result<bool, Halt>
     }
 }
 
-/// The reply where a file would pass a bound.
-fn unglued(alloc: Global, out: &str, error: AddError) -> Result<Reply, AllocError>
-    ensures { IfOk result (IsUngluedAnswer out.now error) }
-{
-    match error {
-        AddError::Limit(name, passed) => {
-            let name = within(alloc, out, name.as_str())?;
-            limit(alloc, passed.what, name.as_str(), passed.found)
-        }
-        AddError::NoMemory => Err(AllocError),
-    }
-}
-
-/// The reply over a coverage in tiles in which nothing disagrees.
+/// The reply over a coverage in tiles and its features in which nothing disagrees.
 fn glued(
     alloc: Global,
     files: &[File],
     request: &MakeRequest,
     checked: &Checked<'_, '_>,
+    schema: &Schema<'_>,
 ) -> Result<Reply, AllocError>
     requires files { (c : CoverageTables) × AreTiledFiles request.now.lib request.now.cov c files.now }
     requires tiled { checked.now.is_tiled ≡ true }
     ensures { (c : CoverageTables) (are : AreTiledFiles request.now.lib request.now.cov c files.now) → checked.now ≡ c
-        → IfOk result (λ reply. reply ≡ glued_answer request.now.out (glued_made request.now.cov c are.tileref)) }
+        → IfOk result (λ reply. reply ≡ files_answer request.now.out (made_then (glued_made request.now.cov c are.tileref)
+        (features_made request.now.cov schema.now))) }
 {
     let (lib, cov) = (request.lib.as_str(), request.cov.as_str());
-    let out = request.out.as_str();
     let tileref = open_tileref(alloc, files, lib, cov)?;
-    match vpf_glue::glue(alloc, checked, &tileref, cov) {
-        Ok(made) => makes(alloc, all_within(alloc, out, made)?),
-        Err(error) => unglued(alloc, out, error),
-    }
+    let tables = vpf_glue::glue(alloc, checked, &tileref, cov);
+    let made = with_features(alloc, cov, schema, tables);
+    made_in(alloc, request.out.as_str(), made)
 }
 
-/// The reply over a coverage in tiles whose columns and numbers are right.
+/// The reply over a coverage in tiles and its features in whose tables nothing disagrees.
 fn checked(
     alloc: Global,
     files: &[File],
     request: &MakeRequest,
-    coverage: &Coverage<'_>,
+    featured: &Featured<'_>,
 ) -> Result<Reply, AllocError>
     requires files { (c : CoverageTables) × AreTiledFiles request.now.lib request.now.cov c files.now }
-    requires tiled { coverage.now.is_tiled ≡ true }
-    ensures { (c : LoadedCoverage) → AreTiledFiles request.now.lib request.now.cov c.coverage files.now → c.files ≡ files.now → coverage.now ≡ c.coverage
-        → IfOk result (λ reply. reply ≡ gluing_answer request.now c (topology_finding c.coverage)) }
+    requires tiled { featured.now.coverage.is_tiled ≡ true }
+    ensures { (read : FeaturedCoverage) → AreTiledFiles request.now.lib request.now.cov read.coverage.coverage files.now → read.coverage.files ≡ files.now
+        → featured.now.coverage ≡ read.coverage.coverage → featured.now.schema ≡ read.schema
+        → IfOk result (λ reply. reply ≡ gluing_answer request.now read (placed_finding read.coverage.files (topology_finding read.coverage.coverage))) }
 {
     spelled_is_opened();
     opened_is_read();
-    match check_coverage(alloc, coverage) {
-        Ok(checked) => glued(alloc, files, request, &checked),
-        Err(FindError::Finding(finding)) => {
-            disagreement(alloc, named(files, finding.file), &finding)
-        }
-        Err(FindError::NoMemory) => Err(AllocError),
+    match check_topology(alloc, files, &featured.coverage) {
+        Ok(checked) => glued(alloc, files, request, &checked, &featured.schema),
+        Err(FeatureFault::Finding(name, finding)) => disagreement(alloc, name.as_str(), &finding),
+        Err(FeatureFault::NoMemory) => Err(AllocError),
     }
 }
 
 /// The reply over files that were loaded.
-fn read(alloc: Global, files: &[File], request: &MakeRequest) -> Result<Reply, AllocError>
-    requires { AreOfCoverage request.now.lib request.now.cov files.now }
-    ensures { (c : LoadedCoverage) → AreCoverageFiles request.now.lib request.now.cov c.coverage files.now → c.coverage.is_tiled ≡ true → c.files ≡ files.now
-        → IfOk result (λ reply. reply ≡ gluing_answer request.now c (coverage_finding c.coverage)) }
+fn read(alloc: Global, files: &FeaturedFiles, request: &MakeRequest) -> Result<Reply, AllocError>
+    requires { AreOfFeatured request.now.lib request.now.cov files.now }
+    ensures { (read : FeaturedCoverage) → AreFeaturedFiles request.now.lib request.now.cov files.now read → read.coverage.coverage.is_tiled ≡ true
+        → IfOk result (λ reply. reply ≡ gluing_answer request.now read (featured_finding (within request.now.lib request.now.cov) read)) }
 {
     let (lib, cov) = (request.lib.as_str(), request.cov.as_str());
-    match open_coverage(alloc, files, lib, cov) {
-        Ok(coverage) if coverage.is_tiled() => checked(alloc, files, request, &coverage),
+    match open_featured(alloc, files, lib, cov) {
+        Ok(featured) if featured.coverage.is_tiled() => {
+            checked(alloc, &files.coverage, request, &featured)
+        }
         // It was there when it was looked for.
         Ok(_) => untiled(alloc, request),
-        Err(FindError::Finding(finding)) => {
-            disagreement(alloc, named(files, finding.file), &finding)
-        }
-        Err(FindError::NoMemory) => Err(AllocError),
+        Err(FeatureFault::Finding(name, finding)) => disagreement(alloc, name.as_str(), &finding),
+        Err(FeatureFault::NoMemory) => Err(AllocError),
     }
 }
 
@@ -133,20 +122,20 @@ fn untiled(alloc: Global, request: &MakeRequest) -> Result<Reply, AllocError>
 /// The reply over a coverage that has no edges of its own.
 fn joined<T: Tree>(alloc: Global, request: &MakeRequest, tree: &mut T) -> Result<Reply, Halt>
     ensures told { (files : Files) → T.files tree.old ≡ Some files → is_some (files (own_edges request.now.lib request.now.cov)) ≡ false
-        → ComesTo (λ answer. answer ≡ joined_answer request.now (read_coverage files request.now.lib request.now.cov 0).0) result }
+        → ComesTo (λ answer. answer ≡ joined_answer request.now (read_featured files request.now.lib request.now.cov 0).0) result }
     ensures fault { TellsFault result (Halt.Stop Stop.TreeFault) (T.faults tree.old) (T.faults tree.new) }
     ensures files { T.files tree.new ≡ T.files tree.old }
 {
     let mut loaded = 0;
     let (lib, cov) = (request.lib.as_str(), request.cov.as_str());
-    match load_coverage(alloc, tree, lib, cov, &mut loaded) {
+    match load_featured(alloc, tree, lib, cov, &mut loaded) {
         Ok(files) => Ok(read(alloc, &files, request)?),
         Err(stop) => stopped(alloc, stop),
     }
 }
 
 /// Does `glue`: checks a tiled coverage as `check` does, and makes the files of the untiled coverage that its tiles are joined into, with the table of
-/// tiles and a plan that names the tile of each face, so that `tile` can cut it again; or tells why there is none: that it isn't tiled, the
+/// tiles and a plan that names the tile of each face, so that `tile` can cut it again, and behind them those of its features; or tells why there is none: that it isn't tiled, the
 /// first file that isn't taken, the first place that disagrees, or the first bound that a file would pass. All files are composed before the
 /// first is made (MIL-STD-2407, 5.2.3, tiled coverages and cross-tile topology).
 pub fn glue<T: Tree>(alloc: Global, request: &MakeRequest, tree: &mut T) -> Result<Reply, Halt>

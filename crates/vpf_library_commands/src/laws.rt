@@ -1,26 +1,31 @@
 //! Laws of the commands over libraries.
 
-ghost use Rattle.vpf_library_commands.specs.Agreeing.{CheckCounts, CheckDecides};
+ghost use Rattle.vpf_library_commands.specs.Agreeing.{AgreeingIsRead, CheckCounts, CheckDecides, CoverageDecides};
 ghost use Rattle.vpf_library_commands.specs.Trace.{HasTraceAnswer, OneTraceAnswer, TraceDecides, TraceLists};
 ghost use Rattle.vpf_library_commands.specs.Example.{ExampleIsFound, ExampleIsWellFormed};
 
 use vpf_cross::laws::{agreement_decides, like_tiles_are_whole};
+use vpf_feature_agreement::laws::features_decide;
 use vpf_loading::laws::{coverages_are_held, files_are_libraries};
 use vpf_numbers::laws::numbers_decide;
 use vpf_trace::laws::one_trace;
 use vpf_wing::laws::{cycles_decide, loops_decide};
 
-/// `check` is done exactly where the tree holds the coverage, its columns are right and its rows agree, in each tile and across the tiles;
-/// and then it counts the primitives of its tiles.
+/// `check` is done exactly where the tree holds the coverage, its columns are right and its rows agree, in each tile and across the tiles, and its features
+/// agree; and then it counts the primitives of its tiles. What agrees is what is read.
+/// Features apart, nothing is found exactly where columns are right and rows agree.
 pub fn check_decides_agreement()
     ensures decides { CheckDecides }
     ensures counts { CheckCounts }
+    ensures coverage { CoverageDecides }
+    ensures read { AgreeingIsRead }
 {
     coverages_are_held();
     files_are_libraries();
     numbers_decide();
     agreement_decides();
     like_tiles_are_whole();
+    features_decide();
 }
 
 /// `trace` has exactly one answer over files of bytes: it is done exactly where the coverage agrees, as `check` is, and then it lists the
@@ -36,6 +41,7 @@ pub fn trace_lists_cycles()
     numbers_decide();
     agreement_decides();
     like_tiles_are_whole();
+    features_decide();
     one_trace();
 }
 

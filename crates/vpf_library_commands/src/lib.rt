@@ -3,7 +3,9 @@
 
 mod checking;
 mod gluing;
+mod keying;
 pub mod laws;
+mod making;
 mod requesting;
 mod tiling;
 mod totals;

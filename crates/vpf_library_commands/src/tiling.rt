@@ -1,43 +1,52 @@
 //! `tile`: the files of the tiled library of an untiled coverage.
 
-ghost use Rattle.std.specs.Prelude.{◌≡◌, ◌≤◌, ◌++◌, ℕ, IfOk, IsErrOf, OnOk, Some, codes, false, map, string_bytes};
+ghost use Rattle.std.specs.Prelude.{◌≡◌, ◌≤◌, ◌++◌, ℕ, IfOk, IsErrOf, List, OnOk, Result, Some, codes, false, string_bytes};
 ghost use Rattle.std.specs.Fmt.{decimal, signed_decimal};
+ghost use Rattle.vpf_base.specs.Results.{Meets};
 ghost use Rattle.vpf_source.specs.Causes.{Rose, Stood};
 ghost use Rattle.vpf_source.specs.Files.{Files};
+ghost use Rattle.vpf_source.specs.declared.file.File.{File as FileOf};
 ghost use Rattle.vpf_text.specs.Texts.{◌&◌};
-ghost use Rattle.vpf_findings.specs.Firsts.{Tells};
-ghost use Rattle.vpf_prims.specs.Coverages.{CoverageTables, tile_at};
-ghost use Rattle.vpf_numbers.specs.TableLines.{coverage_numbers};
-ghost use Rattle.vpf_loading.specs.Holding.{AreUntiledFiles};
-ghost use Rattle.vpf_loading.specs.Loading.{most_loaded};
+ghost use Rattle.vpf_prims.specs.Coverages.{tile_at};
+ghost use Rattle.vpf_loading.specs.Loading.{most_loaded, within};
 ghost use Rattle.vpf_loading.specs.Loads.{ReadsAs};
 ghost use Rattle.vpf_cross.specs.CrossFinding.{topology_finding};
+ghost use Rattle.vpf_tiler.specs.declared.errors.TileError.{TileError};
+ghost use Rattle.vpf_tiler.specs.Making.{tile_error_seen};
+ghost use Rattle.vpf_table_files.specs.Adding.{error_seen};
+ghost use Rattle.vpf_features.specs.Finding.{TellsNamed};
+ghost use Rattle.vpf_feature_writing.specs.Making.{Made};
 ghost use Rattle.vpf_replies.specs.Answer.{refused};
 ghost use Rattle.vpf_replies.specs.Halting.{ComesTo, TellsFault};
-ghost use Rattle.vpf_library_commands.specs.Check.{coverage_finding};
-ghost use Rattle.vpf_library_commands.specs.Tile.{TileParts, plan_name, read_parts};
-ghost use Rattle.vpf_library_commands.specs.Tile.{IsUntiledAnswer, file_within, refusal_reason, untiled_text};
-ghost use Rattle.vpf_library_commands.specs.Tile.{tables_answer, tile_answer, tiling_answer};
-ghost use Rattle.vpf_library_commands.specs.TileFiles.{ArePartsFiles, ArePartsOf};
+ghost use Rattle.vpf_featured.specs.Finding.{placed_finding, tables_or_features_finding};
+ghost use Rattle.vpf_featured.specs.Reading.{FeaturedCoverage};
+ghost use Rattle.vpf_library_commands.specs.Tile.{TileParts, parts_finding, plan_name, read_parts, read_untiled_featured};
+ghost use Rattle.vpf_library_commands.specs.Tile.{cut_answer, refusal_reason, untiled_text};
+ghost use Rattle.vpf_library_commands.specs.Tile.{tables_answer, tile_answer, tiled_answer, tiling_answer};
+ghost use Rattle.vpf_library_commands.specs.TileFiles.{ArePartsFiles, ArePartsOf, AreOfUntiledFeatured, AreUntiledFeatured};
 
+use crate::keying::{keyed, numbered_class};
+use crate::making::{made_in, with_features};
 use crate::requesting::MakeRequest;
 use std::alloc::{AllocError, Global};
-use vpf_coverage::{Coverage, open_coverage};
-use vpf_cross::{Checked, check_coverage};
-use vpf_findings::FindError;
-use vpf_load_replies::{named, stopped};
+use vpf_cross::Checked;
+use vpf_feature_files::load_features;
+use vpf_featured::{Featured, FeaturedFiles, check_topology, open_featured};
+use vpf_features::{FeatureFault, Schema};
+use vpf_load_replies::stopped;
 use vpf_loading::{LoadStop, load_tileref, table_in, within};
 use vpf_plan::{load_plan, load_untiled, open_plan};
-use vpf_replies::{Halt, Reply, Stop, Verdict, disagreement, limit, makes};
-use vpf_source::{File, Name, Tree};
+use vpf_replies::{Halt, Reply, Stop, Verdict, disagreement};
+use vpf_source::{File, Tree};
+use vpf_table_files::AddError;
 use vpf_tileable::Refusal;
 use vpf_tiler::TileError;
 use vpf_tileref::laws::stops_decide;
 
-/// What is read: an untiled coverage, the table of tiles of its library, and its plan.
+/// What is read: an untiled coverage and its features, the table of tiles of its library, and its plan.
 #[derive(Drop)]
 struct TileFiles {
-    coverage: Vec<File>,
+    featured: FeaturedFiles,
     tileref: Vec<File>,
     plan: Vec<File>,
 }
@@ -50,7 +59,32 @@ fn plan_name(alloc: Global, lib: &str, cov: &str) -> Result<String, AllocError>
     within(alloc, folder.as_str(), "plan")
 }
 
-/// The files that are read, in reading order, each once.
+/// The files of an untiled coverage and of its features, in reading order, each once.
+fn load_untiled_featured<T: Tree>(
+    alloc: Global,
+    tree: &mut T,
+    lib: &str,
+    cov: &str,
+    loaded: &mut u64,
+) -> Result<FeaturedFiles, LoadStop>
+    requires { loaded.old ≤ most_loaded }
+    ensures told { (held : Files) → T.files tree.old ≡ Some held
+        → ReadsAs (λ files read. AreUntiledFeatured lib.now cov.now files read) result loaded.new (read_untiled_featured held lib.now cov.now loaded.old) }
+    ensures are { IfOk result (AreOfUntiledFeatured lib.now cov.now) }
+    ensures rising { loaded.old ≤ loaded.new }
+    ensures most { loaded.new ≤ most_loaded }
+    ensures fault { IsErrOf result LoadStop.Fault → Rose (T.faults tree.old) (T.faults tree.new) }
+    ensures stood { ¬ IsErrOf result LoadStop.Fault → Stood (T.faults tree.old) (T.faults tree.new) }
+    ensures later { T.faults tree.old ≤ T.faults tree.new }
+    ensures files { T.files tree.new ≡ T.files tree.old }
+{
+    let coverage = load_untiled(alloc, tree, lib, cov, loaded)?;
+    let folder = within(alloc, lib, cov)?;
+    let features = load_features(alloc, tree, folder.as_str(), loaded)?;
+    Ok(FeaturedFiles { coverage, features })
+}
+
+/// All files that are read, in reading order, each once.
 fn load_parts<T: Tree>(
     alloc: Global,
     tree: &mut T,
@@ -67,42 +101,16 @@ fn load_parts<T: Tree>(
     ensures later { T.faults tree.old ≤ T.faults tree.new }
     ensures files { T.files tree.new ≡ T.files tree.old }
 {
-    let coverage = load_untiled(alloc, tree, lib, cov, loaded)?;
+    let featured = load_untiled_featured(alloc, tree, lib, cov, loaded)?;
     let mut tileref = Vec::new(alloc);
     load_tileref(alloc, tree, lib, loaded, &mut tileref)?;
     let name = plan_name(alloc, lib, cov)?;
     let plan = load_plan(alloc, tree, name.as_str(), loaded)?;
     Ok(TileFiles {
-        coverage,
+        featured,
         tileref,
         plan,
     })
-}
-
-/// A file under its name in a folder.
-fn moved(alloc: Global, folder: &str, file: File) -> Result<File, AllocError>
-    ensures { IfOk result (λ moved. moved ≡ file_within folder.now file) }
-{
-    let name = Name::new(within(alloc, folder, file.name.as_str())?);
-    Ok(File {
-        name,
-        bytes: file.bytes,
-    })
-}
-
-/// The files under their names in a folder.
-pub(crate) fn all_within(
-    alloc: Global,
-    folder: &str,
-    files: Vec<File>,
-) -> Result<Vec<File>, AllocError>
-    ensures { IfOk result (λ all. all.items ≡ map (file_within folder.now) files.items) }
-{
-    let mut all = Vec::with_capacity(alloc, files.len())?;
-    for file in files {
-        all.push(moved(alloc, folder, file)?)?;
-    }
-    Ok(all)
 }
 
 /// Puts words and a number behind them.
@@ -152,103 +160,123 @@ fn refused(alloc: Global, refusal: Refusal) -> Result<Reply, AllocError>
     Ok(Reply::new(alloc, Verdict::Refused, text))
 }
 
-/// The reply where a coverage isn't tiled.
-fn untiled(alloc: Global, out: &str, error: TileError) -> Result<Reply, AllocError>
-    ensures { IfOk result (IsUntiledAnswer out.now error) }
+/// The reply to files that are made of tables, or to the first that would pass a bound, where no features are joined by numbers: those of the features come
+/// behind.
+fn cut(
+    alloc: Global,
+    request: &MakeRequest,
+    schema: &Schema<'_>,
+    tables: Result<Vec<File>, AddError>,
+) -> Result<Reply, AllocError>
+    ensures { (ought : Made) → Meets (λ v. v.items) error_seen tables ought → IfOk result (λ reply. reply ≡ cut_answer request.now schema.now ought) }
 {
-    match error {
-        TileError::Refused(refusal) => refused(alloc, refusal),
-        TileError::Limit(name, passed) => {
-            let name = within(alloc, out, name.as_str())?;
-            limit(alloc, passed.what, name.as_str(), passed.found)
+    if let Some(class) = numbered_class(alloc, schema)? {
+        return keyed(alloc, class);
+    }
+    let made = with_features(alloc, request.cov.as_str(), schema, tables);
+    made_in(alloc, request.out.as_str(), made)
+}
+
+/// The reply to what tiling comes to.
+fn tiled_so(
+    alloc: Global,
+    request: &MakeRequest,
+    schema: &Schema<'_>,
+    made: Result<Vec<File>, TileError>,
+) -> Result<Reply, AllocError>
+    ensures { (ought : Result (List FileOf) TileError) → Meets (λ v. v.items) tile_error_seen made ought
+        → IfOk result (λ reply. reply ≡ tiled_answer request.now schema.now ought) }
+{
+    match made {
+        Ok(files) => cut(alloc, request, schema, Ok(files)),
+        Err(TileError::Refused(refusal)) => refused(alloc, refusal),
+        Err(TileError::Limit(name, passed)) => {
+            cut(alloc, request, schema, Err(AddError::Limit(name, passed)))
         }
-        TileError::NoMemory => Err(AllocError),
+        Err(TileError::NoMemory) => Err(AllocError),
     }
 }
 
-/// The reply over a coverage in which nothing disagrees.
+/// The reply over a coverage and its features in which nothing disagrees.
 fn tiled(
     alloc: Global,
     files: &TileFiles,
     request: &MakeRequest,
     checked: &Checked<'_, '_>,
+    schema: &Schema<'_>,
 ) -> Result<Reply, AllocError>
     requires parts { ArePartsOf request.now.lib request.now.cov files.now }
     requires untiled { checked.now.is_tiled ≡ false }
     ensures { (parts : TileParts) → ArePartsFiles request.now.lib request.now.cov files.now parts → checked.now ≡ parts.coverage.coverage
-        → IfOk result (λ reply. reply ≡ tables_answer request.now (tile_at parts.coverage.coverage 0) parts.plan.grid parts.tileref.grid) }
+        → IfOk result (λ reply. reply ≡ tables_answer request.now schema.now (tile_at parts.coverage.coverage 0) parts.plan.grid parts.tileref.grid) }
 {
     stops_decide();
     let plan = open_plan(alloc, &files.plan)?;
     let tileref = table_in(alloc, &files.tileref)?;
-    let out = request.out.as_str();
-    match vpf_tiler::tile(alloc, checked, &plan, &tileref, request.cov.as_str()) {
-        Ok(made) => makes(alloc, all_within(alloc, out, made)?),
-        Err(error) => untiled(alloc, out, error),
-    }
+    let made = vpf_tiler::tile(alloc, checked, &plan, &tileref, request.cov.as_str());
+    tiled_so(alloc, request, schema, made)
 }
 
-/// The reply over a coverage whose columns and numbers are right.
+/// The reply over a coverage and its features in whose tables nothing disagrees.
 fn checked(
     alloc: Global,
     files: &TileFiles,
     request: &MakeRequest,
-    coverage: &Coverage<'_>,
+    featured: &Featured<'_>,
 ) -> Result<Reply, AllocError>
     requires parts { ArePartsOf request.now.lib request.now.cov files.now }
-    requires untiled { coverage.now.is_tiled ≡ false }
-    ensures { (parts : TileParts) → ArePartsFiles request.now.lib request.now.cov files.now parts → coverage.now ≡ parts.coverage.coverage
-        → IfOk result (λ reply. reply ≡ tiling_answer request.now parts (topology_finding parts.coverage.coverage)) }
+    requires untiled { featured.now.coverage.is_tiled ≡ false }
+    ensures { (parts : TileParts) → ArePartsFiles request.now.lib request.now.cov files.now parts → featured.now.coverage ≡ parts.coverage.coverage
+        → featured.now.schema ≡ parts.schema → IfOk result (λ reply. reply
+        ≡ tiling_answer request.now parts (placed_finding parts.coverage.files (topology_finding parts.coverage.coverage))) }
 {
-    match check_coverage(alloc, coverage) {
-        Ok(checked) => tiled(alloc, files, request, &checked),
-        Err(FindError::Finding(finding)) => {
-            disagreement(alloc, named(&files.coverage, finding.file), &finding)
-        }
-        Err(FindError::NoMemory) => Err(AllocError),
+    match check_topology(alloc, &files.featured.coverage, &featured.coverage) {
+        Ok(checked) => tiled(alloc, files, request, &checked, &featured.schema),
+        Err(FeatureFault::Finding(name, finding)) => disagreement(alloc, name.as_str(), &finding),
+        Err(FeatureFault::NoMemory) => Err(AllocError),
     }
 }
 
-/// The untiled coverage of files that were loaded, or the first finding on its columns and numbers.
+/// The untiled coverage and the features of files that were loaded, in whose tables nothing disagrees.
 fn opened<'a>(
     alloc: Global,
-    files: &'a [File],
+    files: &'a FeaturedFiles,
     request: &MakeRequest,
-) -> Result<Coverage<'a>, FindError<'a>>
-    requires { (c : CoverageTables) × AreUntiledFiles request.now.lib request.now.cov c files.now }
-    ensures first { (c : CoverageTables) → AreUntiledFiles request.now.lib request.now.cov c files.now → Tells result (coverage_numbers c) }
-    ensures opened { (c : CoverageTables) → AreUntiledFiles request.now.lib request.now.cov c files.now
-        → IfOk result (λ coverage. coverage ≡ c) }
-    ensures untiled { IfOk result (λ coverage. coverage.is_tiled ≡ false) }
+) -> Result<Featured<'a>, FeatureFault<'a>>
+    requires { AreOfUntiledFeatured request.now.lib request.now.cov files.now }
+    ensures first { (read : FeaturedCoverage) → AreUntiledFeatured request.now.lib request.now.cov files.now read
+        → TellsNamed result (tables_or_features_finding (within request.now.lib request.now.cov) read) }
+    ensures coverage { (read : FeaturedCoverage) → AreUntiledFeatured request.now.lib request.now.cov files.now read
+        → IfOk result (λ f. f.coverage ≡ read.coverage.coverage) }
+    ensures schema { (read : FeaturedCoverage) → AreUntiledFeatured request.now.lib request.now.cov files.now read → IfOk result (λ f. f.schema ≡ read.schema) }
+    ensures untiled { IfOk result (λ f. f.coverage.is_tiled ≡ false) }
 {
+    let featured = open_featured(alloc, files, request.lib.as_str(), request.cov.as_str())?;
     // Each edge is asked for as often as it is in a tile, and more.
-    let coverage = open_coverage(
-        alloc,
-        files,
-        request.lib.as_str(),
-        request.cov.as_str(),
-    )?.keeping_edges(alloc)?;
-    Ok(coverage)
+    let coverage = featured.coverage.keeping_edges(alloc)?;
+    Ok(Featured {
+        coverage,
+        schema: featured.schema,
+    })
 }
 
 /// The reply over files that were loaded.
 fn read(alloc: Global, files: &TileFiles, request: &MakeRequest) -> Result<Reply, AllocError>
     requires { ArePartsOf request.now.lib request.now.cov files.now }
     ensures { (parts : TileParts) → ArePartsFiles request.now.lib request.now.cov files.now parts
-        → IfOk result (λ reply. reply ≡ tiling_answer request.now parts (coverage_finding parts.coverage.coverage)) }
+        → IfOk result (λ reply. reply ≡ tiling_answer request.now parts (parts_finding request.now parts)) }
 {
-    match opened(alloc, &files.coverage, request) {
-        Ok(coverage) => checked(alloc, files, request, &coverage),
-        Err(FindError::Finding(finding)) => {
-            disagreement(alloc, named(&files.coverage, finding.file), &finding)
-        }
-        Err(FindError::NoMemory) => Err(AllocError),
+    match opened(alloc, &files.featured, request) {
+        Ok(featured) => checked(alloc, files, request, &featured),
+        Err(FeatureFault::Finding(name, finding)) => disagreement(alloc, name.as_str(), &finding),
+        Err(FeatureFault::NoMemory) => Err(AllocError),
     }
 }
 
 /// Does `tile`: checks an untiled coverage as `check` does, and makes the files of its tiled library by its plan and the table of tiles of its
-/// library, or tells why there is none: the first place that disagrees, the first cause against the plan, or the first bound that a file
-/// would pass. All files are composed before the first is made (MIL-STD-2407, 5.2.3, tiled coverages and cross-tile topology).
+/// library, and behind them those of its features, whose thematic indexes are built anew; or tells why there is none: the first place that disagrees, the
+/// first cause against the plan, that features are joined by the numbers of primitives, or the first bound that a file would pass. All files are composed
+/// before the first is made (MIL-STD-2407, 5.2.3, tiled coverages, cross-tile topology and feature classes).
 pub fn tile<T: Tree>(alloc: Global, request: &MakeRequest, tree: &mut T) -> Result<Reply, Halt>
     ensures told { (files : Files) → T.files tree.old ≡ Some files → ComesTo (λ answer. answer ≡ tile_answer files request.now) result }
     ensures fault { TellsFault result (Halt.Stop Stop.TreeFault) (T.faults tree.old) (T.faults tree.new) }

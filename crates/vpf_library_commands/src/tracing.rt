@@ -3,72 +3,70 @@
 ghost use Rattle.std.specs.Prelude.{◌≡◌, IfOk, Some};
 ghost use Rattle.vpf_source.specs.Files.{Files};
 ghost use Rattle.vpf_darts.specs.Listings.{numbers_of};
-ghost use Rattle.vpf_findings.specs.Firsts.{Tells};
-ghost use Rattle.vpf_prims.specs.Coverages.{CoverageTables};
 ghost use Rattle.vpf_prims.specs.Libraries.{library_of};
-ghost use Rattle.vpf_numbers.specs.TableLines.{coverage_numbers};
-ghost use Rattle.vpf_loading.specs.Holding.{AreCoverageFiles, AreOfCoverage};
+ghost use Rattle.vpf_loading.specs.Loading.{within};
 ghost use Rattle.vpf_trace.specs.Tracing.{IsTrace};
+ghost use Rattle.vpf_features.specs.Finding.{TellsNamed};
 ghost use Rattle.vpf_replies.specs.Halting.{ComesTo, TellsFault};
-ghost use Rattle.vpf_library_commands.specs.Check.{coverage_finding};
+ghost use Rattle.vpf_featured.specs.Finding.{tables_or_features_finding};
+ghost use Rattle.vpf_featured.specs.Held.{AreFeaturedFiles, AreOfFeatured};
+ghost use Rattle.vpf_featured.specs.Reading.{FeaturedCoverage};
+ghost use Rattle.vpf_library_commands.specs.Check.{read_finding};
 ghost use Rattle.vpf_library_commands.specs.Trace.{IsTraceAnswer, IsTracedAnswer};
 
 use crate::checking::CheckRequest;
 use std::alloc::{AllocError, Global};
-use vpf_coverage::{Coverage, open_coverage};
-use vpf_cross::check_coverage;
+use vpf_coverage::Coverage;
 use vpf_darts::Listing;
-use vpf_findings::FindError;
-use vpf_load_replies::{named, stopped};
-use vpf_loading::load_coverage;
+use vpf_featured::{FeaturedFiles, check_topology, load_featured, open_featured};
+use vpf_features::FeatureFault;
+use vpf_load_replies::stopped;
 use vpf_replies::{Halt, Reply, Stop, disagreement, listed};
-use vpf_source::{File, Tree};
+use vpf_source::Tree;
 
-/// The coverage of files that were loaded, which keeps what its rows of edges say: a walk round the faces asks for an edge as often as it comes
-/// to it.
+/// The coverage of files that were loaded, in whose tables and features nothing disagrees, which keeps what its rows of edges say: a walk round the faces
+/// asks for an edge as often as it comes to it.
 fn opened<'a>(
     alloc: Global,
-    files: &'a [File],
+    files: &'a FeaturedFiles,
     request: &CheckRequest,
-) -> Result<Coverage<'a>, FindError<'a>>
-    requires { AreOfCoverage request.now.lib request.now.cov files.now }
-    ensures first { (c : CoverageTables) → AreCoverageFiles request.now.lib request.now.cov c files.now → Tells result (coverage_numbers c) }
-    ensures opened { (c : CoverageTables) → AreCoverageFiles request.now.lib request.now.cov c files.now
-        → IfOk result (λ coverage. coverage ≡ c) }
+) -> Result<Coverage<'a>, FeatureFault<'a>>
+    requires { AreOfFeatured request.now.lib request.now.cov files.now }
+    ensures first { (read : FeaturedCoverage) → AreFeaturedFiles request.now.lib request.now.cov files.now read
+        → TellsNamed result (tables_or_features_finding (within request.now.lib request.now.cov) read) }
+    ensures opened { (read : FeaturedCoverage) → AreFeaturedFiles request.now.lib request.now.cov files.now read
+        → IfOk result (λ coverage. coverage ≡ read.coverage.coverage) }
 {
-    let coverage = open_coverage(alloc, files, request.lib.as_str(), request.cov.as_str())?;
-    Ok(coverage.keeping_edges(alloc)?)
+    let featured = open_featured(alloc, files, request.lib.as_str(), request.cov.as_str())?;
+    Ok(featured.coverage.keeping_edges(alloc)?)
 }
 
-/// The boundary cycles of the coverage of files that were loaded, past its lines, where nothing disagrees, or the first finding: rule by
-/// rule.
+/// The boundary cycles of the coverage of files that were loaded, past its lines, where nothing disagrees, or the first finding, in its file.
 fn cycles_of<'a>(
     alloc: Global,
-    files: &'a [File],
+    files: &'a FeaturedFiles,
     request: &CheckRequest,
-) -> Result<Listing, FindError<'a>>
-    requires { AreOfCoverage request.now.lib request.now.cov files.now }
-    ensures first { (c : CoverageTables) → AreCoverageFiles request.now.lib request.now.cov c files.now → Tells result (coverage_finding c) }
-    ensures cycles { (c : CoverageTables) → AreCoverageFiles request.now.lib request.now.cov c files.now
-        → IfOk result (λ listing. IsTrace (library_of c) (numbers_of listing)) }
+) -> Result<Listing, FeatureFault<'a>>
+    requires { AreOfFeatured request.now.lib request.now.cov files.now }
+    ensures first { (read : FeaturedCoverage) → AreFeaturedFiles request.now.lib request.now.cov files.now read → TellsNamed result (read_finding request.now read) }
+    ensures cycles { (read : FeaturedCoverage) → AreFeaturedFiles request.now.lib request.now.cov files.now read
+        → IfOk result (λ listing. IsTrace (library_of read.coverage.coverage) (numbers_of listing)) }
 {
     let coverage = opened(alloc, files, request)?;
-    let checked = check_coverage(alloc, &coverage)?;
+    let checked = check_topology(alloc, &files.coverage, &coverage)?;
     Ok(vpf_trace::trace(alloc, &checked)?)
 }
 
 /// The reply over files that were loaded.
-fn traced(alloc: Global, files: &[File], request: &CheckRequest) -> Result<Reply, AllocError>
-    requires { AreOfCoverage request.now.lib request.now.cov files.now }
-    ensures { (c : CoverageTables) → AreCoverageFiles request.now.lib request.now.cov c files.now
-        → IfOk result (IsTracedAnswer files.now c (coverage_finding c)) }
+fn traced(alloc: Global, files: &FeaturedFiles, request: &CheckRequest) -> Result<Reply, AllocError>
+    requires { AreOfFeatured request.now.lib request.now.cov files.now }
+    ensures { (read : FeaturedCoverage) → AreFeaturedFiles request.now.lib request.now.cov files.now read
+        → IfOk result (IsTracedAnswer read.coverage.coverage (read_finding request.now read)) }
 {
     match cycles_of(alloc, files, request) {
         Ok(listing) => listed(alloc, &listing),
-        Err(FindError::Finding(finding)) => {
-            disagreement(alloc, named(files, finding.file), &finding)
-        }
-        Err(FindError::NoMemory) => Err(AllocError),
+        Err(FeatureFault::Finding(name, finding)) => disagreement(alloc, name.as_str(), &finding),
+        Err(FeatureFault::NoMemory) => Err(AllocError),
     }
 }
 
@@ -81,7 +79,7 @@ pub fn trace<T: Tree>(alloc: Global, request: &CheckRequest, tree: &mut T) -> Re
 {
     let mut loaded = 0;
     let (lib, cov) = (request.lib.as_str(), request.cov.as_str());
-    match load_coverage(alloc, tree, lib, cov, &mut loaded) {
+    match load_featured(alloc, tree, lib, cov, &mut loaded) {
         Ok(files) => Ok(traced(alloc, &files, request)?),
         Err(stop) => stopped(alloc, stop),
     }

@@ -14,7 +14,7 @@ use Rattle.vpf_source.specs.declared.file.File.{File}
 use Rattle.vpf_loading.specs.Holding.{bytes_in}
 use Rattle.vpf_loading.specs.Loading.{most_loaded, within}
 use Rattle.vpf_tiled_files.specs.Folders.{HoldsExactly}
-use Rattle.vpf_library_commands.specs.Tile.{file_within}
+use Rattle.vpf_library_commands.specs.Made.{file_within}
 use Rattle.vpf_tilings.specs.Tilings.{StandsAlone}
 
 -- the files with one made, and with several
@@ -91,15 +91,14 @@ none_within folder name (file ∷ files) h = (λ e. h.0 (within_same folder file
 some_same : (a b : Files) → Some a ≡ Some b → a ≡ b
 some_same a b e = cc
 
--- where files of different names are made in a folder and stand alone, it holds exactly these
-pub exactly : (held after : Files) (folder : List ℕ) (files : List File) → AllPairs (λ (a b : File). a.name ≢ b.name) (map (file_within folder) files)
-    → StandsAlone held folder (map (file_within folder) files)
+-- where files are made in a folder and stand alone, it holds exactly these
+pub exactly : (held after : Files) (folder : List ℕ) (files : List File) → StandsAlone held folder (map (file_within folder) files)
     → with_all (map (file_within folder) files) (Some held) ≡ Some after → HoldsExactly after folder files
-exactly held after folder files apart alone made =
+exactly held after folder files alone made =
     let own : List File = map (file_within folder) files in
     let same : made_all own held ≡ after = some_same (made_all own held) after (sym (all_made own held) ∙ made) in
     subst (λ (f : Files). HoldsExactly f folder files) same (record {
-      there = all_of_map (λ (file : File). made_all own held file.name ≡ Some file.bytes) folder files (there own held apart);
+      there = all_of_map (λ (file : File). made_all own held file.name ≡ Some file.bytes) folder files (there own held alone.apart);
       others = λ name none. elsewhere own held (within folder name) (none_within folder name files none) ∙ alone.empty name;
     })
 

@@ -1,10 +1,14 @@
--- What is cut into tiles is an untiled coverage: its tables are those of some bytes, their columns are right, and what they say is well formed.
-use Rattle.std.proofs.Common.{◌≡◌, ℕ, zero, suc, false, List, Option, None, Some, Ok, Err, refl, sym, ap, ◌∙◌, subst}
+-- What is cut into tiles is an untiled coverage with its features: its tables are those of some bytes, their columns are right, and what they say is well
+-- formed; its features were read, and agree.
+use Rattle.std.proofs.Common.{◌≡◌, ℕ, zero, suc, false, List, Option, None, Some, Ok, refl, sym, ap, ◌∙◌, subst}
 use mathlib.Core.Path.{fun_ext}
 use Rattle.std.proofs.Math.Dec.{eqb-suc-zero}
 use Rattle.vpf_source.specs.Files.{Files}
+use Rattle.vpf_source.specs.declared.file.File.{File}
 use Rattle.vpf_findings.specs.Findings.{Disagreement}
-use Rattle.vpf_prims.specs.Coverages.{tile_at, untiled_coverage}
+use Rattle.vpf_findings.specs.Firsts.{◌or◌}
+use Rattle.vpf_findings.specs.FirstLaws.{option_map-none, or-none_both}
+use Rattle.vpf_prims.specs.Coverages.{CoverageTables, tile_at, untiled_coverage}
 use Rattle.vpf_prims.specs.Libraries.{library_of}
 use Rattle.vpf_prims.specs.Primitives.{Library, Primitives, untiled}
 use Rattle.vpf_prims.specs.Reading.{PrimitiveTables, primitives_of}
@@ -13,20 +17,27 @@ use Rattle.vpf_prims.specs.Tables.{TileTables}
 use Rattle.vpf_tileref.specs.Laws.{StopsDecide}
 use Rattle.vpf_tileref.specs.Stops.{IsBounded, TilerefStop, tileref_stop}
 use Rattle.vpf_tileref.specs.Tileref.{IsTileref}
-use Rattle.vpf_loading.specs.Holding.{HoldsBytes, bytes_in}
-use Rattle.vpf_loading.specs.Laws.{HeldIsRead}
+use Rattle.vpf_loading.specs.Holding.{HoldsBytes}
 use Rattle.vpf_loading.specs.Loading.{LoadedCoverage, LoadedTable, LoadedTile, Read, ◌and_then◌, read_coverage, read_table, read_tile, read_tileref}
 use Rattle.vpf_loading.specs.Loading.{tileref_name, unless_stopped, untiled_loaded, untiled_or_tiled, within}
 use Rattle.vpf_plan.specs.PlanLoads.{read_plan}
 use Rattle.vpf_plan.specs.Untiled.{read_untiled, tables_or_missing}
 use Rattle.vpf_wing.specs.WellFormed.{IsWellFormed}
 use Rattle.vpf_cross.specs.Agreeing.{LibraryAgrees}
-use Rattle.vpf_replies.specs.declared.verdict.Verdict.TheVariants.{Done}
-use Rattle.vpf_library_commands.specs.declared.checking.CheckRequest.{CheckRequest}
+use Rattle.vpf_numbers.specs.Matching.{HaveColumns}
+use Rattle.vpf_numbers.specs.TableLines.{coverage_numbers}
+use Rattle.vpf_cross.specs.CrossFinding.{topology_finding}
+use Rattle.vpf_features.specs.Finding.{Named}
+use Rattle.vpf_feature_files.specs.Reading.{read_schema}
+use Rattle.vpf_feature_files.specs.Schemas.{Schema}
+use Rattle.vpf_feature_agreement.specs.Agreeing.{FeaturesAgree, FeaturesDecide, features_finding}
+use Rattle.vpf_feature_reading.specs.Laws.{IsReadSchema}
+use Rattle.vpf_featured.specs.Finding.{featured_finding, in_its_file, placed_finding, tables_or_features_finding}
+use Rattle.vpf_featured.specs.Reading.{FeaturedCoverage}
 use Rattle.vpf_library_commands.specs.declared.requesting.MakeRequest.{MakeRequest}
-use Rattle.vpf_library_commands.specs.Agreeing.{CheckDecides, IsAgreeing}
-use Rattle.vpf_library_commands.specs.Check.{check_answer, coverage_finding, found_answer, read_answer}
-use Rattle.vpf_library_commands.specs.Tile.{TileParts, plan_name, read_parts}
+use Rattle.vpf_library_commands.specs.Agreeing.{CoverageDecides}
+use Rattle.vpf_library_commands.specs.Check.{coverage_finding}
+use Rattle.vpf_library_commands.specs.Tile.{TileParts, featured_in, parts_of, plan_name, read_parts, read_untiled_featured}
 use Rattle.vpf_tilings.specs.Cutting.{IsCutFrom}
 use Rattle.vpf_tilings.proofs.ReadLemmas.{AreReadGrids, IsReadGrid, OpenedIsRead, grid_read, then_ok, tile_read}
 
@@ -38,9 +49,21 @@ pub record IsUntiledRead (files : Files) (lib cov : List ℕ) (c : LoadedCoverag
   pub grids : AreReadGrids tile.tables
   pub read : read_coverage files lib cov 0 ≡ (Ok c, loaded)
 
+-- its features as they were read
+pub record IsSchemaRead (files : Files) (folder : List ℕ) (S : Schema) : Type 0 where
+  pub before : ℕ
+  pub behind : ℕ
+  pub is : read_schema files folder before ≡ (Ok S, behind)
+
+-- both
+pub record IsFeaturedRead (files : Files) (lib cov : List ℕ) (read : FeaturedCoverage) : Type 0 where
+  pub coverage : IsUntiledRead files lib cov read.coverage
+  pub schema : IsSchemaRead files (within lib cov) read.schema
+
 -- what was read of a tree
 pub record AreRead (files : Files) (lib cov : List ℕ) (parts : TileParts) : Type 0 where
   pub coverage : IsUntiledRead files lib cov parts.coverage
+  pub schema : IsSchemaRead files (within lib cov) parts.schema
   pub tileref : IsReadGrid parts.tileref.grid
   pub goes_on : tileref_stop parts.tileref.grid ≡ None
 
@@ -78,17 +101,31 @@ tileref_read opened files lib loaded table all h =
     subst (λ (v : LoadedTable). IsReadGrid v.grid × (tileref_stop v.grid ≡ None)) g.1
     (grid_read opened files (tileref_name lib) loaded t.value all (ap (λ r. r.0) t.first_is), g.0)
 
+-- an untiled coverage and its features that were read
+featured_read : OpenedIsRead → (files : Files) (lib cov : List ℕ) (read : FeaturedCoverage) → HoldsBytes files
+    → (read_untiled_featured files lib cov 0).0 ≡ Ok read → IsFeaturedRead files lib cov read
+featured_read opened files lib cov read all h =
+    let c = then_ok (read_untiled files lib cov 0) _ read h in
+    let s = then_ok (read_schema files (within lib cov) c.loaded) _ read c.next_is in
+    let same : record { coverage = c.value; schema = s.value } ≡ read = cc in
+    subst (λ (r : FeaturedCoverage). IsFeaturedRead files lib cov r) same (record {
+      coverage = untiled_read opened files lib cov c.value all (ap (λ r. r.0) c.first_is);
+      schema = record { before = c.loaded; behind = s.loaded; is = s.first_is };
+    })
+
 -- all parts that were read
 pub parts_read : OpenedIsRead → (files : Files) (lib cov : List ℕ) (parts : TileParts) → HoldsBytes files → (read_parts files lib cov 0).0 ≡ Ok parts
     → AreRead files lib cov parts
 parts_read opened files lib cov parts all h =
-    let c = then_ok (read_untiled files lib cov 0) _ parts h in
+    let c = then_ok (read_untiled_featured files lib cov 0) _ parts h in
     let t = then_ok (read_tileref files lib c.loaded) _ parts c.next_is in
     let p = then_ok (read_plan files (plan_name lib cov) t.loaded) _ parts t.next_is in
-    let same : record { coverage = c.value; tileref = t.value; plan = p.value } ≡ parts = cc in
+    let same : parts_of c.value t.value p.value ≡ parts = cc in
+    let featured = featured_read opened files lib cov c.value all (ap (λ r. r.0) c.first_is) in
     let tiles = tileref_read opened files lib c.loaded t.value all (ap (λ r. r.0) t.first_is) in
     subst (λ (x : TileParts). AreRead files lib cov x) same (record {
-      coverage = untiled_read opened files lib cov c.value all (ap (λ r. r.0) c.first_is);
+      coverage = featured.coverage;
+      schema = featured.schema;
       tileref = tiles.0;
       goes_on = tiles.1;
     })
@@ -103,27 +140,9 @@ pub record IsSource (T : PrimitiveTables) (parts : TileParts) : Type 0 where
   pub tileref : IsTileref parts.tileref.grid
   pub bounded : IsBounded parts.tileref.grid
   pub tileref_grid : IsReadGrid parts.tileref.grid
-
--- the coverage that was read, or another one
-value_or : LoadedCoverage → Read LoadedCoverage → LoadedCoverage
-value_or d (Ok c, n) = c
-value_or d (Err stop, n) = d
-
-same_read : (x c : LoadedCoverage) (k n : ℕ) (r : Read LoadedCoverage) → r ≡ (Ok x, k) → r ≡ (Ok c, n) → x ≡ c
-unfolding value_or
-same_read x c k n r a b = ap (value_or c) (sym a ∙ b)
-
--- the coverage that is read is the one that is held
-agreeing : CheckDecides → HeldIsRead → (files : Files) (request : CheckRequest) (c : LoadedCoverage) (n : ℕ) → HoldsBytes files
-    → read_coverage files request.lib request.cov 0 ≡ (Ok c, n) → coverage_finding c.coverage ≡ None → IsAgreeing files request c
-agreeing check held files request c n all read none =
-    let answered : (check_answer files request).verdict ≡ Done =
-    ap (λ (r : Read LoadedCoverage). (read_answer r.0).verdict) read ∙ ap (λ (f : Option Disagreement). (found_answer c.files c.coverage f).verdict) none in
-    let found = (check files request all).0 answered in
-    let same : found.0 ≡ c =
-    same_read found.0 c (bytes_in found.0.files) n (read_coverage files request.lib request.cov 0)
-    (held files request.lib request.cov found.0 found.1.held) read in
-    subst (λ (x : LoadedCoverage). IsAgreeing files request x) same found.1
+  pub folder : List ℕ
+  pub read : IsReadSchema folder parts.schema
+  pub agree : FeaturesAgree parts.schema
 
 tile_alone : (T : TileTables) (t : ℕ) → (library_of (untiled_coverage T)).tile t ≡ (untiled (primitives_of T.tables)).tile t
 tile_alone T zero = refl
@@ -141,14 +160,36 @@ well_formed c L same agrees =
 some_tables : (a b : TileTables) → Some a ≡ Some b → a ≡ b
 some_tables a b e = cc
 
--- what is cut into tiles is an untiled coverage that agrees
-pub source : OpenedIsRead → StopsDecide → CheckDecides → HeldIsRead
-    → (files : Files) (request : MakeRequest) (parts : TileParts) (T : TileTables)
+-- nothing is found in a coverage, nor on its features
+pub record AreUnfound (folder : List ℕ) (read : FeaturedCoverage) : Type 0 where
+  pub coverage : coverage_finding read.coverage.coverage ≡ None
+  pub features : features_finding folder read.schema.tables ≡ None
+
+none_placed : (files : List File) (first : Option Disagreement) → placed_finding files first ≡ None → first ≡ None
+none_placed files first none = option_map-none (in_its_file files) first none
+
+-- .. where nothing is found in both
+pub unfound : (folder : List ℕ) (read : FeaturedCoverage) → featured_finding folder read ≡ None → AreUnfound folder read
+unfound folder read none =
+    let c : CoverageTables = read.coverage.coverage in
+    let numbers : Option Named = placed_finding read.coverage.files (coverage_numbers c) in
+    let both = or-none_both (tables_or_features_finding folder read) (placed_finding read.coverage.files (topology_finding c)) none in
+    let tables = or-none_both numbers (features_finding folder read.schema.tables) both.0 in
+    record {
+      coverage = ap (λ o. o or topology_finding c) (none_placed read.coverage.files (coverage_numbers c) tables.0)
+          ∙ none_placed read.coverage.files (topology_finding c) both.1;
+      features = tables.1;
+    }
+
+-- what is cut into tiles is an untiled coverage that agrees with its features
+pub source : OpenedIsRead → StopsDecide → CoverageDecides → FeaturesDecide → (files : Files) (request : MakeRequest) (parts : TileParts) (T : TileTables)
     → HoldsBytes files → IsCutFrom files request parts T → IsSource T.tables parts
-source opened stops check held files request parts T all cut =
+source opened stops check decide files request parts T all cut =
     let r = parts_read opened files request.lib request.cov parts all cut.read in
-    let asked : CheckRequest = record { lib = request.lib; cov = request.cov } in
-    let agrees : IsAgreeing files asked parts.coverage = agreeing check held files asked parts.coverage r.coverage.loaded all r.coverage.read cut.agrees in
+    let folder : List ℕ = within request.lib request.cov in
+    let none = unfound folder (featured_in parts) cut.agrees in
+    let agrees : HaveColumns parts.coverage.coverage × LibraryAgrees (library_of parts.coverage.coverage) =
+    (check files request.lib request.cov parts.coverage r.coverage.loaded all r.coverage.read).0 none.coverage in
     let own : TileTables = record { first = 0; tables = r.coverage.tile.tables } in
     let same : own ≡ T = some_tables own T (ap (λ (c : LoadedCoverage). tile_at c.coverage 0) r.coverage.is ∙ cut.tables) in
     let library : library_of parts.coverage.coverage ≡ untiled (primitives_of T.tables) =
@@ -156,10 +197,13 @@ source opened stops check held files request parts T all cut =
     ∙ ap (λ (t : TileTables). untiled (primitives_of t.tables)) same in
     let tiles : IsTileref parts.tileref.grid × IsBounded parts.tileref.grid = (stops parts.tileref.grid).0 r.goes_on in
     record {
-      columns = agrees.columns.suit 0 T cut.tables;
+      columns = agrees.0.suit 0 T cut.tables;
       grids = subst (λ (t : TileTables). AreReadGrids t.tables) same r.coverage.grids;
-      well_formed = well_formed (primitives_of T.tables) (library_of parts.coverage.coverage) library agrees.rows;
+      well_formed = well_formed (primitives_of T.tables) (library_of parts.coverage.coverage) library agrees.1;
       tileref = tiles.0;
       bounded = tiles.1;
       tileref_grid = r.tileref;
+      folder = folder;
+      read = record { held = files; bytes = all; before = r.schema.before; behind = r.schema.behind; read = r.schema.is };
+      agree = (decide files folder r.schema.before r.schema.behind parts.schema r.schema.is).0 none.features;
     }

@@ -46,8 +46,8 @@ returns-clause-tiled g c files request parts tables e f cut =
     c.do_words.ensures.answer _ (words_said _ _ _ files _ e f (sym (c.tiles_are_made.ensures files request parts tables cut)))
 
 pub returns-clause-rejoined : goal.returns-clause-rejoined
-returns-clause-rejoined g c before after request bytes later e told left done alone =
-    run_tiles c.tilings_agree.ensures.listed c.requests_have_names.ensures c.args.words.now before after request _ _ _ bytes later e told left done alone c.do_words.ensures.answer
+returns-clause-rejoined g c before after request bytes later e told left done alone lacks =
+    run_tiles c.tilings_agree.ensures.listed c.requests_have_names.ensures c.args.words.now before after request _ _ _ bytes later e told left done alone lacks c.do_words.ensures.answer
 
 pub returns-clause-drilled : goal.returns-clause-drilled
 returns-clause-drilled g c request e =

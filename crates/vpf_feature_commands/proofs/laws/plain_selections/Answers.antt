@@ -1,4 +1,4 @@
-use Rattle.vpf_feature_commands.specs.Select.{read_featured}
+use Rattle.vpf_featured.specs.Reading.{read_featured}
 use Rattle.vpf_feature_commands.proofs.PlainLemmas.{plain_same}
 use Rattle.vpf_feature_commands.proofs.laws.plain_selections.Goals as goal
 

@@ -1,4 +1,4 @@
-use Rattle.vpf_feature_commands.specs.Select.{read_featured}
+use Rattle.vpf_featured.specs.Reading.{read_featured}
 use Rattle.vpf_feature_commands.proofs.SelectAnswers.{read_answers, select_stopped}
 use Rattle.vpf_feature_commands.proofs.selecting.select.Goals as goal
 

@@ -1,23 +1,21 @@
 use Rattle.std.proofs.Common.{◌≡◌}
-use Rattle.vpf_loading.specs.Loading.{read_coverage}
+use Rattle.vpf_featured.specs.Reading.{read_featured}
 use Rattle.vpf_library_commands.specs.Glue.{joined_answer}
-use Rattle.vpf_library_commands.proofs.CheckAnswers.{both_of, stopped_answer}
-use Rattle.vpf_library_commands.proofs.GlueAnswers.{glue_stopped, joined_loaded, read_is_tiled}
+use Rattle.vpf_library_commands.proofs.CheckAnswers.{read_stopped}
+use Rattle.vpf_library_commands.proofs.GlueAnswers.{featured_is_tiled, glue_read, glue_stopped}
 use Rattle.vpf_library_commands.proofs.gluing.joined.Goals as goal
 
 pub returns-in_ok-read-in-Ok-clause-told : goal.returns-in_ok-read-in-Ok-clause-told
 returns-in_ok-read-in-Ok-clause-told g c files e none =
     let request = c.args.request.now in
-    let read = read_coverage files request.lib request.cov 0 in
-    let told = rw (c.as_str-lib.ensures, c.as_str-cov.ensures) at (c.in-Ok.ensures.told files e) in
-    let held = rw (c.as_str-lib.ensures, c.as_str-cov.ensures) at (c.in-Ok.ensures.held files e) in
-    joined_loaded request read.0 _ _ told (λ loaded is same.
-    c.in_ok-read-in-Ok.ensures loaded (rw c.deref.ensures.value (held loaded read.1 (both_of read loaded is)))
-    (read_is_tiled files request.lib request.cov loaded none is) (rw c.deref.ensures.value same))
+    let read = read_featured files request.lib request.cov 0 in
+    let came = rw (c.as_str-lib.ensures, c.as_str-cov.ensures) at (c.in-Ok.ensures.told files e) in
+    glue_read request read came.value c.load_featured.new.loaded _ came.comes
+    (c.in_ok-read-in-Ok.ensures came.value came.is (featured_is_tiled files request.lib request.cov came.value c.load_featured.new.loaded none came.comes))
 
 pub returns-in-Err-clause-told : goal.returns-in-Err-clause-told
 returns-in-Err-clause-told g c files e none =
     let request = c.args.request.now in
-    let read = read_coverage files request.lib request.cov 0 in
-    stopped_answer (λ read answer. answer ≡ joined_answer request read) (glue_stopped request) read.0 c.in-Err.stop c.stopped.result
+    let read = read_featured files request.lib request.cov 0 in
+    read_stopped (λ read answer. answer ≡ joined_answer request read) (glue_stopped request) read c.in-Err.stop c.load_featured.new.loaded c.stopped.result
     (rw (c.as_str-lib.ensures, c.as_str-cov.ensures) at (c.in-Err.ensures.told files e)) c.stopped.ensures.told

@@ -1,18 +1,19 @@
-use Rattle.vpf_loading.specs.Loading.{read_coverage}
+use Rattle.vpf_featured.specs.Reading.{read_featured}
 use Rattle.vpf_library_commands.specs.Trace.{IsReadTrace}
-use Rattle.vpf_library_commands.proofs.CheckAnswers.{both_of, stopped_answer}
-use Rattle.vpf_library_commands.proofs.TraceAnswers.{trace_stopped, traced_loaded}
+use Rattle.vpf_library_commands.proofs.CheckAnswers.{read_stopped}
+use Rattle.vpf_library_commands.proofs.TraceAnswers.{trace_read, trace_stopped}
 use Rattle.vpf_library_commands.proofs.tracing.trace.Goals as goal
 
 pub returns-in_ok-traced-in-Ok-clause-told : goal.returns-in_ok-traced-in-Ok-clause-told
 returns-in_ok-traced-in-Ok-clause-told g c files e =
-    let read = read_coverage files c.args.request.now.lib c.args.request.now.cov 0 in
-    let told = rw (c.as_str-lib.ensures, c.as_str-cov.ensures) at (c.in-Ok.ensures.told files e) in
-    let held = rw (c.as_str-lib.ensures, c.as_str-cov.ensures) at (c.in-Ok.ensures.held files e) in
-    traced_loaded read.0 _ _ told
-    (λ loaded is. rw c.deref.ensures.value at (c.in_ok-traced-in-Ok.ensures loaded.coverage (rw c.deref.ensures.value (held loaded read.1 (both_of read loaded is)))))
+    let request = c.args.request.now in
+    let read = read_featured files request.lib request.cov 0 in
+    let came = rw (c.as_str-lib.ensures, c.as_str-cov.ensures) at (c.in-Ok.ensures.told files e) in
+    trace_read request read came.value c.load_featured.new.loaded _ came.comes (c.in_ok-traced-in-Ok.ensures came.value came.is)
 
 pub returns-in-Err-clause-told : goal.returns-in-Err-clause-told
 returns-in-Err-clause-told g c files e =
-    let read = read_coverage files c.args.request.now.lib c.args.request.now.cov 0 in
-    stopped_answer IsReadTrace trace_stopped read.0 c.in-Err.stop c.stopped.result (rw (c.as_str-lib.ensures, c.as_str-cov.ensures) at (c.in-Err.ensures.told files e)) c.stopped.ensures.told
+    let request = c.args.request.now in
+    let read = read_featured files request.lib request.cov 0 in
+    read_stopped (IsReadTrace request) (trace_stopped request) read c.in-Err.stop c.load_featured.new.loaded c.stopped.result
+    (rw (c.as_str-lib.ensures, c.as_str-cov.ensures) at (c.in-Err.ensures.told files e)) c.stopped.ensures.told

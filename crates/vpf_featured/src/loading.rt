@@ -5,8 +5,8 @@ ghost use Rattle.vpf_source.specs.Causes.{Rose, Stood};
 ghost use Rattle.vpf_source.specs.Files.{Files};
 ghost use Rattle.vpf_loading.specs.Loading.{most_loaded};
 ghost use Rattle.vpf_loading.specs.Loads.{ReadsAs};
-ghost use Rattle.vpf_feature_commands.specs.Select.{read_featured};
-ghost use Rattle.vpf_feature_commands.specs.Held.{AreFeaturedFiles, AreOfFeatured};
+ghost use Rattle.vpf_featured.specs.Reading.{read_featured};
+ghost use Rattle.vpf_featured.specs.Held.{AreFeaturedFiles, AreOfFeatured};
 
 use std::alloc::Global;
 use vpf_feature_files::{FeatureFiles, load_features};
@@ -15,15 +15,15 @@ use vpf_source::{File, Tree};
 
 /// What is read: a coverage, and its features.
 #[derive(Drop)]
-pub(crate) struct FeaturedFiles {
+pub struct FeaturedFiles {
     /// The tables of primitives.
-    pub(crate) coverage: Vec<File>,
+    pub coverage: Vec<File>,
     /// The schema table, the feature tables and their thematic indexes.
-    pub(crate) features: FeatureFiles,
+    pub features: FeatureFiles,
 }
 
 /// The files that are read, in reading order, each once: those of the coverage, and then those of its features.
-pub(crate) fn load_featured<T: Tree>(
+pub fn load_featured<T: Tree>(
     alloc: Global,
     tree: &mut T,
     lib: &str,

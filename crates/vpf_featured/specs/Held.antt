@@ -3,8 +3,8 @@ use Rattle.std.specs.Prelude.{◌≡◌, ℕ, List}
 use Rattle.vpf_loading.specs.Holding.{AreCoverageFiles}
 use Rattle.vpf_loading.specs.Loading.{within}
 use Rattle.vpf_feature_files.specs.Held.{AreSchemaFiles}
-use Rattle.vpf_feature_commands.specs.declared.loading.FeaturedFiles.{FeaturedFiles}
-use Rattle.vpf_feature_commands.specs.Select.{FeaturedCoverage}
+use Rattle.vpf_featured.specs.declared.loading.FeaturedFiles.{FeaturedFiles}
+use Rattle.vpf_featured.specs.Reading.{FeaturedCoverage}
 
 -- the files are those of what was read
 pub record AreFeaturedFiles (lib cov : List ℕ) (files : FeaturedFiles) (read : FeaturedCoverage) : Type 0 where

@@ -12,9 +12,9 @@ use Rattle.vpf_loading.specs.Loads.{ReadsStop, ReadsValue}
 use Rattle.vpf_feature_files.specs.Held.{AreOfSchema, AreSchemaFiles}
 use Rattle.vpf_feature_files.specs.Reading.{read_schema}
 use Rattle.vpf_feature_files.specs.Schemas.{Schema}
-use Rattle.vpf_feature_commands.specs.declared.loading.FeaturedFiles.{FeaturedFiles}
-use Rattle.vpf_feature_commands.specs.Select.{FeaturedCoverage, read_featured}
-use Rattle.vpf_feature_commands.specs.Held.{AreFeaturedFiles, AreOfFeatured}
+use Rattle.vpf_featured.specs.declared.loading.FeaturedFiles.{FeaturedFiles}
+use Rattle.vpf_featured.specs.Reading.{FeaturedCoverage, read_featured}
+use Rattle.vpf_featured.specs.Held.{AreFeaturedFiles, AreOfFeatured}
 
 -- ---- what stops a load
 
