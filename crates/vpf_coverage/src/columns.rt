@@ -1,7 +1,6 @@
 //! The columns of the tables of each tile, which are right.
 
 ghost use Rattle.std.specs.Prelude.{◌≡◌, ◌<◌, ◌^◌, All, IfOk, None, get_or};
-ghost use Rattle.std.specs.Option.{option_map};
 ghost use Rattle.vpf_findings.specs.Firsts.{Tells};
 ghost use Rattle.vpf_prims.specs.Coverages.{tile_at};
 ghost use Rattle.vpf_prims.specs.Libraries.{in_tile};
@@ -13,21 +12,8 @@ ghost use Rattle.vpf_coverage.specs.Opened.{AreAllRight, AreRightIn, IsCounted, 
 use std::alloc::Global;
 use vpf_findings::FindError;
 use vpf_numbers::{Around, check_tables};
-use vpf_opening::OpenCoverage;
-use vpf_prims::{PrimitiveViews, TileColumns};
-
-/// The tables of tile `t`: none where it is empty, or there is no such tile.
-fn views_at<'v, 'a>(
-    tiles: &'v [Option<PrimitiveViews<'a>>],
-    t: usize,
-) -> Option<&'v PrimitiveViews<'a>>
-    ensures { option_map (λ views. views.now) result ≡ get_or tiles.now t None }
-{
-    match tiles.get(t) {
-        Some(Some(views)) => Some(views),
-        _ => None,
-    }
-}
+use vpf_opening::{OpenCoverage, views_at};
+use vpf_prims::TileColumns;
 
 /// Where the first file of tile `t` stands, 0 where there is no such tile.
 fn first_at(firsts: &[u32], t: usize) -> u32

@@ -18,6 +18,7 @@ use vpf_table::TableView;
 fn open_end<'a>(
     alloc: Global,
     folder: &str,
+    like: Option<&TableView<'a>>,
     files: &mut &'a [File],
 ) -> Result<Option<TableView<'a>>, AllocError>
     requires { IsOpeningEnd folder.now files.old.now }
@@ -25,16 +26,17 @@ fn open_end<'a>(
     ensures rest { (end : Option Grid) (rest : List SourceFile) → OpensEnd folder.now end rest files.old.now → OnOk result (files.new.now ≡ rest) }
 {
     if is_first(alloc, folder, "end", files)? {
-        Ok(Some(next_table(alloc, files)?))
+        Ok(Some(next_table(alloc, like, files)?))
     } else {
         Ok(None)
     }
 }
 
-/// The tables of a folder that isn't empty.
+/// The tables of a folder that isn't empty. Headers are shared with those of given tables, where they are the same.
 fn open_tables<'a>(
     alloc: Global,
     folder: &str,
+    like: Option<&PrimitiveViews<'a>>,
     files: &mut &'a [File],
 ) -> Result<PrimitiveViews<'a>, AllocError>
     requires { AreOpeningTables folder.now files.old.now }
@@ -43,18 +45,25 @@ fn open_tables<'a>(
     ensures rest { (tables : PrimitiveTables) (rest : List SourceFile) → OpensTables folder.now tables rest files.old.now → OnOk result (files.new.now ≡ rest) }
 {
     Ok(PrimitiveViews {
-        edg: next_table(alloc, files)?,
-        fac: next_table(alloc, files)?,
-        rng: next_table(alloc, files)?,
-        cnd: next_table(alloc, files)?,
-        end: open_end(alloc, folder, files)?,
+        edg: next_table(alloc, like.map(|tables| &tables.edg), files)?,
+        fac: next_table(alloc, like.map(|tables| &tables.fac), files)?,
+        rng: next_table(alloc, like.map(|tables| &tables.rng), files)?,
+        cnd: next_table(alloc, like.map(|tables| &tables.cnd), files)?,
+        end: open_end(
+            alloc,
+            folder,
+            like.and_then(|tables| tables.end.as_ref()),
+            files,
+        )?,
     })
 }
 
-/// The tables of a folder, which has some where the next file is its table of edges: their files are taken.
+/// The tables of a folder, which has some where the next file is its table of edges: their files are taken. Headers are shared
+/// with those of given tables, where they are the same.
 pub(crate) fn open_folder<'a>(
     alloc: Global,
     folder: &str,
+    like: Option<&PrimitiveViews<'a>>,
     files: &mut &'a [File],
 ) -> Result<Option<PrimitiveViews<'a>>, AllocError>
     requires { IsOpeningFolder folder.now files.old.now }
@@ -64,7 +73,7 @@ pub(crate) fn open_folder<'a>(
         → OnOk result (files.new.now ≡ rest) }
 {
     if is_first(alloc, folder, "edg", files)? {
-        Ok(Some(open_tables(alloc, folder, files)?))
+        Ok(Some(open_tables(alloc, folder, like, files)?))
     } else {
         Ok(None)
     }

@@ -5,4 +5,4 @@ mod folders;
 mod opening;
 mod tables;
 
-pub use opening::{OpenCoverage, open_files, open_tileref};
+pub use opening::{OpenCoverage, open_files, open_tileref, views_at};

@@ -1,6 +1,7 @@
 //! The tables of a coverage, opened tile by tile.
 
-ghost use Rattle.std.specs.Prelude.{◌≡◌, ◌∷◌, ◌<◌, ◌≤◌, ◌^◌, List, All, IfOk, OnOk, Option, None, length};
+ghost use Rattle.std.specs.Prelude.{◌≡◌, ◌∷◌, ◌<◌, ◌≤◌, ◌^◌, List, All, IfOk, OnOk, Option, None, get_or, length};
+ghost use Rattle.std.specs.Option.{option_map};
 ghost use Rattle.vpf_source.specs.declared.file.File.{File as SourceFile};
 ghost use Rattle.vpf_table.specs.Grid.{Grid};
 ghost use Rattle.vpf_prims.specs.Coverages.{CoverageTables, untiled_coverage};
@@ -66,16 +67,17 @@ fn open_paths<'a>(alloc: Global, files: &mut &'a [File]) -> Result<(TilePaths, u
     ensures rest { (tileref : Grid) (rest : List SourceFile) → OpensTileref tileref rest files.old.now → OnOk result (files.new.now ≡ rest) }
     ensures few { IfOk result (λ opened. opened.1 ≤ 2) }
 {
-    let table = next_table(alloc, files)?;
+    let table = next_table(alloc, None, files)?;
     let paths = paths_in(alloc, &table)?;
     Ok((paths, files_of(&table)))
 }
 
-/// The tables of the tile with this path.
+/// The tables of the tile with this path. Headers are shared with those of given tables, where they are the same.
 fn open_tile<'a>(
     alloc: Global,
     folder: &str,
     path: &str,
+    like: Option<&PrimitiveViews<'a>>,
     files: &mut &'a [File],
 ) -> Result<Option<PrimitiveViews<'a>>, AllocError>
     requires { IsOpeningFolder (within folder.now path.now) files.old.now }
@@ -85,7 +87,20 @@ fn open_tile<'a>(
         → OnOk result (files.new.now ≡ rest) }
 {
     let folder = within(alloc, folder, path)?;
-    open_folder(alloc, folder.as_str(), files)
+    open_folder(alloc, folder.as_str(), like, files)
+}
+
+/// The tables of tile `t`: none where it is empty, or there is no such tile.
+pub fn views_at<'v, 'a>(
+    tiles: &'v [Option<PrimitiveViews<'a>>],
+    t: usize,
+) -> Option<&'v PrimitiveViews<'a>>
+    ensures { option_map (λ views. views.now) result ≡ get_or tiles.now t None }
+{
+    match tiles.get(t) {
+        Some(Some(views)) => Some(views),
+        _ => None,
+    }
 }
 
 /// The tables of the tiles with these paths, and where the first file of each stands among all, the first of them at this place:
@@ -105,15 +120,21 @@ fn open_tiles<'a>(
     ensures few { IfOk result (λ o. All (λ first. first < 2 ^ 31) o.0.items) }
 {
     let mut firsts = vec![in alloc; 0]?;
-    let mut tiles = Vec::new(alloc);
+    let mut tiles = Vec::with_capacity(alloc, paths.len() as usize + 1)?;
     tiles.push(None)?;
+    // The last tile that has tables: those of the others mostly have the same headers.
+    let mut last = 0;
     for t in 0..paths.len() {
         let Some(path) = paths.path(t + 1) else {
             unreachable!()
         };
-        let tile = open_tile(alloc, folder, path, &mut files)?;
+        let like = views_at(&tiles, last);
+        let tile = open_tile(alloc, folder, path, like, &mut files)?;
         firsts.push(at)?;
         at += files_of_folder(&tile);
+        if tile.is_some() {
+            last = tiles.len();
+        }
         tiles.push(tile)?;
     }
     Ok((firsts, tiles))
@@ -166,7 +187,7 @@ fn open_coverage<'a>(
     ensures alike { IfOk result (λ o. length o.firsts.items ≡ length o.tiles.items) }
     ensures few { IfOk result (λ o. All (λ first. first < 2 ^ 31) o.firsts.items) }
 {
-    match open_folder(alloc, folder, &mut files)? {
+    match open_folder(alloc, folder, None, &mut files)? {
         Some(views) => untiled(alloc, views),
         None => open_tiled(alloc, folder, files),
     }
@@ -205,5 +226,5 @@ pub fn open_tileref<'a>(
 {
     spelled_is_opened();
     opened_is_read();
-    next_table(alloc, &mut files)
+    next_table(alloc, None, &mut files)
 }

@@ -42,13 +42,22 @@ fn next_file<'a>(files: &mut &'a [File]) -> &'a File
     file
 }
 
-/// The table of a file, which has one.
-fn table_in<'a>(alloc: Global, file: &'a File) -> Result<TableFile<'a>, AllocError>
+/// The table of a file, which has one. Its header is shared with a given table's, where it is the same.
+fn table_in<'a>(
+    alloc: Global,
+    like: Option<&TableView<'a>>,
+    file: &'a File,
+) -> Result<TableFile<'a>, AllocError>
     requires { IsOk (table_of file.now.bytes) }
     ensures bytes { IfOk result (λ table. table.bytes ≡ file.now.bytes) }
     ensures grid { IfOk result (λ table. table_of file.now.bytes ≡ Ok table.grid) }
 {
-    match TableFile::read(alloc, file.bytes.as_slice()) {
+    let bytes = file.bytes.as_slice();
+    let read = match like {
+        Some(table) => table.read_like(alloc, bytes),
+        None => TableFile::read(alloc, bytes),
+    };
+    match read {
         Ok(table) => Ok(table),
         Err(PlaceError::NoMemory) => Err(AllocError),
         Err(PlaceError::Place(_)) => unreachable!(),
@@ -69,6 +78,7 @@ fn with_index<'a>(table: TableFile<'a>, index: &'a File) -> TableView<'a>
 /// The table of a file, whose index is the next one where its rows vary.
 fn table_of_file<'a>(
     alloc: Global,
+    like: Option<&TableView<'a>>,
     file: &'a File,
     files: &mut &'a [File],
 ) -> Result<TableView<'a>, AllocError>
@@ -76,16 +86,17 @@ fn table_of_file<'a>(
     ensures table { (grid : Grid) (rest : List SourceFile) → Opens grid rest (file.now ∷ files.old.now) → IfOk result (λ table. table ≡ grid) }
     ensures rest { (grid : Grid) (rest : List SourceFile) → Opens grid rest (file.now ∷ files.old.now) → OnOk result (files.new.now ≡ rest) }
 {
-    let table = table_in(alloc, file)?;
+    let table = table_in(alloc, like, file)?;
     if !table.header().varies() {
         return Ok(table.without_index());
     }
     Ok(with_index(table, next_file(files)))
 }
 
-/// The next table: its files are taken.
+/// The next table: its files are taken. Its header is shared with a given table's, where it is the same.
 pub(crate) fn next_table<'a>(
     alloc: Global,
+    like: Option<&TableView<'a>>,
     files: &mut &'a [File],
 ) -> Result<TableView<'a>, AllocError>
     requires { IsOpening files.old.now }
@@ -93,5 +104,5 @@ pub(crate) fn next_table<'a>(
     ensures rest { (grid : Grid) (rest : List SourceFile) → Opens grid rest files.old.now → OnOk result (files.new.now ≡ rest) }
 {
     let file = next_file(files);
-    table_of_file(alloc, file, files)
+    table_of_file(alloc, like, file, files)
 }

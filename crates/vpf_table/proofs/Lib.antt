@@ -4,6 +4,7 @@ pub mod CellOf
 pub mod RowsOpen
 pub mod RowSteps
 pub mod OpenLemmas
+pub mod SharedHeaders
 pub mod RowWidths
 pub mod FixedWidth
 pub mod RowLaws

@@ -45,7 +45,7 @@ impl<'a> TableFile<'a> {
         let _end = self.bytes.len();
         let mut at = self.start;
         for k in 0..index.len() {
-            let past = next_row(&self.header, self.bytes, at, self.width);
+            let past = next_row(self.header.as_ref(), self.bytes, at, self.width);
             if !is_span(index.entry(k + 1), at, past) {
                 return Err(Place::in_index(8 + 8 * k as usize, Code::IndexRow));
             }
@@ -56,7 +56,7 @@ impl<'a> TableFile<'a> {
 
     /// The entries of an index of these rows: as many as there are rows, each its row's offset and length. Else its first
     /// fault.
-    pub(crate) fn own_entries(&self, index: &'a [u8]) -> Result<IndexView<'a>, Place>
+    pub(crate) fn own_entries<'i>(&self, index: &'i [u8]) -> Result<IndexView<'i>, Place>
         ensures own { IfOk result (λ entries. entries ≡ row_spans self.now.bytes self.now.grid) }
         ensures exact { Gives (λ entries. Some entries) result (own_entries self.now.grid.head.order (row_spans self.now.bytes self.now.grid)
             (Some index.now)) }

@@ -42,7 +42,7 @@ impl<'a> TableFile<'a> {
     {
         let mut at = self.start;
         for _i in 0..k {
-            at = sure_end(&self.header, self.bytes, at);
+            at = sure_end(self.header.as_ref(), self.bytes, at);
         }
         at
     }

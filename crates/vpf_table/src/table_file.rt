@@ -1,13 +1,20 @@
 //! A table in its file, before it has an index.
 
+ghost use Rattle.std.specs.Prelude.{◌≡◌, ◌≤◌, IfOk, Ok, length};
+ghost use Rattle.vpf_triplet.specs.Places.{Answers};
+ghost use Rattle.vpf_head.specs.Reading.{header_of};
+ghost use Rattle.vpf_table.specs.Reading.{table_of};
+
 use crate::counting::count_rows;
 use crate::fixed_rows::{FixedRows, fixed_rows, most_len};
 use crate::indexing::has_bytes;
 use crate::iteration::Rows;
+use crate::laws::cells_and_headers;
 use crate::row::RowView;
 use crate::walking::row_width;
 use std::alloc::Global;
 use std::marker::Model;
+use std::rc::Rc;
 use vpf_head::Header;
 use vpf_triplet::{Place, PlaceError};
 use vpf_varindex::IndexView;
@@ -16,7 +23,7 @@ use vpf_varindex::IndexView;
 /// variable-length index or with it. Contracts see it as the bytes of the file and the table that they spell.
 #[derive(Drop)]
 pub struct TableFile<'a> {
-    pub(crate) header: Header<'a>,
+    pub(crate) header: Rc<Header<'a>>,
     pub(crate) bytes: &'a [u8],
     pub(crate) start: usize,
     rows: u32,
@@ -35,8 +42,48 @@ impl<'a> Model for TableFile<'a> {
     ghost invariant = { IsRead };
 }
 
+/// The header that a file begins with, to be shared, and where it ends.
+fn header_in<'a>(alloc: Global, bytes: &'a [u8]) -> Result<(Rc<Header<'a>>, usize), PlaceError>
+    ensures inside { IfOk result (λ found. found.1 ≤ length bytes.now) }
+    ensures exact { Answers (λ found. (found.0.value, found.1)) result (header_of bytes.now) }
+{
+    let (header, start) = match Header::read(alloc, bytes) {
+        Ok(found) => found,
+        Err(error) => return Err(error),
+    };
+    match Rc::new(alloc, header) {
+        Ok(shared) => Ok((shared, start)),
+        Err(_full) => Err(PlaceError::NoMemory),
+    }
+}
+
+/// The table of a file that begins with this header, which ends at `start`.
+fn table_behind<'a>(
+    header: Rc<Header<'a>>,
+    bytes: &'a [u8],
+    start: usize,
+) -> Result<TableFile<'a>, PlaceError>
+    requires inside { start ≤ length bytes.now }
+    requires begun { header_of bytes.now ≡ Ok (header.value, start) }
+    ensures bytes { IfOk result (λ file. file.bytes ≡ bytes.now) }
+    ensures exact { Answers (λ file. file.grid) result (table_of bytes.now) }
+{
+    let width = row_width(header.as_ref());
+    let rows = match count_rows(header.as_ref(), bytes, start, width) {
+        Ok(rows) => rows,
+        Err(place) => return Err(PlaceError::Place(place)),
+    };
+    Ok(TableFile {
+        header,
+        bytes,
+        start,
+        rows,
+        width,
+    })
+}
+
 impl<'a> TableFile<'a> {
-    ghost use Rattle.std.specs.Prelude.{◌≡◌, ◌≤◌, ◌<◌, ◌^◌, ℕ, All, false, IfOk, IfSome, IsSome, IsTrue, Some, length, slice_get};
+    ghost use Rattle.std.specs.Prelude.{◌≡◌, ◌≤◌, ◌<◌, ◌^◌, ℕ, All, false, IfOk, IfSome, IsSome, IsTrue, Ok, Some, length, slice_get};
     ghost use Rattle.vpf_base.specs.Bytes.{IsBytes};
     ghost use Rattle.vpf_triplet.specs.Places.{Answers, Gives};
     ghost use Rattle.vpf_triplet.specs.declared.orders.Order.{Order};
@@ -55,29 +102,49 @@ impl<'a> TableFile<'a> {
         // The table, or the first fault, unless memory ran out.
         ensures exact { Answers (λ file. file.grid) result (table_of bytes.now) }
     {
-        let (header, start) = match Header::read(alloc, bytes) {
-            Ok(found) => found,
-            Err(error) => return Err(error),
-        };
-        let width = row_width(&header);
-        let rows = match count_rows(&header, bytes, start, width) {
-            Ok(rows) => rows,
-            Err(place) => return Err(PlaceError::Place(place)),
-        };
-        Ok(TableFile {
-            header,
-            bytes,
-            start,
-            rows,
-            width,
-        })
+        match header_in(alloc, bytes) {
+            Ok((header, start)) => table_behind(header, bytes, start),
+            Err(error) => Err(error),
+        }
+    }
+
+    /// This table's header, shared, and where it ends, where the bytes begin with it.
+    fn header_like(&self, bytes: &[u8]) -> Option<(Rc<Header<'a>>, usize)>
+        ensures inside { IfSome result (λ found. found.1 ≤ length bytes.now) }
+        ensures read { IfSome result (λ found. header_of bytes.now ≡ Ok (found.0.value, found.1)) }
+    {
+        cells_and_headers();
+        has_bytes(self.bytes);
+        if !bytes.starts_with(&self.bytes[..self.start]) {
+            return None;
+        }
+        match self.header.clone() {
+            Ok(header) => Some((header, self.start)),
+            Err(_many) => None,
+        }
+    }
+
+    /// The table of a file, exactly as `read` tells it. Where the file begins with the bytes of this table's header, that
+    /// header is shared, and no memory is taken.
+    pub(crate) fn read_like(
+        &self,
+        alloc: Global,
+        bytes: &'a [u8],
+    ) -> Result<TableFile<'a>, PlaceError>
+        ensures bytes { IfOk result (λ file. file.bytes ≡ bytes.now) }
+        ensures exact { Answers (λ file. file.grid) result (table_of bytes.now) }
+    {
+        match self.header_like(bytes) {
+            Some((header, start)) => table_behind(header, bytes, start),
+            None => TableFile::read(alloc, bytes),
+        }
     }
 
     /// The header.
     pub fn header(&self) -> &Header<'a>
         ensures { result.now ≡ self.now.grid.head }
     {
-        &self.header
+        self.header.as_ref()
     }
 
     /// The number of rows.
@@ -104,7 +171,7 @@ impl<'a> TableFile<'a> {
     }
 
     /// The entries of an index, which must be these rows' own. Else its first fault.
-    pub(crate) fn own_index(&self, index: &'a [u8]) -> Result<IndexView<'a>, Place>
+    pub(crate) fn own_index<'i>(&self, index: &'i [u8]) -> Result<IndexView<'i>, Place>
         ensures own { IfOk result (λ entries. entries ≡ row_spans self.now.bytes self.now.grid) }
         ensures exact { Gives (λ _. self.now.grid) result (opened_of self.now.bytes (Some index.now)) }
     {
@@ -121,7 +188,7 @@ impl<'a> TableFile<'a> {
         ensures width { length result ≡ length self.now.grid.head.columns }
     {
         let at = self.place_of_row(index, k);
-        RowView::new(&self.header, self.bytes, at)
+        RowView::new(self.header.as_ref(), self.bytes, at)
     }
 
     /// Each row once, in order.
@@ -130,14 +197,14 @@ impl<'a> TableFile<'a> {
         ensures width { All (λ row. length row ≡ length self.now.grid.head.columns) result }
         ensures fits { All (FitsRow self.now.grid.head.columns) result }
     {
-        Rows::new(&self.header, self.bytes, self.start, self.width)
+        Rows::new(self.header.as_ref(), self.bytes, self.start, self.width)
     }
 
     /// No fewer bytes than the rows have in canonical spelling, in either order.
     pub(crate) fn most_len(&self) -> usize
         ensures { (order : Order) → length (rows_text order self.now.grid.head.columns self.now.grid.rows) ≤ result }
     {
-        most_len(&self.header, self.bytes, self.start)
+        most_len(self.header.as_ref(), self.bytes, self.start)
     }
 
     /// The rows as they lie in the file, where they have one width, of some bytes: in their canonical spelling.
@@ -150,6 +217,6 @@ impl<'a> TableFile<'a> {
         ensures bytes { IfSome result (λ rows. rows.bytes.now ≡ rows_text self.now.grid.head.order self.now.grid.head.columns self.now.grid.rows) }
         ensures fits { IfSome result (λ rows. All (FitsRow self.now.grid.head.columns) self.now.grid.rows) }
     {
-        fixed_rows(&self.header, self.bytes, self.start, self.width)
+        fixed_rows(self.header.as_ref(), self.bytes, self.start, self.width)
     }
 }

@@ -1,6 +1,6 @@
 ghost use Rattle.std.specs.Prelude.{◌≡◌, ◌<◌};
 
-use crate::{Bound, ColumnAt, Limit, TableView};
+use crate::{Bound, ColumnAt, Limit, TableFile, TableView};
 use std::alloc::Global;
 use std::marker::Brand;
 use std::sync::ledger::{Blank, Ledger};
@@ -64,6 +64,23 @@ fn rows_in(alloc: Global, bytes: &[u8], index: Option<&[u8]>) -> Result<u32, Pla
     }
 }
 
+/// The rows of a table whose header may be another's, or where it is refused first.
+fn rows_like<'a>(alloc: Global, own: &TableView<'a>, bytes: &'a [u8]) -> Result<u32, Place> {
+    match own.read_like(alloc, bytes) {
+        Ok(file) => Ok(file.without_index().len()),
+        Err(PlaceError::Place(place)) => Err(place),
+        Err(PlaceError::NoMemory) => Ok(u32::MAX),
+    }
+}
+
+/// Where an index is refused first as that of a table, which is right.
+fn index_in(alloc: Global, bytes: &[u8], index: &[u8]) -> Result<(), Place> {
+    match TableFile::read(alloc, bytes) {
+        Ok(file) => file.check_index(index),
+        Err(_) => Ok(()),
+    }
+}
+
 #[test]
 fn counts_rows(rt: HostRuntime) -> Result<(), Fail> {
     let alloc = rt.alloc();
@@ -107,9 +124,35 @@ fn opens_with_an_index(rt: HostRuntime) -> Result<(), Fail> {
     ] {
         let want = want.map_err(|fault| Place::in_index(fault.0, fault.1));
         assert_eq!(rt; rows_in(alloc, bytes, Some(index)), want, "{index:?}");
+        assert_eq!(rt;
+            index_in(alloc, bytes, index),
+            want.map(|_| ()),
+            "{index:?}"
+        );
     }
     let cut = Place::in_table(39, Code::CellCut);
     assert_eq!(rt; rows_in(alloc, &VARYING[..43], Some(b"")), Err(cut));
+    Ok(())
+}
+
+#[test]
+fn reads_like_another_table(rt: HostRuntime) -> Result<(), Fail> {
+    let alloc = rt.alloc();
+    for (own, bytes, want) in [
+        (FIXED, FIXED, Ok(3)),
+        (FIXED, &FIXED[..52], Ok(1)),
+        (FIXED, &FIXED[..55], Err(Place::in_table(52, Code::CellCut))),
+        (
+            FIXED,
+            &FIXED[..45],
+            Err(Place::in_table(4, Code::HeaderCut)),
+        ),
+        (FIXED, VARYING, Ok(3)),
+        (VARYING, BIG, Ok(1)),
+    ] {
+        let own = TableView::open(alloc, own, None)?;
+        assert_eq!(rt; rows_like(alloc, &own, bytes), want, "{bytes:?}");
+    }
     Ok(())
 }
 

@@ -74,6 +74,22 @@ impl<'a> TableFile<'a> {
             Err(place) => Err(place),
         }
     }
+
+    /// Whether an index is this table's own, exactly as `with_index` tells.
+    pub fn check_index(&self, index: &[u8]) -> Result<(), Place>
+        ensures found { IfOk result (λ _. IsOpened self.now.grid self.now.bytes (Some index.now)) }
+        ensures exact { Gives (λ _. self.now.grid) result (opened_of self.now.bytes (Some index.now)) }
+        ensures refused { IfErr result (FirstFault self.now.bytes (Some index.now)) }
+    {
+        opened_is_spelled();
+        refusals_are_first_faults();
+        self.has_bytes();
+        has_bytes(index);
+        match self.own_index(index) {
+            Ok(_entries) => Ok(()),
+            Err(place) => Err(place),
+        }
+    }
 }
 
 impl<'a> TableView<'a> {
@@ -88,6 +104,7 @@ impl<'a> TableView<'a> {
     ghost use Rattle.vpf_head.specs.Head.{varies_in};
     ghost use Rattle.vpf_table.specs.Widths.{width_of};
     ghost use Rattle.vpf_table.specs.Opening.{opened_of};
+    ghost use Rattle.vpf_table.specs.Reading.{table_of};
     ghost use Rattle.vpf_table.specs.Spans.{IsOpened};
 
     /// The table of a file: its header, and one row after another up to the end. A given index must be this table's own.
@@ -136,6 +153,15 @@ impl<'a> TableView<'a> {
             Ok(table) => Ok(table),
             Err(place) => Err(PlaceError::Place(place)),
         }
+    }
+
+    /// The table of a file without its index, exactly as `TableFile::read` tells it. Where the file begins with the bytes of
+    /// this table's header, that header is shared, and no memory is taken.
+    pub fn read_like(&self, alloc: Global, bytes: &'a [u8]) -> Result<TableFile<'a>, PlaceError>
+        ensures bytes { IfOk result (λ file. file.bytes ≡ bytes.now) }
+        ensures exact { Answers (λ file. file.grid) result (table_of bytes.now) }
+    {
+        self.file.read_like(alloc, bytes)
     }
 
     /// The header.

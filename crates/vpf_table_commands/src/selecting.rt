@@ -142,12 +142,12 @@ fn rows_of_table<T: Tree>(
 }
 
 /// The reply over a table with its variable-length index.
-fn rows_with_index<T: Tree>(
+fn rows_with_index<'f, T: Tree>(
     alloc: Global,
     request: &RowsRequest,
-    file: TableFile<'_>,
+    file: TableFile<'f>,
     name: &str,
-    index: &[u8],
+    index: &'f [u8],
     tree: &mut T,
 ) -> Result<Reply, Halt>
     requires { name.now ≡ index_name request.now.file }
@@ -162,11 +162,12 @@ fn rows_with_index<T: Tree>(
     }
 }
 
-/// The reply over a table whose rows vary.
-fn rows_of_varying<T: Tree>(
+/// The reply over a table whose rows vary. Its index is kept for as long as the table, which finds its rows by it.
+fn rows_of_varying<'f, T: Tree>(
     alloc: Global,
     request: &RowsRequest,
-    file: TableFile<'_>,
+    file: TableFile<'f>,
+    kept: &'f mut Option<Vec<u8>>,
     tree: &mut T,
 ) -> Result<Reply, Halt>
     ensures told { (files : Files) → T.files tree.old ≡ Some files
@@ -175,8 +176,9 @@ fn rows_of_varying<T: Tree>(
     ensures files { T.files tree.new ≡ T.files tree.old }
 {
     let name = index_name(alloc, request.file.as_str())?;
-    match optional_file(alloc, tree, name.as_str())? {
-        Some(index) => rows_with_index(alloc, request, file, name.as_str(), &index, tree),
+    *kept = optional_file(alloc, tree, name.as_str())?;
+    match kept {
+        Some(index) => rows_with_index(alloc, request, file, name.as_str(), index, tree),
         None => rows_of_table(alloc, request, &file.without_index(), tree),
     }
 }
@@ -192,8 +194,11 @@ fn rows_bytes<T: Tree>(
     ensures fault { TellsFault result (Halt.Stop Stop.TreeFault) (T.faults tree.old) (T.faults tree.new) }
     ensures files { T.files tree.new ≡ T.files tree.old }
 {
+    let mut index = None;
     match TableFile::read(alloc, bytes) {
-        Ok(file) if file.header().varies() => rows_of_varying(alloc, request, file, tree),
+        Ok(file) if file.header().varies() => rows_of_varying(
+            alloc, request, file, &mut index, tree,
+        ),
         Ok(file) => rows_of_table(alloc, request, &file.without_index(), tree),
         Err(PlaceError::Place(place)) => Ok(fault(alloc, request.file.as_str(), place)?),
         Err(PlaceError::NoMemory) => Err(Halt::Stop(Stop::NoMemory)),

@@ -38,7 +38,7 @@ fn own_index(table: TableFile<'_>, name: Name, index: Vec<u8>) -> Result<File, L
     ensures no_fault { ¬ IsErrOf result LoadStop.Fault }
 {
     opened_is_read();
-    if let Err(place) = table.with_index(&index) {
+    if let Err(place) = table.check_index(&index) {
         return Err(LoadStop::Place(name, place));
     }
     Ok(File {

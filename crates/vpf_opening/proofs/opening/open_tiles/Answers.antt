@@ -1,8 +1,13 @@
 use Rattle.std.proofs.Common.{◌≡◌, ℕ, suc, ◌+◌, ◌<◌, ◌∷◌, [], arith, length-append}
 use Rattle.std.proofs.lemmas.List.Elements.{All-push}
 use Rattle.vpf_opening.specs.Opened.{placed_views}
-use Rattle.vpf_opening.proofs.LoopLemmas.{all_opened, next_opens, one_more}
+use Rattle.vpf_opening.proofs.LoopLemmas.{all_opened, next_opens, one_more, path_there}
 use Rattle.vpf_opening.proofs.opening.open_tiles.Goals as goal
+
+pub unreachable-requires : goal.unreachable-requires
+unreachable-requires c =
+    let l = c.loop-t in
+    path_there c.args.paths.now l.t (l.t + 1) (omega arith) (omega (arith, c.loop-t-test.true, c.len-t-end.ensures.value)) c.in_default.ensures
 
 pub open_tile-requires : goal.open_tile-requires
 open_tile-requires c =

@@ -5,6 +5,6 @@ use Rattle.vpf_loading.proofs.loading.tables.own_index.Goals as goal
 pub returns-clause-are : goal.returns-clause-are
 returns-clause-are c of named read =
     let table = c.args.table in
-    let again = c.opened_is_read.ensures table.bytes (Some c.deref.result.now) c.in_default.field-0 c.in_default.ensures.exact in
-    indexed of c.args.name table.bytes c.deref.result.now c.new.result c.in_default.field-0 table.grid named
+    let again = c.opened_is_read.ensures table.bytes (Some c.deref.result.now) table.grid c.in_default.ensures.exact in
+    indexed of c.args.name table.bytes c.deref.result.now c.new.result table.grid table.grid named
     (c.new.ensures ∙ sym c.deref.ensures.value) c.requires read again c.in_default.ensures.found

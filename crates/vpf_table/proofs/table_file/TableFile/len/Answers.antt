@@ -6,4 +6,4 @@ use Rattle.vpf_table.proofs.table_file.TableFile.len.Goals as goal
 pub returns-clause-most : goal.returns-clause-most
 returns-clause-most c =
     let t = c.self.inside in
-    omega (arith, c.self.invariant.count, rows_few most_rows t.header.order t.header.columns t.bytes.now t.start (rw c.self.invariant.read refl))
+    omega (arith, c.self.invariant.count, rows_few most_rows t.header.value.order t.header.value.columns t.bytes.now t.start (rw c.self.invariant.read refl))

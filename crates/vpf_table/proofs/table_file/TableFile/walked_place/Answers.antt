@@ -10,30 +10,30 @@ use Rattle.vpf_table.proofs.table_file.TableFile.walked_place.Goals as goal
 pub sure_end-at-requires-clause-read : goal.sure_end-at-requires-clause-read
 sure_end-at-requires-clause-read c =
     let t = c.self.inside in
-    let rows = rows_of (rows_at most_rows t.header.order t.header.columns t.bytes.now t.start) in
-    let o = t.header.order in
-    let cs = t.header.columns in
+    let rows = rows_of (rows_at most_rows t.header.value.order t.header.value.columns t.bytes.now t.start) in
+    let o = t.header.value.order in
+    let cs = t.header.value.columns in
     let bytes = t.bytes.now in
     let within = rw (← c.self.view_is) at c.requires in
-    (row_step o cs bytes c.loop-i.at (most_rows - c.loop-i._i) (most_rows - (c.loop-i._i + 1)) (past_of (row_at o cs bytes c.loop-i.at)) c.loop-i.invariant.read (omega (arith, within, ap length c.loop-i.invariant.rest, length-drop c.loop-i._i rows)) (omega arith) refl).0
+    rw c.as_ref.ensures (row_step o cs bytes c.loop-i.at (most_rows - c.loop-i._i) (most_rows - (c.loop-i._i + 1)) (past_of (row_at o cs bytes c.loop-i.at)) c.loop-i.invariant.read (omega (arith, within, ap length c.loop-i.invariant.rest, length-drop c.loop-i._i rows)) (omega arith) refl).0
 
 pub loop-i-preserved : goal.loop-i-preserved
 loop-i-preserved c =
     let t = c.self.inside in
-    let rows = rows_of (rows_at most_rows t.header.order t.header.columns t.bytes.now t.start) in
-    let o = t.header.order in
-    let cs = t.header.columns in
+    let rows = rows_of (rows_at most_rows t.header.value.order t.header.value.columns t.bytes.now t.start) in
+    let o = t.header.value.order in
+    let cs = t.header.value.columns in
     let bytes = t.bytes.now in
     let within = rw (← c.self.view_is) at c.requires in
-    let s = row_step o cs bytes c.loop-i.at (most_rows - c.loop-i._i) (most_rows - (c.loop-i._i + 1)) c.sure_end-at.result c.loop-i.invariant.read (omega (arith, within, ap length c.loop-i.invariant.rest, length-drop c.loop-i._i rows)) (omega arith) c.sure_end-at.ensures.value in
+    let s = row_step o cs bytes c.loop-i.at (most_rows - c.loop-i._i) (most_rows - (c.loop-i._i + 1)) c.sure_end-at.result c.loop-i.invariant.read (omega (arith, within, ap length c.loop-i.invariant.rest, length-drop c.loop-i._i rows)) (omega arith) (rw c.as_ref.ensures at c.sure_end-at.ensures.value) in
     record { inside = c.sure_end-at.ensures.inside; read = s.1; rest = sym (front rows c.loop-i._i _ _ (sym c.loop-i.invariant.rest ∙ s.2)).1 }
 
 pub returns : goal.returns
 returns c =
     let t = c.self.inside in
-    let rows = rows_of (rows_at most_rows t.header.order t.header.columns t.bytes.now t.start) in
-    let o = t.header.order in
-    let cs = t.header.columns in
+    let rows = rows_of (rows_at most_rows t.header.value.order t.header.value.columns t.bytes.now t.start) in
+    let o = t.header.value.order in
+    let cs = t.header.value.columns in
     let bytes = t.bytes.now in
     let within = rw (← c.self.view_is) at c.requires in
     let s = row_step o cs bytes c.loop-i.at (most_rows - c.loop-i._i) (most_rows - (c.loop-i._i + 1)) (past_of (row_at o cs bytes c.loop-i.at)) c.loop-i.invariant.read (omega (arith, within, ap length c.loop-i.invariant.rest, length-drop c.loop-i._i rows)) (omega arith) refl in
