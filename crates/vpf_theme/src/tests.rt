@@ -249,7 +249,7 @@ fn told(alloc: Global, finding: &Finding<'_>) -> Result<String, Fail> {
 }
 
 /// What is found in the first column of a table, in words.
-fn answer(alloc: Global, bytes: &[u8], table: &TableView<'_>) -> Result<String, Fail> {
+fn answer<'a>(alloc: Global, bytes: &'a [u8], table: &TableView<'a>) -> Result<String, Fail> {
     if table.header().len() == 0 {
         return Ok(format!(in alloc; "no column")?);
     }
@@ -265,7 +265,6 @@ fn answer(alloc: Global, bytes: &[u8], table: &TableView<'_>) -> Result<String, 
 #[test]
 fn agrees_or_tells_the_first_finding(rt: HostRuntime) -> Result<(), Fail> {
     let alloc = rt.alloc();
-    let table = TableView::open(alloc, TABLE, None)?;
     for (file, at, patch, want) in [
         (LIST, 0, b"".as_slice(), "agrees true"),
         (BITMAP, 0, b"", "agrees true"),
@@ -295,6 +294,7 @@ fn agrees_or_tells_the_first_finding(rt: HostRuntime) -> Result<(), Fail> {
         (TWICE, 0, b"", "1 1 c: Number(9), Number(9)"),
     ] {
         let bytes = patched(alloc, file, at, patch)?;
+        let table = TableView::open(alloc, TABLE, None)?;
         assert_eq!(rt;
             answer(alloc, &bytes, &table)?.as_str(),
             want,

@@ -64,13 +64,18 @@ fn builds_indexes(rt: HostRuntime) -> Result<(), Fail> {
         assert!(rt; table.header().len() > 0);
         let index = build(alloc, &table, name, 0, form)?;
         assert_eq!(rt; index.as_slice(), want);
-        assert!(rt; is_of_first_column(alloc, &index, &table)?);
+        let read_again = TableView::open(alloc, bytes, None)?;
+        assert!(rt; is_of_first_column(alloc, &index, &read_again)?);
     }
     Ok(())
 }
 
 /// Whether `index` is read, and is of the first column of `table`.
-fn is_of_first_column(alloc: Global, index: &[u8], table: &TableView<'_>) -> Result<bool, Fail> {
+fn is_of_first_column<'a>(
+    alloc: Global,
+    index: &'a [u8],
+    table: &TableView<'a>,
+) -> Result<bool, Fail> {
     if table.header().len() == 0 {
         return Ok(false);
     }
