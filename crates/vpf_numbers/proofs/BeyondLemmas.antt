@@ -38,6 +38,10 @@ beyond_same at A name low k column cell allowed (Some t) (Some n) =
 pub finds_later : {V : Type 0} (r : Result V Finding) (a b : Option Disagreement) → a ≡ None → Finds r b → Finds r (a or b)
 finds_later r a b none finds = rw none finds
 
+-- the second of three lines is what is found, where the first says nothing
+pub found_second : (a b later : Option Disagreement) (found : Disagreement) → a ≡ None → b ≡ Some found → (a or b or later) ≡ Some found
+found_second a b later found none is = rw (none, is) refl
+
 -- the lines on a reference, by what the calls on its parts tell of its cell
 pub cross_told : {V : Type 0} (r : Result V Finding) (at : TableAt) (A : Around) (name : TableName) (low last k : ℕ) (column : RoleAt) (allowed : Value → Bool) (seen cell : Value) (there : Option ℕ) (may : Bool)
     → seen ≡ cell → there ≡ rows_there A name (reference_in seen).tile → may ≡ allowed seen

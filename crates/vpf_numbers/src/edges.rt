@@ -8,7 +8,7 @@ ghost use Rattle.vpf_numbers.specs.Around.{columns_in_view, model_edg};
 ghost use Rattle.vpf_numbers.specs.ColumnLines.{beside_finding, roles_finding};
 ghost use Rattle.vpf_findings.specs.declared.finding.TableName.TheVariants as names;
 ghost use Rattle.vpf_numbers.specs.Beyond.{named_cross_lines};
-ghost use Rattle.vpf_numbers.specs.RowLines.{edge_row_lines, mark_line};
+ghost use Rattle.vpf_numbers.specs.RowLines.{edge_face_lines, edge_node_lines, edge_row_lines, mark_line};
 
 use crate::around::Around;
 use crate::carried::check_beside;
@@ -18,7 +18,7 @@ use std::alloc::Global;
 use vpf_findings::{FindError, Finding, TableName};
 use vpf_head::Header;
 use vpf_prims::{EdgeColumns, Ranges, TableAt, check_id, edge_roles};
-use vpf_table::{RowView, TableView};
+use vpf_table::{RowView, RowWalk, TableView};
 
 /// The wings and the mark of row `k` are right.
 fn check_wings<'a>(
@@ -26,36 +26,59 @@ fn check_wings<'a>(
     around: &Around<'_, 'a>,
     last: u32,
     k: u32,
-    row: &RowView<'_, 'a>,
+    row: &mut RowWalk<'_, 'a>,
 ) -> Result<(), Finding<'a>>
-    requires { AreWithin (length row.now) columns.now }
-    ensures { Finds result (named_cross_lines columns.now.at around.now names.Edg last k columns.now.right_edge row.now
-        or named_cross_lines columns.now.at around.now names.Edg last k columns.now.left_edge row.now
-        or mark_line columns.now.at k columns.now.tile_line row.now) }
+    requires { AreWithin (length row.old) columns.now }
+    ensures first { Finds result (named_cross_lines columns.now.at around.now names.Edg last k columns.now.right_edge row.old
+        or named_cross_lines columns.now.at around.now names.Edg last k columns.now.left_edge row.old
+        or mark_line columns.now.at k columns.now.tile_line row.old) }
+    ensures same { row.new ≡ row.old }
 {
     let at = columns.at();
-    check_cross(
-        at,
-        around,
-        TableName::Edg,
-        last,
-        k,
-        &columns.right_edge(),
-        row,
-    )?;
-    check_cross(
-        at,
-        around,
-        TableName::Edg,
-        last,
-        k,
-        &columns.left_edge(),
-        row,
-    )?;
+    let [right, left] = [columns.right_edge(), columns.left_edge()];
+    check_cross(at, around, TableName::Edg, last, k, &right, row)?;
+    check_cross(at, around, TableName::Edg, last, k, &left, row)?;
     check_mark(at, k, &columns.tile_line(), row)
 }
 
-/// The id, the references and the mark of row `k` are right.
+/// The faces of row `k`, its wings and its mark are right.
+fn check_sides<'a>(
+    columns: &EdgeColumns<'a>,
+    around: &Around<'_, 'a>,
+    most: Ranges,
+    k: u32,
+    row: &mut RowWalk<'_, 'a>,
+) -> Result<(), Finding<'a>>
+    requires { AreWithin (length row.old) columns.now }
+    ensures first { Finds result (edge_face_lines around.now columns.now most k row.old) }
+    ensures same { row.new ≡ row.old }
+{
+    let at = columns.at();
+    check_face(at, around, most.faces, k, &columns.right_face(), row)?;
+    check_face(at, around, most.faces, k, &columns.left_face(), row)?;
+    check_wings(columns, around, most.edges, k, row)
+}
+
+/// The nodes of row `k`, its faces, its wings and its mark are right.
+fn check_ends<'a>(
+    columns: &EdgeColumns<'a>,
+    around: &Around<'_, 'a>,
+    most: Ranges,
+    k: u32,
+    row: &mut RowWalk<'_, 'a>,
+) -> Result<(), Finding<'a>>
+    requires { AreWithin (length row.old) columns.now }
+    ensures first { Finds result (edge_node_lines around.now columns.now most k row.old) }
+    ensures same { row.new ≡ row.old }
+{
+    let at = columns.at();
+    let [start, end] = [columns.start_node(), columns.end_node()];
+    check_cross(at, around, TableName::Cnd, most.nodes, k, &start, row)?;
+    check_cross(at, around, TableName::Cnd, most.nodes, k, &end, row)?;
+    check_sides(columns, around, most, k, row)
+}
+
+/// The id, the references and the mark of row `k` are right. The row is passed once.
 fn check_row<'a>(
     columns: &EdgeColumns<'a>,
     around: &Around<'_, 'a>,
@@ -66,29 +89,8 @@ fn check_row<'a>(
     requires { AreWithin (length row.now) columns.now }
     ensures { Finds result (edge_row_lines around.now columns.now most k row.now) }
 {
-    let at = columns.at();
-    check_id(at, k, &columns.id(), row)?;
-    check_cross(
-        at,
-        around,
-        TableName::Cnd,
-        most.nodes,
-        k,
-        &columns.start_node(),
-        row,
-    )?;
-    check_cross(
-        at,
-        around,
-        TableName::Cnd,
-        most.nodes,
-        k,
-        &columns.end_node(),
-        row,
-    )?;
-    check_face(at, around, most.faces, k, &columns.right_face(), row)?;
-    check_face(at, around, most.faces, k, &columns.left_face(), row)?;
-    check_wings(columns, around, most.edges, k, row)
+    check_id(columns.at(), k, &columns.id(), row)?;
+    check_ends(columns, around, most, k, &mut row.walk())
 }
 
 /// The rows of edges are right.

@@ -12,10 +12,10 @@ ghost use Rattle.vpf_numbers.specs.Beyond.{beyond_there, named_cross_lines};
 use crate::around::Around;
 use vpf_findings::{Finding, Seen, SeenWord, TableName};
 use vpf_prims::{
-    RoleColumn, TableAt, cell_at, cell_finding, is_from, number_in, number_in_cell, reference_in,
-    stays,
+    RoleColumn, TableAt, cell_at, cell_finding, is_from, next_cell, number_in, number_in_cell,
+    reference_in, stays,
 };
-use vpf_table::RowView;
+use vpf_table::{RowView, RowWalk};
 use vpf_value::Cell;
 
 /// A reference in row `k` stays within its tile, and has a number there, one of `low` to `last`.
@@ -43,15 +43,16 @@ pub(crate) fn check_mark<'a>(
     at: TableAt,
     k: u32,
     column: &RoleColumn<'a>,
-    row: &RowView<'_, 'a>,
+    row: &mut RowWalk<'_, 'a>,
 ) -> Result<(), Finding<'a>>
-    requires { IsWithin (length row.now) (role_at column.now) }
-    ensures { Finds result (mark_line at k (role_at column.now) row.now) }
+    requires { IsWithin (length row.old) (role_at column.now) }
+    ensures first { Finds result (mark_line at k (role_at column.now) row.old) }
+    ensures same { row.new ≡ row.old }
 {
     if column.place.is_none() {
         return Ok(());
     }
-    let cell = cell_at(row, column);
+    let cell = next_cell(row, column);
     if is_from(0, 1, number_in(cell)) {
         return Ok(());
     }
@@ -100,12 +101,13 @@ pub(crate) fn check_cross<'a>(
     last: u32,
     k: u32,
     column: &RoleColumn<'a>,
-    row: &RowView<'_, 'a>,
+    row: &mut RowWalk<'_, 'a>,
 ) -> Result<(), Finding<'a>>
-    requires { IsWithin (length row.now) (role_at column.now) }
-    ensures { Finds result (named_cross_lines at around.now name last k (role_at column.now) row.now) }
+    requires { IsWithin (length row.old) (role_at column.now) }
+    ensures first { Finds result (named_cross_lines at around.now name last k (role_at column.now) row.old) }
+    ensures same { row.new ≡ row.old }
 {
-    let cell = cell_at(row, column);
+    let cell = next_cell(row, column);
     number_in_cell(at, 1, last, k, column, cell)?;
     let there = around.rows(name, reference_in(cell).tile);
     check_beyond(at, there, 1, k, column, cell, around.is_tiled())
@@ -128,12 +130,13 @@ pub(crate) fn check_face<'a>(
     last: u32,
     k: u32,
     column: &RoleColumn<'a>,
-    row: &RowView<'_, 'a>,
+    row: &mut RowWalk<'_, 'a>,
 ) -> Result<(), Finding<'a>>
-    requires { IsWithin (length row.now) (role_at column.now) }
-    ensures { Finds result (face_lines at around.now last k (role_at column.now) row.now) }
+    requires { IsWithin (length row.old) (role_at column.now) }
+    ensures first { Finds result (face_lines at around.now last k (role_at column.now) row.old) }
+    ensures same { row.new ≡ row.old }
 {
-    let cell = cell_at(row, column);
+    let cell = next_cell(row, column);
     number_in_cell(at, 1, last, k, column, cell)?;
     let reference = reference_in(cell);
     let there = around.rows(TableName::Fac, reference.tile);

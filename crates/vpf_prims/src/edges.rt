@@ -9,7 +9,7 @@ ghost use Rattle.vpf_prims.specs.Edges.{AreWithin, moved_to, edge_columns, edge_
 use crate::laws::rows_have_wings;
 use crate::lines::{check_id, number_from};
 use crate::placing::{RoleColumn, TableAt, place_roles};
-use crate::reading::{cell_at, is_line, number_of, reference_in};
+use crate::reading::{is_line, next_cell, next_reference};
 use crate::roles::edge_roles;
 use crate::rows::{Edge, EdgeRow};
 use std::alloc::Global;
@@ -175,14 +175,15 @@ impl<'a> EdgeColumns<'a> {
         requires { AreWithin (length row.now) self.now }
         ensures { result ≡ edge_row self.now row.now }
     {
+        let mut walk = row.walk();
         EdgeRow {
-            start_node: reference_in(cell_at(row, &self.start_node)),
-            end_node: reference_in(cell_at(row, &self.end_node)),
-            right_face: reference_in(cell_at(row, &self.right_face)),
-            left_face: reference_in(cell_at(row, &self.left_face)),
-            right_edge: reference_in(cell_at(row, &self.right_edge)),
-            left_edge: reference_in(cell_at(row, &self.left_edge)),
-            line: is_line(cell_at(row, &self.tile_line)),
+            start_node: next_reference(&mut walk, &self.start_node),
+            end_node: next_reference(&mut walk, &self.end_node),
+            right_face: next_reference(&mut walk, &self.right_face),
+            left_face: next_reference(&mut walk, &self.left_face),
+            right_edge: next_reference(&mut walk, &self.right_edge),
+            left_edge: next_reference(&mut walk, &self.left_edge),
+            line: is_line(next_cell(&mut walk, &self.tile_line)),
         }
     }
 
@@ -191,14 +192,7 @@ impl<'a> EdgeColumns<'a> {
         requires { AreWithin (length row.now) self.now }
         ensures { result ≡ edge_of self.now row.now }
     {
-        Edge {
-            start_node: number_of(row, &self.start_node),
-            end_node: number_of(row, &self.end_node),
-            right_face: number_of(row, &self.right_face),
-            left_face: number_of(row, &self.left_face),
-            right_edge: number_of(row, &self.right_edge),
-            left_edge: number_of(row, &self.left_edge),
-        }
+        Edge::from(self.row(row))
     }
 
     /// The numbers of row `k`, where its id is `k` and they are in range, or the first finding.

@@ -3,13 +3,11 @@
 ghost use Rattle.std.specs.Prelude.{◌≡◌, length};
 ghost use Rattle.vpf_value.specs.Values.{NumberOf, view};
 ghost use Rattle.vpf_prims.specs.Columns.{IsWithin, role_at};
-ghost use Rattle.vpf_prims.specs.Edges.{id_at};
 ghost use Rattle.vpf_prims.specs.Reading.{natural_in};
 ghost use Rattle.vpf_prims.specs.References.{cell_at, is_from, is_line, is_same, reference_in, signed_in, stays};
 
 use crate::placing::RoleColumn;
-use crate::rows::id_of;
-use vpf_table::RowView;
+use vpf_table::{RowView, RowWalk};
 use vpf_triplet::Triplet;
 use vpf_value::Cell;
 
@@ -92,12 +90,25 @@ pub fn cell_at<'a>(row: &RowView<'_, 'a>, column: &RoleColumn<'_>) -> Cell<'a>
     }
 }
 
-/// The number that a row refers to in its own tile, 0 where it refers to none.
-pub fn number_of(row: &RowView<'_, '_>, column: &RoleColumn<'_>) -> u32
-    requires { IsWithin (length row.now) (role_at column.now) }
-    ensures { result ≡ id_at (role_at column.now) row.now }
+/// The same of a row that is walked: columns in their order are passed once.
+pub fn next_cell<'a>(walk: &mut RowWalk<'_, 'a>, column: &RoleColumn<'_>) -> Cell<'a>
+    requires { IsWithin (length walk.old) (role_at column.now) }
+    ensures cell { view result ≡ cell_at walk.old (role_at column.now).place }
+    ensures same { walk.new ≡ walk.old }
 {
-    id_of(reference_in(cell_at(row, column)))
+    match column.place {
+        Some(place) => walk.cell(place),
+        None => Cell::Null,
+    }
+}
+
+/// The reference of a row that is walked.
+pub(crate) fn next_reference(walk: &mut RowWalk<'_, '_>, column: &RoleColumn<'_>) -> Triplet
+    requires { IsWithin (length walk.old) (role_at column.now) }
+    ensures reference { result ≡ reference_in (cell_at walk.old (role_at column.now).place) }
+    ensures same { walk.new ≡ walk.old }
+{
+    reference_in(next_cell(walk, column))
 }
 
 /// Whether a number is that of a row.

@@ -1,10 +1,10 @@
 //! A tile of a coverage, or an untiled coverage, seen in its files.
 
-ghost use Rattle.std.specs.Prelude.{◌≡◌, ◌≤◌, IfOk, length, map};
-ghost use Rattle.vpf_prims.specs.Edges.{AreWithin, edge_row};
+ghost use Rattle.std.specs.Prelude.{◌≡◌, ◌≤◌};
 ghost use Rattle.vpf_prims.specs.Tables.{files_of_grid};
 
 use crate::citing::Citation;
+use crate::edge_lists::{numbers_in, numbers_of, rows_of};
 use crate::edges::EdgeColumns;
 use crate::placing::{RoleColumn, TableAt};
 use crate::rows::{Edge, EdgeRow};
@@ -36,22 +36,6 @@ impl<'a> Model for Tile<'a> {
     ghost view = { tables_of };
 
     ghost invariant = { IsTile };
-}
-
-/// What the rows of a table of edges say, in their order.
-fn rows_of<'a>(
-    alloc: Global,
-    columns: &EdgeColumns<'a>,
-    table: &TableView<'a>,
-) -> Result<Vec<EdgeRow>, AllocError>
-    requires { AreWithin (length table.now.head.columns) columns.now }
-    ensures { IfOk result (λ rows. rows.items ≡ map (edge_row columns.now) table.now.rows) }
-{
-    let mut rows = Vec::with_capacity(alloc, table.len() as usize)?;
-    for row in table.rows() {
-        rows.push(columns.row(&row))?;
-    }
-    Ok(rows)
 }
 
 /// How many files a table is: its own, and its index where its rows vary.
@@ -213,15 +197,15 @@ impl<'a> Tile<'a> {
         }
     }
 
-    /// The edges by the numbers of their nodes, faces and wings in the tile. The rows are passed once.
+    /// The edges by the numbers of their nodes, faces and wings in the tile. The rows are passed once, and not where the tile keeps what
+    /// they say.
     pub fn own_edges(&self, alloc: Global) -> Result<Vec<Edge>, AllocError>
         ensures { IfOk result (λ edges. edges.items ≡ own_edges (primitives_of self.now.tables)) }
     {
-        let mut edges = Vec::with_capacity(alloc, self.views.edg.len() as usize)?;
-        for row in self.views.edg.rows() {
-            edges.push(self.columns.edges.numbers(&row))?;
+        match &self.kept {
+            Some(rows) => numbers_in(alloc, rows),
+            None => numbers_of(alloc, &self.columns.edges, &self.views.edg),
         }
-        Ok(edges)
     }
 
     /// The columns of edges, whose findings are in the tile of this number.

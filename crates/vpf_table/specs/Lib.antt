@@ -8,6 +8,7 @@ pub mod FileTables
 pub mod TableFiles
 pub mod Views
 pub mod RowViews
+pub mod RowWalks
 pub mod CellsLeft
 pub mod RowsLeft
 pub mod Limits

@@ -18,7 +18,7 @@ mod walking;
 pub use fixed_rows::FixedRows;
 pub use iteration::Rows;
 pub use limit::{Bound, Limit};
-pub use row::{Cells, RowView};
+pub use row::{Cells, RowView, RowWalk};
 pub use table_file::TableFile;
 pub use view::TableView;
 pub use vpf_findings::{ColumnAt, FindError, Finding, OwnFinding, Seen, SeenWord, TableName};

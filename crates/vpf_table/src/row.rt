@@ -1,8 +1,9 @@
 //! A row, seen in its file.
 
-ghost use Rattle.std.specs.Prelude.{◌≡◌, ◌≤◌, ◌<◌, Some, IsOk, length, slice_get};
+ghost use Rattle.std.specs.Prelude.{◌≡◌, ◌≤◌, ◌<◌, ◌+◌, Some, IsOk, length, slice_get};
 ghost use Rattle.vpf_value.specs.Values.{view};
 ghost use Rattle.vpf_table.specs.Reading.{row_at};
+ghost use Rattle.vpf_table.specs.RowWalks.{IsLeft};
 ghost use Rattle.vpf_table.specs.Walking.{row_of};
 
 use crate::walking::{sure_cell, sure_past};
@@ -30,19 +31,31 @@ impl<'t, 'a> Model for RowView<'t, 'a> {
     ghost invariant = { IsRowRead };
 }
 
-fn cell_of_row<'a>(header: &Header<'_>, bytes: &'a [u8], at: usize, c: usize) -> Cell<'a>
+/// The cell in column `c` of the row that begins at `begin`, and the offset past it, where that of an earlier column, or of the same one,
+/// begins at `at`.
+fn cell_behind<'a>(
+    header: &Header<'_>,
+    bytes: &'a [u8],
+    begin: usize,
+    column: usize,
+    at: usize,
+    c: usize,
+) -> (Cell<'a>, usize)
     requires inside { at ≤ length bytes.now }
-    requires read { IsOk (row_at header.now.order header.now.columns bytes.now at) }
-    requires column { c < length (row_of (row_at header.now.order header.now.columns bytes.now at)) }
-    ensures { slice_get (row_of (row_at header.now.order header.now.columns bytes.now at)) c ≡ Some (view result) }
+    requires row { IsOk (row_at header.now.order header.now.columns bytes.now begin) }
+    requires left { IsLeft header.now.order header.now.columns bytes.now (row_at header.now.order header.now.columns bytes.now begin) column at }
+    requires behind { column ≤ c }
+    requires within { c < length (row_of (row_at header.now.order header.now.columns bytes.now begin)) }
+    ensures cell { slice_get (row_of (row_at header.now.order header.now.columns bytes.now begin)) c ≡ Some (view result.0) }
+    ensures left { IsLeft header.now.order header.now.columns bytes.now (row_at header.now.order header.now.columns bytes.now begin) (c + 1) result.1 }
+    ensures inside { result.1 ≤ length bytes.now }
 {
     let order = header.order();
     let mut here = at;
-    for i in 0..c {
+    for i in column..c {
         here = sure_past(order, header.at(i), bytes, here);
     }
-    let (cell, _) = sure_cell(order, header.at(c), bytes, here);
-    cell
+    sure_cell(order, header.at(c), bytes, here)
 }
 
 impl<'t, 'a> RowView<'t, 'a> {
@@ -67,7 +80,20 @@ impl<'t, 'a> RowView<'t, 'a> {
         requires { c < length self.now }
         ensures { slice_get self.now c ≡ Some (view result) }
     {
-        cell_of_row(self.header, self.bytes, self.at, c)
+        cell_behind(self.header, self.bytes, self.at, 0, self.at, c).0
+    }
+
+    /// The same row, to be asked for one cell after another.
+    pub fn walk(&self) -> RowWalk<'t, 'a>
+        ensures { result ≡ self.now }
+    {
+        RowWalk {
+            header: self.header,
+            bytes: self.bytes,
+            begin: self.at,
+            column: 0,
+            at: self.at,
+        }
     }
 
     /// The cells in the order of their columns, each decoded once.
@@ -80,6 +106,52 @@ impl<'t, 'a> RowView<'t, 'a> {
             at: self.at,
             column: 0,
         }
+    }
+}
+
+/// A row whose cells are asked for one after another: one that stands behind the last is found from there on, and one before it from the
+/// first. Contracts see it as the list of the row's values.
+#[derive(Drop)]
+pub struct RowWalk<'t, 'a> {
+    header: &'t Header<'a>,
+    bytes: &'a [u8],
+    begin: usize,
+    column: usize,
+    at: usize,
+}
+
+impl<'t, 'a> Model for RowWalk<'t, 'a> {
+    ghost use Rattle.vpf_table.specs.Grid.{Row};
+
+    ghost Value = { Row };
+
+    ghost use Rattle.vpf_table.specs.RowWalks.{cells_walked, IsWalked};
+
+    ghost view = { cells_walked };
+
+    ghost invariant = { IsWalked };
+}
+
+impl<'t, 'a> RowWalk<'t, 'a> {
+    ghost use Rattle.std.specs.Prelude.{◌≡◌, ◌<◌, Some, length, slice_get};
+    ghost use Rattle.vpf_value.specs.Values.{view};
+
+    /// The cell in column `c`, counted from 0.
+    pub fn cell(&mut self, c: usize) -> Cell<'a>
+        requires { c < length self.old }
+        ensures value { slice_get self.old c ≡ Some (view result) }
+        ensures same { self.new ≡ self.old }
+    {
+        let (column, at) = if c < self.column {
+            (0, self.begin)
+        } else {
+            (self.column, self.at)
+        };
+        let (cell, past) = cell_behind(self.header, self.bytes, self.begin, column, at, c);
+        let _columns = self.header.len();
+        self.column = c + 1;
+        self.at = past;
+        cell
     }
 }
 

@@ -199,7 +199,9 @@ fn row_is<L: Ledger>(blank: Blank, table: &TableView<'_>, k: u32, want: &[u8]) -
     let mut steps = Steps::<L>::new(blank);
     let row = table.row(k, &mut steps);
     let last = table.header().len() - 1;
-    text_in(row.cell(last)) == want
+    let mut walk = row.walk();
+    let [first, again] = [walk.cell(last), walk.cell(last)];
+    text_in(row.cell(last)) == want && text_in(first) == want && text_in(again) == want
 }
 
 fn has_row(table: &TableView<'_>, k: u32, want: &[u8]) -> bool {

@@ -7,10 +7,10 @@ use Rattle.vpf_numbers.specs.Around.{rows_there}
 use Rattle.vpf_numbers.proofs.BeyondLemmas.{cross_told}
 use Rattle.vpf_numbers.proofs.lines.check_cross.Goals as goal
 
-pub returns : goal.returns
-returns c =
+pub returns-clause-first : goal.returns-clause-first
+returns-clause-first c =
     let A = c.args.around.now in
     let column = role_at c.args.column.now in
     let there = c.rows-there.ensures ∙ ap (λ (r : Triplet). rows_there A c.args.name r.tile) c.reference_in.ensures in
-    cross_told c.check_beyond.result c.args.at A c.args.name 1 c.args.last c.args.k column (λ (v : Value). A.is_tiled) (view c.cell_at-cell.result) (cell_at c.args.row.now column.place)
-    c.rows-there.result c.is_tiled.result c.cell_at-cell.ensures there c.is_tiled.ensures c.in_ok-number_in_cell.ensures.first c.check_beyond.ensures
+    cross_told c.check_beyond.result c.args.at A c.args.name 1 c.args.last c.args.k column (λ (v : Value). A.is_tiled) (view c.next_cell-cell.result) (cell_at c.args.row.now column.place)
+    c.rows-there.result c.is_tiled.result c.next_cell-cell.ensures.cell there c.is_tiled.ensures c.in_ok-number_in_cell.ensures.first c.check_beyond.ensures

@@ -11,11 +11,11 @@ use Rattle.vpf_numbers.proofs.BeyondLemmas.{cross_told}
 use Rattle.vpf_numbers.proofs.lines.check_face.Goals as goal
 use Rattle.vpf_numbers.proofs.lines.check_face.Goals.{then-is_tiled, else-is_tiled}
 
-pub returns : goal.returns
-returns c =
+pub returns-clause-first : goal.returns-clause-first
+returns-clause-first c =
     let A = c.args.around.now in
     let column = role_at c.args.column.now in
-    let seen = view c.cell_at-cell.result in
+    let seen = view c.next_cell-cell.result in
     let there = c.rows-there.ensures ∙ ap (λ (r : Triplet). rows_there A names.Fac r.tile) c.reference_in-reference.ensures in
     let may : c.if-is_tiled.allowed ≡ (A.is_tiled && is_first (reference_in seen).id) =
     elim c.if-is_tiled.branch [
@@ -25,4 +25,4 @@ returns c =
       | else-is_tiled w ↦ let tiled : A.is_tiled ≡ false = sym c.is_tiled.ensures ∙ w.if-is_tiled.false in rw tiled (w.allowed-is ∙ w.if-is_tiled.false)
     ] in
     cross_told c.check_beyond.result c.args.at A names.Fac 2 c.args.last c.args.k column (λ (v : Value). A.is_tiled && is_first (reference_in v).id) seen (cell_at c.args.row.now column.place)
-    c.rows-there.result c.if-is_tiled.allowed c.cell_at-cell.ensures there may c.in_ok-number_in_cell.ensures.first c.check_beyond.ensures
+    c.rows-there.result c.if-is_tiled.allowed c.next_cell-cell.ensures.cell there may c.in_ok-number_in_cell.ensures.first c.check_beyond.ensures

@@ -1,24 +1,20 @@
-use Rattle.std.proofs.Common.{◌≡◌, length}
-use Rattle.std.proofs.lemmas.List.Elements.{All-rest}
-use Rattle.vpf_table.specs.Grid.{Row}
-use Rattle.vpf_prims.specs.Edges.{edge_of}
+use Rattle.std.proofs.Common.{List, map, ap, ◌∙◌}
+use Rattle.std.proofs.lemmas.Result.{IfOk-weaker}
+use Rattle.vpf_prims.specs.declared.rows.EdgeRow.{EdgeRow}
+use Rattle.vpf_prims.specs.Edges.{own_numbers}
+use Rattle.vpf_prims.specs.Reading.{primitives_of}
 use Rattle.vpf_prims.specs.Tables.{edg_at}
 use Rattle.vpf_prims.specs.Tiles.{tables_of}
-use Rattle.vpf_prims.proofs.OwnLemmas.{own_all}
-use Rattle.vpf_prims.proofs.RowLemmas.{map_more}
+use Rattle.vpf_prims.specs.Views.{tables_in_view}
+use Rattle.vpf_prims.proofs.OwnLemmas.{own_all, own_kept}
 use Rattle.vpf_prims.proofs.tile.Tile.own_edges.Goals as goal
 
-pub loop-row-preserved : goal.loop-row-preserved
-loop-row-preserved c =
-    let i = c.loop-row.invariant in
-    let steps = c.in-Some.ensures.steps in
-    record {
-      edges = map_more (edge_of c.self.inside.columns.edges) c.loop-row.edges.items c.push.new.self.items c.numbers.result c.in-Some.row c.loop-row.row-iterator c.next.new.self _ c.in_ok-push.ensures.items c.numbers.ensures steps i.edges;
-      width = All-rest (λ (row : Row). length row ≡ length c.self.inside.views.edg.head.columns) c.in-Some.row c.next.new.self c.loop-row.row-iterator steps i.width;
-    }
-
-pub returns : goal.returns
-returns c =
+pub returns-in-Some : goal.returns-in-Some
+returns-in-Some c =
     let inside = c.self.inside in
-    let all = own_all (edg_at 0 (tables_of inside)) inside.views.edg.head.columns inside.columns.edges c.loop-row.edges.items inside.views.edg.rows c.loop-row.row-iterator c.self.invariant.edges c.in-None.ensures.steps.0 c.loop-row.invariant.edges in
-    rw (← c.self.view_is) all
+    rw (← c.self.view_is) (IfOk-weaker c.numbers_in.result _ _ (λ edges is. is ∙ ap (λ (rows : List EdgeRow). map own_numbers rows) (c.deref.ensures.value ∙ (rw c.in-Some.is at c.self.invariant.kept)) ∙ own_kept (primitives_of (tables_in_view inside.views)).edges) c.numbers_in.ensures)
+
+pub returns-in-None : goal.returns-in-None
+returns-in-None c =
+    let inside = c.self.inside in
+    rw (← c.self.view_is) (IfOk-weaker c.numbers_of.result _ _ (λ edges is. own_all (edg_at 0 (tables_of inside)) inside.views.edg.head.columns inside.columns.edges edges.items inside.views.edg.rows c.self.invariant.edges is) c.numbers_of.ensures)
