@@ -1,15 +1,68 @@
-//! What the tests share: words, and sinks in memory.
+//! What the tests share: what the program answers, and sinks in memory.
 
+use crate::running::run;
+use crate::status::Status;
 use std::alloc::{AllocError, Global};
-use vpf_source::MemSink;
+use std::fmt::Debug;
+use std::process::Abort;
+use std::test::Fail;
+use vpf_source::{MemSink, MemTree};
 
 /// Words of their own.
-pub fn words_of(alloc: Global, words: &[&str]) -> Result<Vec<String>, AllocError> {
+fn words_of(alloc: Global, words: &[&str]) -> Result<Vec<String>, AllocError> {
     let mut owned = Vec::new(alloc);
     for word in words {
         owned.push(String::from_str(alloc, word)?)?;
     }
     Ok(owned)
+}
+
+/// Runs the program on these words, over a tree and a sink in memory. It has no contract, so that a test is proved without that of `run`.
+pub fn answer(
+    alloc: Global,
+    words: &[&str],
+    tree: &mut MemTree,
+    out: &mut MemSink,
+) -> Result<Status, AllocError> {
+    let words = words_of(alloc, words)?;
+    Ok(run(alloc, &words, tree, out))
+}
+
+/// Ends the test unless both are the same, and tells them. A test that calls it is proved in a fraction of the time that it takes with
+/// `assert_eq!` in its place.
+pub fn same<T: PartialEq + Debug + Drop>(rt: &impl Abort, got: T, want: T) {
+    assert_eq!(rt; got, want);
+}
+
+/// The same in a case, which it tells too.
+pub fn same_in<T: PartialEq + Debug + Drop, C: Debug + Drop>(
+    rt: &impl Abort,
+    got: T,
+    want: T,
+    case: C,
+) {
+    assert_eq!(rt; got, want, "{case:?}");
+}
+
+/// These words print this text and end with this status.
+pub fn check_answer(
+    rt: &impl Abort,
+    alloc: Global,
+    tree: &mut MemTree,
+    words: &[&str],
+    text: &str,
+    status: Status,
+) -> Result<(), Fail> {
+    let mut out = MemSink::new(alloc, 4096, Vec::new(alloc));
+    let told = answer(alloc, words, tree, &mut out)?;
+    same_in(rt, out.bytes(), text.as_bytes(), words);
+    same_in(rt, told, status, words);
+    Ok(())
+}
+
+/// The tree holds these bytes under this name, or no file.
+pub fn check_file(rt: &impl Abort, tree: &MemTree, name: &str, bytes: Option<&[u8]>) {
+    same_in(rt, tree.file(name), bytes, name);
 }
 
 /// A sink that takes pieces, where one write fails.

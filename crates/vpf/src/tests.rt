@@ -1,9 +1,9 @@
 //! The program over a tree and a sink in memory.
 
-use crate::running::run;
 use crate::status::Status;
-use crate::testing::words_of;
+use crate::testing::{answer, check_answer, same, same_in};
 use std::alloc::{AllocError, Global};
+use std::process::Abort;
 use std::test::Fail;
 use vpf_source::{MemSink, MemTree};
 use vpf_vectors::{VECTORS, Vector};
@@ -91,14 +91,17 @@ fn put_samples(tree: &mut MemTree) -> Result<(), AllocError> {
     Ok(())
 }
 
-/// What a command prints over one of the samples, and its status.
-fn answer_of(alloc: Global, verb: &str, file: &str) -> Result<(Status, MemSink), AllocError> {
+/// These words print this text over the samples, and end with this status.
+fn check_samples(
+    rt: &impl Abort,
+    alloc: Global,
+    words: &[&str],
+    text: &str,
+    status: Status,
+) -> Result<(), Fail> {
     let mut tree = MemTree::new(alloc, 4096, Vec::new(alloc));
     put_samples(&mut tree)?;
-    let mut out = MemSink::new(alloc, 4096, Vec::new(alloc));
-    let words = words_of(alloc, &[verb, file])?;
-    let status = run(alloc, &words, &mut tree, &mut out);
-    Ok((status, out))
+    check_answer(rt, alloc, &mut tree, words, text, status)
 }
 
 /// What a command prints over one file, and its status.
@@ -111,8 +114,7 @@ fn answer_over(
     let mut tree = MemTree::new(alloc, 4096, Vec::new(alloc));
     tree.put(file, bytes)?;
     let mut out = MemSink::new(alloc, 4096, Vec::new(alloc));
-    let words = words_of(alloc, &[verb, file])?;
-    let status = run(alloc, &words, &mut tree, &mut out);
+    let status = answer(alloc, &[verb, file], &mut tree, &mut out)?;
     Ok((status, out))
 }
 
@@ -128,8 +130,8 @@ fn answers_each_vector(rt: HostRuntime) -> Result<(), Fail> {
             ..
         } = vector;
         let (answer, out) = answer_over(alloc, verb, file, bytes)?;
-        assert_eq!(rt; out.bytes(), text.as_bytes(), "{text}");
-        assert_eq!(rt; answer.code(), status, "{text}");
+        same_in(&rt, out.bytes(), text.as_bytes(), text);
+        same_in(&rt, answer.code(), status, text);
     }
     Ok(())
 }
@@ -138,14 +140,10 @@ fn answers_each_vector(rt: HostRuntime) -> Result<(), Fail> {
 fn shows_and_checks_tables(rt: HostRuntime) -> Result<(), Fail> {
     let alloc = rt.alloc();
     for (file, want, text) in SHOWN {
-        let (status, out) = answer_of(alloc, "show", file)?;
-        assert_eq!(rt; out.bytes(), text.as_bytes(), "{file}");
-        assert_eq!(rt; status, want, "{file}");
+        check_samples(&rt, alloc, &["show", file], text, want)?;
     }
     for (file, want, text) in CHECKED {
-        let (status, out) = answer_of(alloc, "table", file)?;
-        assert_eq!(rt; out.bytes(), text.as_bytes(), "{file}");
-        assert_eq!(rt; status, want, "{file}");
+        check_samples(&rt, alloc, &["table", file], text, want)?;
     }
     Ok(())
 }
@@ -157,44 +155,40 @@ fn tells_what_is_no_command(rt: HostRuntime) -> Result<(), Fail> {
         let mut tree = MemTree::new(alloc, 1, vec![in alloc; 1]?);
         put_samples(&mut tree)?;
         let mut out = MemSink::new(alloc, 1, Vec::new(alloc));
-        let owned = words_of(alloc, words)?;
-        let status = run(alloc, &owned, &mut tree, &mut out);
-        assert_eq!(rt; out.bytes(), b"usage\n".as_slice(), "{words:?}");
-        assert_eq!(rt; status, Status::Usage, "{words:?}");
+        let status = answer(alloc, words, &mut tree, &mut out)?;
+        same_in(&rt, out.bytes(), b"usage\n".as_slice(), words);
+        same_in(&rt, status, Status::Usage, words);
     }
     Ok(())
 }
 
 /// What a command prints over a tree and a sink of one byte a call, where these calls fail, and its status.
-fn faulty(
+fn check_faults(
+    rt: &impl Abort,
     alloc: Global,
     verb: &str,
-    tree_fails: u64,
-    sink_fails: u64,
-) -> Result<(Status, MemSink), AllocError> {
+    fails: [u64; 2],
+    text: &str,
+    status: Status,
+) -> Result<(), Fail> {
+    let [tree_fails, sink_fails] = fails;
     let mut tree = MemTree::new(alloc, 1, vec![in alloc; tree_fails]?);
     put_samples(&mut tree)?;
     let mut out = MemSink::new(alloc, 1, vec![in alloc; sink_fails]?);
-    let words = words_of(alloc, &[verb, "t.tab"])?;
-    let status = run(alloc, &words, &mut tree, &mut out);
-    Ok((status, out))
+    let told = answer(alloc, &[verb, "t.tab"], &mut tree, &mut out)?;
+    same_in(rt, out.bytes(), text.as_bytes(), (tree_fails, sink_fails));
+    same_in(rt, told, status, (tree_fails, sink_fails));
+    Ok(())
 }
 
 #[test]
 fn stops_at_faults(rt: HostRuntime) -> Result<(), Fail> {
     let alloc = rt.alloc();
     for (tree_fails, sink_fails, want, text) in FAULTS {
-        let (status, out) = faulty(alloc, "table", tree_fails, sink_fails)?;
-        assert_eq!(rt; out.bytes(), text.as_bytes(), "{tree_fails} {sink_fails}");
-        assert_eq!(rt; status, want, "{tree_fails} {sink_fails}");
+        check_faults(&rt, alloc, "table", [tree_fails, sink_fails], text, want)?;
     }
-    let (status, out) = faulty(alloc, "show", 0, 2)?;
-    assert_eq!(rt; out.bytes(), b"o".as_slice());
-    assert_eq!(rt; status, Status::SinkFault);
-    let (status, out) = faulty(alloc, "show", 1, 0)?;
-    assert_eq!(rt; out.bytes(), b"".as_slice());
-    assert_eq!(rt; status, Status::TreeFault);
-    Ok(())
+    check_faults(&rt, alloc, "show", [0, 2], "o", Status::SinkFault)?;
+    check_faults(&rt, alloc, "show", [1, 0], "", Status::TreeFault)
 }
 
 #[test]
@@ -203,12 +197,8 @@ fn refuses_a_large_file(rt: HostRuntime) -> Result<(), Fail> {
     let bytes = vec![in alloc; 0u8; 67_108_865]?;
     let mut tree = MemTree::new(alloc, 4096, Vec::new(alloc));
     tree.put("big.tab", &bytes)?;
-    let mut out = MemSink::new(alloc, 4096, Vec::new(alloc));
-    let words = words_of(alloc, &["show", "big.tab"])?;
-    let status = run(alloc, &words, &mut tree, &mut out);
-    assert_eq!(rt; out.bytes(), b"limit file big.tab 67108865\n".as_slice());
-    assert_eq!(rt; status, Status::Limit);
-    Ok(())
+    let (words, text) = (["show", "big.tab"], "limit file big.tab 67108865\n");
+    check_answer(&rt, alloc, &mut tree, &words, text, Status::Limit)
 }
 
 #[test]
@@ -222,6 +212,6 @@ fn numbers_each_status(rt: HostRuntime) {
         (Status::NoMemory, 5),
         (Status::Limit, 6),
     ] {
-        assert_eq!(rt; status.code(), code);
+        same(&rt, status.code(), code);
     }
 }

@@ -1,10 +1,9 @@
 //! `check` through `run`, over a coverage in memory.
 
-use crate::running::run;
 use crate::status::Status;
-use crate::testing::words_of;
+use crate::testing::check_answer;
 use std::test::Fail;
-use vpf_source::{MemSink, MemTree};
+use vpf_source::MemTree;
 
 /// The edges of the coverage of the examples.
 pub(crate) const EDG: &[u8] =
@@ -48,7 +47,6 @@ const CASES: [(Option<&[u8]>, &str, Status); 3] = [
 #[test]
 fn checks_a_coverage(rt: HostRuntime) -> Result<(), Fail> {
     let alloc = rt.alloc();
-    let words = words_of(alloc, &["check", "lib", "cov"])?;
     for (faces, text, status) in CASES {
         let mut tree = MemTree::new(alloc, 4096, Vec::new(alloc));
         tree.put("lib/cov/edg", EDG)?;
@@ -57,9 +55,14 @@ fn checks_a_coverage(rt: HostRuntime) -> Result<(), Fail> {
         if let Some(bytes) = faces {
             tree.put("lib/cov/fac", bytes)?;
         }
-        let mut out = MemSink::new(alloc, 4096, Vec::new(alloc));
-        assert_eq!(rt; run(alloc, &words, &mut tree, &mut out), status, "{text}");
-        assert_eq!(rt; out.bytes(), text.as_bytes(), "{text}");
+        check_answer(
+            &rt,
+            alloc,
+            &mut tree,
+            &["check", "lib", "cov"],
+            text,
+            status,
+        )?;
     }
     Ok(())
 }

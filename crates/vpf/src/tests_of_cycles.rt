@@ -1,9 +1,9 @@
 //! `cycles` over edge tables in memory.
 
-use crate::running::run;
 use crate::status::Status;
-use crate::testing::words_of;
+use crate::testing::{answer, check_answer, same};
 use std::alloc::{AllocError, Global};
+use std::process::Abort;
 use std::test::Fail;
 use vpf_source::{MemSink, MemTree};
 
@@ -125,14 +125,17 @@ fn table_of(alloc: Global, columns: &[&str], rows: &[u8]) -> Result<Vec<u8>, All
     Ok(bytes)
 }
 
-/// What `cycles edg` prints over this table, and its status.
-fn cycles_of(alloc: Global, table: &[u8]) -> Result<(Status, MemSink), AllocError> {
+/// `cycles edg` prints this text over this table, and ends with this status.
+fn check_cycles(
+    rt: &impl Abort,
+    alloc: Global,
+    table: &[u8],
+    text: &str,
+    status: Status,
+) -> Result<(), Fail> {
     let mut tree = MemTree::new(alloc, 4096, Vec::new(alloc));
     tree.put("edg", table)?;
-    let mut out = MemSink::new(alloc, 4096, Vec::new(alloc));
-    let words = words_of(alloc, &["cycles", "edg"])?;
-    let status = run(alloc, &words, &mut tree, &mut out);
-    Ok((status, out))
+    check_answer(rt, alloc, &mut tree, &["cycles", "edg"], text, status)
 }
 
 /// The three edges with changed numbers.
@@ -153,9 +156,7 @@ fn lists_cycles(rt: HostRuntime) -> Result<(), Fail> {
     let alloc = rt.alloc();
     for (edges, want, text) in EDGES {
         let table = table_of(alloc, &COLUMNS, &rows_of(alloc, edges)?)?;
-        let (status, out) = cycles_of(alloc, &table)?;
-        assert_eq!(rt; out.bytes(), text.as_bytes());
-        assert_eq!(rt; status, want, "{text}");
+        check_cycles(&rt, alloc, &table, text, want)?;
     }
     Ok(())
 }
@@ -181,8 +182,11 @@ fn copies(alloc: Global, count: i32) -> Result<Vec<[i32; 7]>, AllocError> {
 fn lists_cycles_of_some_megabytes(rt: HostRuntime) -> Result<(), Fail> {
     let alloc = rt.alloc();
     let table = table_of(alloc, &COLUMNS, &rows_of(alloc, &copies(alloc, 40_000)?)?)?;
-    let (status, out) = cycles_of(alloc, &table)?;
-    assert_eq!(rt; status, Status::Done);
+    let mut tree = MemTree::new(alloc, 4096, Vec::new(alloc));
+    tree.put("edg", &table)?;
+    let mut out = MemSink::new(alloc, 4096, Vec::new(alloc));
+    let status = answer(alloc, &["cycles", "edg"], &mut tree, &mut out)?;
+    same(&rt, status, Status::Done);
     assert!(rt; out.bytes().ends_with(b"cycles 120000\n"));
     Ok(())
 }
@@ -192,10 +196,8 @@ fn tells_the_first_finding_of_rows(rt: HostRuntime) -> Result<(), Fail> {
     let alloc = rt.alloc();
     for (changes, finding) in ROW_FINDINGS {
         let table = table_of(alloc, &COLUMNS, &rows_of(alloc, &changed(changes))?)?;
-        let (status, out) = cycles_of(alloc, &table)?;
         let text = format!(in alloc; "disagree {finding}\n")?;
-        assert_eq!(rt; out.bytes(), text.as_bytes(), "{finding}");
-        assert_eq!(rt; status, Status::Refused, "{finding}");
+        check_cycles(&rt, alloc, &table, &text, Status::Refused)?;
     }
     Ok(())
 }
@@ -214,10 +216,9 @@ fn headed(alloc: Global, changes: &[(usize, &str)]) -> Result<Vec<u8>, AllocErro
 fn tells_the_first_finding_of_columns(rt: HostRuntime) -> Result<(), Fail> {
     let alloc = rt.alloc();
     for (changes, finding) in COLUMN_FINDINGS {
-        let (status, out) = cycles_of(alloc, &headed(alloc, changes)?)?;
+        let table = headed(alloc, changes)?;
         let text = format!(in alloc; "disagree 1 edg row 0 {finding}\n")?;
-        assert_eq!(rt; out.bytes(), text.as_bytes(), "{finding}");
-        assert_eq!(rt; status, Status::Refused, "{finding}");
+        check_cycles(&rt, alloc, &table, &text, Status::Refused)?;
     }
     Ok(())
 }
@@ -235,9 +236,7 @@ fn takes_columns_in_any_order(rt: HostRuntime) -> Result<(), Fail> {
         (&triplets, Status::Refused, "refused variable edg\n"),
         (&varying, Status::Refused, "refused variable edg\n"),
     ] {
-        let (status, out) = cycles_of(alloc, table)?;
-        assert_eq!(rt; out.bytes(), text.as_bytes());
-        assert_eq!(rt; status, want, "{text}");
+        check_cycles(&rt, alloc, table, text, want)?;
     }
     Ok(())
 }

@@ -1,8 +1,7 @@
 //! `drill` through `run`: what it prints of small grids, with a digest of what `tile` makes and `trace` prints of them.
 
-use crate::running::run;
 use crate::status::Status;
-use crate::testing::words_of;
+use crate::testing::{answer, same_in};
 use std::alloc::{AllocError, Global};
 use std::test::Fail;
 use vpf_source::{MemSink, MemTree};
@@ -28,9 +27,8 @@ fn answered(
     tree: &mut MemTree,
     words: &[&str],
 ) -> Result<(Status, MemSink), AllocError> {
-    let owned = words_of(alloc, words)?;
     let mut out = MemSink::new(alloc, 4096, Vec::new(alloc));
-    let status = run(alloc, &owned, tree, &mut out);
+    let status = answer(alloc, words, tree, &mut out)?;
     Ok((status, out))
 }
 
@@ -63,7 +61,7 @@ fn drills_grids(rt: HostRuntime) -> Result<(), Fail> {
         assert!(rt; cells % 2 == 0 && 2 <= cells && cells <= 200);
         let mut tree = MemTree::new(alloc, 4096, Vec::new(alloc));
         let (status, drilled) = answered(alloc, &mut tree, &["drill", word])?;
-        assert_eq!(rt; status, Status::Done, "{word}");
+        same_in(&rt, status, Status::Done, word);
         for file in grid(alloc, cells)? {
             tree.put(file.name.as_str(), file.bytes.as_slice())?;
         }
@@ -72,7 +70,7 @@ fn drills_grids(rt: HostRuntime) -> Result<(), Fail> {
         let made = digest_of_made(&tree, str::from_utf8(tiled.bytes())?)?;
         let digest = digest_and(made, traced.bytes());
         let wanted = format!(in alloc; "{numbers}{digest}\n")?;
-        assert_eq!(rt; drilled.bytes(), wanted.as_bytes(), "{word}");
+        same_in(&rt, drilled.bytes(), wanted.as_bytes(), word);
     }
     Ok(())
 }

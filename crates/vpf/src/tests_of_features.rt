@@ -1,8 +1,7 @@
 //! `select`, `check`, `tile` and `glue` through `run`, over roads in memory that are joined to the edges of a coverage, untiled and in tiles.
 
-use crate::running::run;
 use crate::status::Status;
-use crate::testing::words_of;
+use crate::testing::{answer, check_answer, check_file, same_in};
 use crate::tests_of_checks::{CND, FAC, RNG};
 use crate::tests_of_tiles::{PLAN, TILES};
 use std::alloc::{AllocError, Global};
@@ -143,18 +142,6 @@ fn coverage_tree(alloc: Global) -> Result<MemTree, AllocError> {
     Ok(tree)
 }
 
-/// What words print over a tree, and the status.
-fn answered(
-    alloc: Global,
-    tree: &mut MemTree,
-    words: &[&str],
-) -> Result<(Status, MemSink), AllocError> {
-    let words = words_of(alloc, words)?;
-    let mut out = MemSink::new(alloc, 4096, Vec::new(alloc));
-    let status = run(alloc, &words, tree, &mut out);
-    Ok((status, out))
-}
-
 #[test]
 fn selects_roads(rt: HostRuntime) -> Result<(), Fail> {
     let alloc = rt.alloc();
@@ -166,9 +153,7 @@ fn selects_roads(rt: HostRuntime) -> Result<(), Fail> {
         }
         tree.put("lib/cov/f_code.lti", index)?;
         let words = ["select", "lib", "cov", name, column, value];
-        let (status, out) = answered(alloc, &mut tree, &words)?;
-        assert_eq!(rt; out.bytes(), text.as_bytes(), "{text}");
-        assert_eq!(rt; status, wanted, "{text}");
+        check_answer(&rt, alloc, &mut tree, &words, text, wanted)?;
     }
     Ok(())
 }
@@ -225,9 +210,7 @@ fn refuses_roads(rt: HostRuntime) -> Result<(), Fail> {
     for (class, index, words, text) in REFUSED {
         let mut tree = coverage_tree(alloc)?;
         put_roads(alloc, &mut tree, class, index)?;
-        let (status, out) = answered(alloc, &mut tree, words)?;
-        assert_eq!(rt; out.bytes(), text.as_bytes(), "{text}");
-        assert_eq!(rt; status, Status::Refused, "{text}");
+        check_answer(&rt, alloc, &mut tree, words, text, Status::Refused)?;
     }
     Ok(())
 }
@@ -266,12 +249,13 @@ fn keeps_roads_through_tiles(rt: HostRuntime) -> Result<(), Fail> {
     let mut tree = coverage_tree(alloc)?;
     put_roads(alloc, &mut tree, CLASS, INDEX)?;
     for (words, text) in KEPT {
-        let (status, out) = answered(alloc, &mut tree, words)?;
+        let mut out = MemSink::new(alloc, 4096, Vec::new(alloc));
+        let status = answer(alloc, words, &mut tree, &mut out)?;
         assert!(rt; out.bytes().starts_with(text.as_bytes()), "{text}");
-        assert_eq!(rt; status, Status::Done, "{text}");
+        same_in(&rt, status, Status::Done, text);
     }
-    for folder in ["out/cov/f_code.lti", "back/cov/f_code.lti"] {
-        assert_eq!(rt; tree.file(folder), Some(INDEX));
+    for name in ["out/cov/f_code.lti", "back/cov/f_code.lti"] {
+        check_file(&rt, &tree, name, Some(INDEX));
     }
     Ok(())
 }

@@ -1,9 +1,8 @@
 //! `index` and `rows` over tables in memory.
 
 use crate::changes_of_rows::{BITMAP, CHANGES, Change, LIST};
-use crate::running::run;
 use crate::status::Status;
-use crate::testing::{sink, words_of};
+use crate::testing::{answer, check_answer, check_file, same, same_in, sink};
 use std::alloc::{AllocError, Global};
 use std::test::Fail;
 use vpf_source::MemTree;
@@ -221,13 +220,10 @@ fn writes_indexes(rt: HostRuntime) -> Result<(), Fail> {
     let alloc = rt.alloc();
     for ([file, column, kind, out], text, made) in INDEXES {
         let mut tree = samples(alloc, 4096, 0)?;
-        let mut printed = sink(alloc, 4096, 0)?;
-        let words = words_of(alloc, &["index", file, column, kind, out])?;
-        let status = run(alloc, &words, &mut tree, &mut printed);
-        assert_eq!(rt; printed.bytes(), text.as_bytes(), "{file} {column} {out}");
-        assert_eq!(rt; status, status_of(text), "{file} {column} {out}");
+        let words = ["index", file, column, kind, out];
+        check_answer(&rt, alloc, &mut tree, &words, text, status_of(text))?;
         if let Some((name, bytes)) = made {
-            assert_eq!(rt; tree.file(name), Some(bytes), "{file} {column} {out}");
+            check_file(&rt, &tree, name, Some(bytes));
         }
     }
     Ok(())
@@ -241,15 +237,13 @@ fn selects_rows(rt: HostRuntime) -> Result<(), Fail> {
         let mut tree = samples(alloc, 4096, 0)?;
         if let Some(kind) = kind {
             let mut printed = sink(alloc, 4096, 0)?;
-            let words = words_of(alloc, &["index", "t.tab", "c", kind, "t.lti"])?;
-            assert_eq!(rt; run(alloc, &words, &mut tree, &mut printed), Status::Done);
+            let words = ["index", "t.tab", "c", kind, "t.lti"];
+            let status = answer(alloc, &words, &mut tree, &mut printed)?;
+            same(&rt, status, Status::Done);
         }
         for ([file, column, value], text) in ROWS {
-            let mut printed = sink(alloc, 4096, 0)?;
-            let words = words_of(alloc, &["rows", file, column, value])?;
-            let status = run(alloc, &words, &mut tree, &mut printed);
-            assert_eq!(rt; printed.bytes(), text.as_bytes(), "{file} {column} {value}");
-            assert_eq!(rt; status, status_of(text), "{file} {column} {value}");
+            let words = ["rows", file, column, value];
+            check_answer(&rt, alloc, &mut tree, &words, text, status_of(text))?;
         }
     }
     Ok(())
@@ -261,22 +255,22 @@ fn tells_what_is_wrong_with_an_index(rt: HostRuntime) -> Result<(), Fail> {
     for (change, value, text) in CHANGES {
         let mut tree = samples(alloc, 4096, 0)?;
         tree.put("t.lti", &changed(alloc, &change)?)?;
-        let mut printed = sink(alloc, 4096, 0)?;
-        let words = words_of(alloc, &["rows", "t.tab", "c", value])?;
-        let status = run(alloc, &words, &mut tree, &mut printed);
-        assert_eq!(rt; printed.bytes(), text.as_bytes());
-        assert_eq!(rt; status, status_of(text), "{text}");
+        let words = ["rows", "t.tab", "c", value];
+        check_answer(&rt, alloc, &mut tree, &words, text, status_of(text))?;
     }
+    Ok(())
+}
+
+#[test]
+fn tells_what_is_wrong_with_an_index_of_rows(rt: HostRuntime) -> Result<(), Fail> {
+    let alloc = rt.alloc();
     for (index, text) in INDEXED {
         let mut tree = samples(alloc, 4096, 0)?;
         if let Some(bytes) = index {
             tree.put("v.tax", bytes)?;
         }
-        let mut printed = sink(alloc, 4096, 0)?;
-        let words = words_of(alloc, &["rows", "v.tab", "c", "a"])?;
-        let status = run(alloc, &words, &mut tree, &mut printed);
-        assert_eq!(rt; printed.bytes(), text.as_bytes());
-        assert_eq!(rt; status, status_of(text), "{text}");
+        let words = ["rows", "v.tab", "c", "a"];
+        check_answer(&rt, alloc, &mut tree, &words, text, status_of(text))?;
     }
     Ok(())
 }
@@ -286,47 +280,53 @@ fn tells_what_is_no_selection(rt: HostRuntime) -> Result<(), Fail> {
     let alloc = rt.alloc();
     for words in NO_COMMANDS {
         let mut tree = samples(alloc, 1, 1)?;
-        let mut printed = sink(alloc, 1, 0)?;
-        let owned = words_of(alloc, words)?;
-        let status = run(alloc, &owned, &mut tree, &mut printed);
-        assert_eq!(rt; printed.bytes(), b"usage\n".as_slice(), "{words:?}");
-        assert_eq!(rt; status, Status::Usage, "{words:?}");
-        assert_eq!(rt; tree.file("t.lti"), None, "{words:?}");
+        check_answer(&rt, alloc, &mut tree, words, "usage\n", Status::Usage)?;
+        check_file(&rt, &tree, "t.lti", None);
     }
     Ok(())
 }
 
 /// Each call of the tree fails in turn: size and bytes of the table, of its index, and of the index of the column.
 #[test]
-fn stops_at_each_call(rt: HostRuntime) -> Result<(), Fail> {
+fn stops_at_each_call_of_rows(rt: HostRuntime) -> Result<(), Fail> {
     let alloc = rt.alloc();
     for failing in 1..=7 {
         let mut tree = samples(alloc, 4096, failing)?;
         tree.put("v.tax", VARYING_INDEX)?;
         tree.put("v.lti", LIST)?;
-        let mut printed = sink(alloc, 4096, 0)?;
-        let words = words_of(alloc, &["rows", "v.tab", "c", "a"])?;
-        let status = run(alloc, &words, &mut tree, &mut printed);
         let (want, text) = if failing <= 6 {
             (Status::TreeFault, "")
         } else {
             (Status::Refused, "disagree 1 v.lti row 0 c: T,1, T,*\n")
         };
-        assert_eq!(rt; status, want, "{failing}");
-        assert_eq!(rt; printed.bytes(), text.as_bytes(), "{failing}");
+        check_answer(
+            &rt,
+            alloc,
+            &mut tree,
+            &["rows", "v.tab", "c", "a"],
+            text,
+            want,
+        )?;
     }
+    Ok(())
+}
+
+/// The same of `index`: size and bytes of the table, and the two calls that make the index.
+#[test]
+fn stops_at_each_call_of_index(rt: HostRuntime) -> Result<(), Fail> {
+    let alloc = rt.alloc();
     for failing in 1..=4 {
         let mut tree = samples(alloc, 4096, failing)?;
         let mut printed = sink(alloc, 4096, 0)?;
-        let words = words_of(alloc, &["index", "t.tab", "c", "list", "t.lti"])?;
-        let status = run(alloc, &words, &mut tree, &mut printed);
+        let words = ["index", "t.tab", "c", "list", "t.lti"];
+        let status = answer(alloc, &words, &mut tree, &mut printed)?;
         let (want, made) = match failing {
             1 | 2 => (Status::TreeFault, None),
             3 => (Status::TreeFault, Some(&LIST[..47])),
             _ => (Status::Done, Some(LIST)),
         };
-        assert_eq!(rt; status, want, "{failing}");
-        assert_eq!(rt; tree.file("t.lti"), made, "{failing}");
+        same_in(&rt, status, want, failing);
+        check_file(&rt, &tree, "t.lti", made);
     }
     Ok(())
 }

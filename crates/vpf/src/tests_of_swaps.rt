@@ -1,8 +1,7 @@
 //! `swap` over tables in memory.
 
-use crate::running::run;
 use crate::status::Status;
-use crate::testing::{sink, words_of};
+use crate::testing::{answer, check_answer, check_file, same_in, sink};
 use std::alloc::{AllocError, Global};
 use std::test::Fail;
 use vpf_source::MemTree;
@@ -25,6 +24,9 @@ const TEXT: &[u8] = b"\x18\0\0\0L;T;-;a=T,*,N,d,-,-,-,:;\x03\0\0\0abc";
 const TEXT_BIG: &[u8] = b"\0\0\0\x18M;T;-;a=T,*,N,d,-,-,-,:;\0\0\0\x03abc";
 
 const TEXT_INDEX: &[u8] = b"\0\0\0\x01\0\0\0\x18\0\0\0\x1c\0\0\0\x07";
+
+/// What is printed where both are made.
+const TEXT_MADE: &str = "made u.tab 35\nmade u.tax 16\nfiles 2\n";
 
 /// A triplet id with wide parts, and the same with each in the least size.
 const WIDE: &[u8] = b"\x18\0\0\0L;T;-;k=K,1,N,d,-,-,-,:;\xa8\x01\0\x02\0\x03\0";
@@ -161,18 +163,14 @@ fn writes_tables_in_the_other_order(rt: HostRuntime) -> Result<(), Fail> {
     let alloc = rt.alloc();
     for (file, out, text, held) in SWAPS {
         let mut tree = samples(alloc, 4096, 0)?;
-        let mut printed = sink(alloc, 4096, 0)?;
-        let words = words_of(alloc, &["swap", file, out])?;
-        let status = run(alloc, &words, &mut tree, &mut printed);
         let want = if text.starts_with("made") {
             Status::Done
         } else {
             Status::Refused
         };
-        assert_eq!(rt; printed.bytes(), text.as_bytes(), "{file} {out}");
-        assert_eq!(rt; status, want, "{file} {out}");
+        check_answer(&rt, alloc, &mut tree, &["swap", file, out], text, want)?;
         for (name, bytes) in held {
-            assert_eq!(rt; tree.file(name), bytes, "{file} {out} {name}");
+            check_file(&rt, &tree, name, bytes);
         }
     }
     Ok(())
@@ -187,11 +185,8 @@ fn swaps_some_megabytes(rt: HostRuntime) -> Result<(), Fail> {
         bytes.resize(len, 0)?;
         let mut tree = MemTree::new(alloc, 65_536, Vec::new(alloc));
         tree.put("t.tab", &bytes)?;
-        let mut printed = sink(alloc, 4096, 0)?;
-        let words = words_of(alloc, &["swap", "t.tab", "u.tab"])?;
-        let status = run(alloc, &words, &mut tree, &mut printed);
-        assert_eq!(rt; status, Status::Done, "{text}");
-        assert_eq!(rt; printed.bytes(), text.as_bytes());
+        let words = ["swap", "t.tab", "u.tab"];
+        check_answer(&rt, alloc, &mut tree, &words, text, Status::Done)?;
     }
     Ok(())
 }
@@ -202,13 +197,10 @@ fn tells_what_would_be_too_large(rt: HostRuntime) -> Result<(), Fail> {
     let alloc = rt.alloc();
     let mut tree = MemTree::new(alloc, 4096, Vec::new(alloc));
     tree.put("t.tab", &growing(alloc)?)?;
-    let mut printed = sink(alloc, 4096, 0)?;
-    let words = words_of(alloc, &["swap", "t.tab", "u.tab"])?;
-    let status = run(alloc, &words, &mut tree, &mut printed);
-    assert_eq!(rt; printed.bytes(), b"limit header u.tab 65541\n".as_slice());
-    assert_eq!(rt; status, Status::Limit);
-    assert_eq!(rt; tree.file("u.tab"), None);
-    assert_eq!(rt; tree.file("u.tax"), None);
+    let (words, text) = (["swap", "t.tab", "u.tab"], "limit header u.tab 65541\n");
+    check_answer(&rt, alloc, &mut tree, &words, text, Status::Limit)?;
+    check_file(&rt, &tree, "u.tab", None);
+    check_file(&rt, &tree, "u.tax", None);
     Ok(())
 }
 
@@ -223,12 +215,11 @@ fn swaps_twice_to_the_canonical_bytes(rt: HostRuntime) -> Result<(), Fail> {
         ["swap", "u.txt", "v.txt"],
     ] {
         let mut printed = sink(alloc, 4096, 0)?;
-        let owned = words_of(alloc, &words)?;
-        let status = run(alloc, &owned, &mut tree, &mut printed);
-        assert_eq!(rt; status, Status::Done, "{words:?}");
+        let status = answer(alloc, &words, &mut tree, &mut printed)?;
+        same_in(&rt, status, Status::Done, words);
     }
-    assert_eq!(rt; tree.file("v.tab"), Some(LENIENT_LITTLE));
-    assert_eq!(rt; tree.file("v.txt"), Some(TEXT));
+    check_file(&rt, &tree, "v.tab", Some(LENIENT_LITTLE));
+    check_file(&rt, &tree, "v.txt", Some(TEXT));
     Ok(())
 }
 
@@ -237,12 +228,8 @@ fn tells_what_is_no_swap(rt: HostRuntime) -> Result<(), Fail> {
     let alloc = rt.alloc();
     for words in NO_SWAPS {
         let mut tree = samples(alloc, 1, 1)?;
-        let mut printed = sink(alloc, 1, 0)?;
-        let owned = words_of(alloc, words)?;
-        let status = run(alloc, &owned, &mut tree, &mut printed);
-        assert_eq!(rt; printed.bytes(), b"usage\n".as_slice(), "{words:?}");
-        assert_eq!(rt; status, Status::Usage, "{words:?}");
-        assert_eq!(rt; tree.file("u.tab"), None, "{words:?}");
+        check_answer(&rt, alloc, &mut tree, words, "usage\n", Status::Usage)?;
+        check_file(&rt, &tree, "u.tab", None);
     }
     Ok(())
 }
@@ -255,26 +242,22 @@ fn stops_at_each_call_of_the_tree(rt: HostRuntime) -> Result<(), Fail> {
     for (piece, reads) in [(1, 36), (4096, 2)] {
         for failing in 1..=reads + 3 {
             let mut tree = samples(alloc, piece, failing)?;
-            let mut printed = sink(alloc, 4096, 0)?;
-            let words = words_of(alloc, &["swap", "text", "u.tab"])?;
-            let status = run(alloc, &words, &mut tree, &mut printed);
-            let (want, table, index) = match failing {
-                k if k <= reads => (Status::TreeFault, None, None),
-                k if k == reads + 1 => (Status::TreeFault, Some(&TEXT_BIG[..17]), None),
-                k if k == reads + 2 => {
-                    (Status::TreeFault, Some(TEXT_BIG), Some(&TEXT_INDEX[..8]))
-                }
-                _ => (Status::Done, Some(TEXT_BIG), Some(TEXT_INDEX)),
+            let (table, index) = match failing {
+                k if k <= reads => (None, None),
+                k if k == reads + 1 => (Some(&TEXT_BIG[..17]), None),
+                k if k == reads + 2 => (Some(TEXT_BIG), Some(&TEXT_INDEX[..8])),
+                _ => (Some(TEXT_BIG), Some(TEXT_INDEX)),
             };
-            assert_eq!(rt; status, want, "{piece} {failing}");
-            assert_eq!(rt; tree.file("u.tab"), table, "{piece} {failing}");
-            assert_eq!(rt; tree.file("u.tax"), index, "{piece} {failing}");
-            assert_eq!(rt; tree.file("text"), Some(TEXT), "{piece} {failing}");
-            assert_eq!(rt;
-                printed.bytes().is_empty(),
-                status != Status::Done,
-                "{piece} {failing}"
-            );
+            let (text, want) = if failing <= reads + 2 {
+                ("", Status::TreeFault)
+            } else {
+                (TEXT_MADE, Status::Done)
+            };
+            let words = ["swap", "text", "u.tab"];
+            check_answer(&rt, alloc, &mut tree, &words, text, want)?;
+            check_file(&rt, &tree, "u.tab", table);
+            check_file(&rt, &tree, "u.tax", index);
+            check_file(&rt, &tree, "text", Some(TEXT));
         }
     }
     Ok(())
@@ -284,24 +267,24 @@ fn stops_at_each_call_of_the_tree(rt: HostRuntime) -> Result<(), Fail> {
 #[test]
 fn stops_at_each_write_to_the_sink(rt: HostRuntime) -> Result<(), Fail> {
     let alloc = rt.alloc();
-    let text = b"made u.tab 35\nmade u.tax 16\nfiles 2\n";
+    let text = TEXT_MADE.as_bytes();
     for (piece, writes) in [(1, 36), (4096, 1)] {
         for failing in 1..=writes + 1 {
             let mut tree = samples(alloc, 4096, 0)?;
             let mut printed = sink(alloc, piece, failing)?;
-            let words = words_of(alloc, &["swap", "text", "u.tab"])?;
-            let status = run(alloc, &words, &mut tree, &mut printed);
+            let status = answer(alloc, &["swap", "text", "u.tab"], &mut tree, &mut printed)?;
             let (want, written) = match failing {
                 k if k <= writes => (Status::SinkFault, k as usize - 1),
                 _ => (Status::Done, text.len()),
             };
-            assert_eq!(rt; status, want, "{piece} {failing}");
-            assert_eq!(rt; tree.file("u.tab"), Some(TEXT_BIG), "{piece} {failing}");
-            assert_eq!(rt; tree.file("u.tax"), Some(TEXT_INDEX), "{piece} {failing}");
-            assert_eq!(rt;
+            same_in(&rt, status, want, (piece, failing));
+            check_file(&rt, &tree, "u.tab", Some(TEXT_BIG));
+            check_file(&rt, &tree, "u.tax", Some(TEXT_INDEX));
+            same_in(
+                &rt,
                 printed.bytes(),
                 &text[..written.min(36)],
-                "{piece} {failing}"
+                (piece, failing),
             );
         }
     }

@@ -1,8 +1,7 @@
 //! `tile` and `glue` through `run`, over a coverage in memory.
 
-use crate::running::run;
 use crate::status::Status;
-use crate::testing::words_of;
+use crate::testing::{answer, check_answer, check_file, same};
 use crate::tests_of_checks::{CND, EDG, FAC, RNG};
 use std::alloc::{AllocError, Global};
 use std::test::Fail;
@@ -54,9 +53,8 @@ fn library_tree(alloc: Global, failing: Vec<u64>) -> Result<MemTree, AllocError>
 
 /// What `tile lib cov out` prints over a tree, and its status.
 fn tiled(alloc: Global, tree: &mut MemTree) -> Result<(Status, MemSink), AllocError> {
-    let words = words_of(alloc, &["tile", "lib", "cov", "out"])?;
     let mut out = MemSink::new(alloc, 4096, Vec::new(alloc));
-    let status = run(alloc, &words, tree, &mut out);
+    let status = answer(alloc, &["tile", "lib", "cov", "out"], tree, &mut out)?;
     Ok((status, out))
 }
 
@@ -65,17 +63,17 @@ fn stops_where_the_third_file_is_not_made(rt: HostRuntime) -> Result<(), Fail> {
     let alloc = rt.alloc();
     let mut whole = library_tree(alloc, Vec::new(alloc))?;
     let (status, _) = tiled(alloc, &mut whole)?;
-    assert_eq!(rt; status, Status::Done);
+    same(&rt, status, Status::Done);
     // The first call whose fault leaves the second file whole is that which makes the third.
     for call in 1..100u64 {
         let mut tree = library_tree(alloc, vec![in alloc; call]?)?;
         let (status, out) = tiled(alloc, &mut tree)?;
         if tree.file("out/cov/t1/edg") == whole.file("out/cov/t1/edg") {
-            assert_eq!(rt; status, Status::TreeFault);
-            assert_eq!(rt; out.bytes().len(), 0);
+            same(&rt, status, Status::TreeFault);
+            same(&rt, out.bytes().len(), 0);
             let tiles = "out/tileref/tileref.aft";
-            assert_eq!(rt; tree.file(tiles), whole.file(tiles));
-            assert_eq!(rt; tree.file("out/cov/t1/fac"), None);
+            check_file(&rt, &tree, tiles, whole.file(tiles));
+            check_file(&rt, &tree, "out/cov/t1/fac", None);
             return Ok(());
         }
     }
@@ -87,15 +85,12 @@ fn joins_what_it_cut(rt: HostRuntime) -> Result<(), Fail> {
     let alloc = rt.alloc();
     let mut tree = library_tree(alloc, Vec::new(alloc))?;
     let (status, _) = tiled(alloc, &mut tree)?;
-    assert_eq!(rt; status, Status::Done);
+    same(&rt, status, Status::Done);
     for (words, text, wanted) in JOINS {
-        let words = words_of(alloc, words)?;
-        let mut out = MemSink::new(alloc, 4096, Vec::new(alloc));
-        assert_eq!(rt; run(alloc, &words, &mut tree, &mut out), wanted, "{text}");
-        assert_eq!(rt; out.bytes(), text.as_bytes(), "{text}");
+        check_answer(&rt, alloc, &mut tree, words, text, wanted)?;
     }
     for (made, source) in JOINED {
-        assert_eq!(rt; tree.file(made), tree.file(source), "{made}");
+        check_file(&rt, &tree, made, tree.file(source));
     }
     Ok(())
 }

@@ -1,8 +1,7 @@
 //! `index` and `rows` over a table in a folder whose rows vary, with its variable-length index and without.
 
-use crate::running::run;
 use crate::status::Status;
-use crate::testing::{sink, words_of};
+use crate::testing::{check_answer, check_file};
 use std::alloc::{AllocError, Global};
 use std::test::Fail;
 use vpf_source::MemTree;
@@ -64,16 +63,13 @@ fn selects_rows_that_vary(rt: HostRuntime) -> Result<(), Fail> {
     for index in [Some(INDEX), None] {
         for (theme, column, value, text) in ROWS {
             let mut tree = folder(alloc, index, theme)?;
-            let mut printed = sink(alloc, 4096, 0)?;
-            let words = words_of(alloc, &["rows", "lib/w.tab", column, value])?;
-            let status = run(alloc, &words, &mut tree, &mut printed);
             let want = if text.starts_with("refused") {
                 Status::Refused
             } else {
                 Status::Done
             };
-            assert_eq!(rt; printed.bytes(), text.as_bytes(), "{column} {value}");
-            assert_eq!(rt; status, want, "{column} {value}");
+            let words = ["rows", "lib/w.tab", column, value];
+            check_answer(&rt, alloc, &mut tree, &words, text, want)?;
         }
     }
     Ok(())
@@ -84,15 +80,9 @@ fn selects_rows_that_vary(rt: HostRuntime) -> Result<(), Fail> {
 fn reads_the_index_of_rows_first(rt: HostRuntime) -> Result<(), Fail> {
     let alloc = rt.alloc();
     let mut tree = folder(alloc, Some(b"\0\0\0\x03"), LIST)?;
-    let mut printed = sink(alloc, 4096, 0)?;
-    let words = words_of(alloc, &["rows", "lib/w.tab", "q", "a"])?;
-    let status = run(alloc, &words, &mut tree, &mut printed);
-    assert_eq!(rt;
-        printed.bytes(),
-        b"refused index-cut lib/w.tax at 0\n".as_slice()
-    );
-    assert_eq!(rt; status, Status::Refused);
-    Ok(())
+    let words = ["rows", "lib/w.tab", "q", "a"];
+    let text = "refused index-cut lib/w.tax at 0\n";
+    check_answer(&rt, alloc, &mut tree, &words, text, Status::Refused)
 }
 
 #[test]
@@ -103,12 +93,9 @@ fn indexes_rows_that_vary(rt: HostRuntime) -> Result<(), Fail> {
         ("bitmap", "made lib/w.lti 80\nfiles 1\n", BITMAP),
     ] {
         let mut tree = folder(alloc, None, b"")?;
-        let mut printed = sink(alloc, 4096, 0)?;
-        let words = words_of(alloc, &["index", "lib/w.tab", "c", kind, "lib/w.lti"])?;
-        let status = run(alloc, &words, &mut tree, &mut printed);
-        assert_eq!(rt; printed.bytes(), text.as_bytes());
-        assert_eq!(rt; status, Status::Done);
-        assert_eq!(rt; tree.file("lib/w.lti"), Some(made));
+        let words = ["index", "lib/w.tab", "c", kind, "lib/w.lti"];
+        check_answer(&rt, alloc, &mut tree, &words, text, Status::Done)?;
+        check_file(&rt, &tree, "lib/w.lti", Some(made));
     }
     Ok(())
 }
