@@ -5,7 +5,5 @@
 mod features;
 mod indexes;
 mod tables;
-#[cfg(test)]
-mod tests;
 
 pub use features::feature_files;

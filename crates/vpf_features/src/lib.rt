@@ -6,8 +6,6 @@ mod faults;
 mod opening;
 mod rows;
 mod schema;
-#[cfg(test)]
-mod tests;
 mod themes;
 
 pub use faults::FeatureFault;

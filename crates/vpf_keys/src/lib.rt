@@ -4,8 +4,6 @@
 mod index;
 mod keyed;
 mod ordering;
-#[cfg(test)]
-mod tests;
 
 pub use index::KeyIndex;
 pub use keyed::{KeyedRow, RowAt, put_keys};

@@ -6,8 +6,6 @@ mod columns;
 mod items;
 mod rows;
 mod tables;
-#[cfg(test)]
-mod tests;
 
 pub use columns::SchemaColumns;
 pub use items::ItemName;

@@ -3,10 +3,11 @@
 ghost use Rattle.std.specs.Prelude.{codes};
 ghost use Rattle.vpf_feature_files.specs.Held.{AreOfSchema};
 
-use crate::{FeatureFault, check_themes, open_features};
+use crate::same::same;
 use std::alloc::{AllocError, Global};
 use std::test::Fail;
 use vpf_feature_files::{FeatureFiles, load_features};
+use vpf_features::{FeatureFault, check_themes, open_features};
 use vpf_findings::{Finding, put_line};
 use vpf_loading::LoadStop;
 use vpf_source::MemTree;
@@ -196,7 +197,7 @@ fn reads_the_features_of_a_coverage(rt: HostRuntime) -> Result<(), Fail> {
             Ok(files) => told(alloc, &files)?,
             Err(stop) => stop_text(alloc, &stop)?,
         };
-        assert_eq!(rt; text.as_str(), case.told);
+        same(&rt, text.as_str(), case.told);
     }
     Ok(())
 }

@@ -1,9 +1,10 @@
 //! Names as they stand in cells, and a schema table in memory.
 
-use crate::{ItemName, SchemaColumns, SchemaRow, feature_items, schema_rows};
+use crate::same::{same, same_in};
 use std::alloc::Global;
 use std::test::Fail;
 use vpf_findings::TableName;
+use vpf_schema::{ItemName, SchemaColumns, SchemaRow, feature_items, schema_rows};
 use vpf_source::Name;
 use vpf_table::TableView;
 
@@ -79,7 +80,7 @@ fn items_of<'a>(row: &SchemaRow<'a>) -> [&'a [u8]; 5] {
 fn tells_names_apart(rt: HostRuntime) -> Result<(), Fail> {
     for (one, other, same) in PAIRS {
         let equal = ItemName { text: one } == ItemName { text: other };
-        assert_eq!(rt; equal, same, "{one:?} {other:?}");
+        same_in(&rt, equal, same, (one, other));
     }
     Ok(())
 }
@@ -88,10 +89,10 @@ fn tells_names_apart(rt: HostRuntime) -> Result<(), Fail> {
 fn reads_names(rt: HostRuntime) -> Result<(), Fail> {
     for (text, features, primitive, file) in NAMES {
         let name = ItemName { text };
-        assert_eq!(rt; name.is_feature_table(), features, "{text:?}");
-        assert_eq!(rt; name.primitive(), primitive, "{text:?}");
+        same_in(&rt, name.is_feature_table(), features, text);
+        same_in(&rt, name.primitive(), primitive, text);
         let own = name.file(rt.alloc())?;
-        assert_eq!(rt; own.as_ref().map(Name::as_str), file, "{text:?}");
+        same_in(&rt, own.as_ref().map(Name::as_str), file, text);
     }
     Ok(())
 }
@@ -105,14 +106,14 @@ fn lists_the_tables_of_a_schema(rt: HostRuntime) -> Result<(), Fail> {
         return Err("no columns".into());
     };
     let rows = schema_rows(alloc, &table)?;
-    assert_eq!(rt; rows.len(), SAID.len());
+    same(&rt, rows.len(), SAID.len());
     for (row, want) in rows.iter().zip(SAID) {
-        assert_eq!(rt; items_of(row), want);
+        assert!(rt; items_of(row) == want);
     }
     let items = feature_items(alloc, &rows)?;
-    assert_eq!(rt; items.len(), LISTED.len());
+    same(&rt, items.len(), LISTED.len());
     for (item, want) in items.iter().zip(LISTED) {
-        assert_eq!(rt; item.text, want);
+        same(&rt, item.text, want);
     }
     Ok(())
 }

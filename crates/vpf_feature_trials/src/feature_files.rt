@@ -3,10 +3,11 @@
 ghost use Rattle.std.specs.Prelude.{codes};
 ghost use Rattle.vpf_feature_files.specs.Held.{AreOfSchema};
 
-use crate::feature_files;
+use crate::same::same;
 use std::alloc::{AllocError, Global};
 use std::test::Fail;
 use vpf_feature_files::{FeatureFiles, load_features};
+use vpf_feature_writing::feature_files;
 use vpf_features::open_features;
 use vpf_source::{File, MemTree, Name};
 use vpf_table::{Bound, Limit};
@@ -150,10 +151,10 @@ fn makes_features_in_a_folder(rt: HostRuntime) -> Result<(), Fail> {
         let mut tree = tree_of(alloc, case.classes, ROADS, case.index)?;
         let files = made_of(alloc, &mut tree)??;
         let wanted = wanted(alloc, case)?;
-        assert_eq!(rt; files.len(), wanted.len());
+        same(&rt, files.len(), wanted.len());
         for (file, want) in files.iter().zip(&wanted) {
-            assert_eq!(rt; file.name.as_str(), want.0);
-            assert_eq!(rt; file.bytes.as_slice(), want.1);
+            same(&rt, file.name.as_str(), want.0);
+            same(&rt, file.bytes.as_slice(), want.1);
         }
     }
     Ok(())
@@ -174,7 +175,7 @@ fn tells_an_index_that_is_too_long(rt: HostRuntime) -> Result<(), Fail> {
     let Some((name, limit)) = limit_of(made_of(alloc, &mut tree)?) else {
         return Err("no limit is told".into());
     };
-    assert_eq!(rt; name.as_str(), "new/cov/f_code.lti");
-    assert_eq!(rt; limit, Limit { what, found });
+    same(&rt, name.as_str(), "new/cov/f_code.lti");
+    same(&rt, limit, Limit { what, found });
     Ok(())
 }

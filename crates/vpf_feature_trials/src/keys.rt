@@ -1,8 +1,9 @@
 //! The rows of keys, by hand.
 
-use crate::{KeyIndex, put_keys};
+use crate::same::same_in;
 use std::alloc::Global;
 use std::test::Fail;
+use vpf_keys::{KeyIndex, put_keys};
 use vpf_table::TableView;
 use vpf_triplet::Triplet;
 use vpf_value::Cell;
@@ -64,7 +65,7 @@ fn keys_join_rows_over_all_tiles(rt: HostRuntime) -> Result<(), Fail> {
     ] {
         let rows = index.rows(&key).iter();
         let found: Vec<(u32, u32)> = rows.map(|row| (row.at.tile, row.at.row)).collect(alloc)?;
-        assert_eq!(rt; found.as_slice(), want, "{key:?}");
+        same_in(&rt, found.as_slice(), want, key);
     }
     Ok(())
 }
