@@ -5,8 +5,6 @@ mod copies;
 mod edges;
 pub mod laws;
 mod lists;
-#[cfg(test)]
-mod tests;
 
 pub use copies::Copies;
 pub use edges::{EdgeNodes, EdgeTiles};

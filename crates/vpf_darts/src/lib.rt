@@ -14,8 +14,6 @@ mod listings;
 mod maps;
 mod removing;
 mod repeats;
-#[cfg(test)]
-mod tests;
 mod walking;
 
 pub use cycling::{Ranked, cycles, cycles_of, list_cycles};

@@ -6,8 +6,6 @@ mod finding;
 mod own;
 mod places;
 mod printing;
-#[cfg(test)]
-mod tests;
 
 pub use errors::FindError;
 pub use finding::{ColumnAt, Finding, Seen, SeenWord, TableName};

@@ -8,8 +8,6 @@
 mod grids;
 pub mod laws;
 mod rows;
-#[cfg(test)]
-mod tests;
 
 pub use grids::{GridRows, grid_rows, plan_rows};
 pub use rows::{EdgeRow, RingRow};

@@ -9,8 +9,6 @@ pub mod laws;
 mod making;
 mod names;
 mod reading;
-#[cfg(test)]
-mod tests;
 mod writing;
 
 pub use columns::{Column, Key};

@@ -5,8 +5,6 @@ mod folders;
 mod indexes;
 mod items;
 mod naming;
-#[cfg(test)]
-mod tests;
 
 pub use folders::last_part;
 pub use indexes::{ends_in_x, index_name};

@@ -7,8 +7,6 @@ mod passing;
 mod rows;
 mod scanning;
 mod selecting;
-#[cfg(test)]
-mod tests;
 mod value;
 mod words;
 

@@ -12,8 +12,6 @@ mod memory_tree;
 mod sink;
 mod steps;
 mod sure_tree;
-#[cfg(test)]
-mod tests;
 mod tree;
 mod trouble;
 

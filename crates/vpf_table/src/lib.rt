@@ -10,8 +10,6 @@ mod limit;
 mod places_of_rows;
 mod row;
 mod table_file;
-#[cfg(test)]
-mod tests;
 mod view;
 mod walking;
 

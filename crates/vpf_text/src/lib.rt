@@ -3,8 +3,6 @@
 
 mod bytes;
 mod cells;
-#[cfg(test)]
-mod tests;
 
 pub use bytes::{Printed, put_printed, put_quoted};
 pub use cells::{CellText, put_cell};

@@ -14,8 +14,6 @@ mod layout;
 mod marking;
 mod reporting;
 mod searching;
-#[cfg(test)]
-mod tests;
 mod view;
 
 pub use agreeing::agrees;

@@ -6,8 +6,6 @@ mod errors;
 mod grouping;
 mod heading;
 pub mod laws;
-#[cfg(test)]
-mod tests;
 mod writing;
 
 pub use building::build;

@@ -11,6 +11,8 @@ mod coverages;
 #[cfg(test)]
 mod gluings;
 #[cfg(test)]
+mod grid_files;
+#[cfg(test)]
 mod libraries;
 #[cfg(test)]
 mod tiled;

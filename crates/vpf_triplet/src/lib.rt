@@ -7,8 +7,6 @@ pub mod laws;
 mod orders;
 mod places;
 mod sizes;
-#[cfg(test)]
-mod tests;
 mod triplets;
 
 pub use kinds::{Count, Kind};

@@ -6,8 +6,6 @@ mod comparing;
 mod coords;
 mod fitting;
 pub mod laws;
-#[cfg(test)]
-mod tests;
 mod turning;
 mod widths;
 mod writing;

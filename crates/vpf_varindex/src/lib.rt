@@ -3,8 +3,6 @@
 
 pub mod laws;
 mod making;
-#[cfg(test)]
-mod tests;
 mod view;
 
 pub use making::index_of;

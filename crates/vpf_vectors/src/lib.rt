@@ -7,8 +7,6 @@ pub mod laws;
 mod library;
 mod numbers;
 mod tables;
-#[cfg(test)]
-mod tests;
 mod vectors;
 
 pub use headers::plan_header;
