@@ -82,15 +82,22 @@ refused_told cov tables plan tileref tiles (errors.Limit name limit) many h = ab
 refused_told cov tables plan tileref tiles errors.NoMemory many h = h
 
 -- where there is none, what the tables come to
-pub tiled_is : (cov : List ℕ) (tables forms : PrimitiveTables) (plan tileref : Grid) (tiles : ℕ) (cut : Cutting) → tiles ≡ length tileref.rows
-    → plan_refusal tables plan tiles ≡ None → IsCutBy tables plan tiles cut → forms ≡ tables
-    → tiles_of_tables (library_tables cov forms cut.source (plan_by cut.plan) tileref) ≡ tiled cov tables plan tileref
-tiled_is cov tables forms plan tileref tiles cut many none by same =
-    ap (λ (ts : PrimitiveTables). tiles_of_tables (library_tables cov ts cut.source (plan_by cut.plan) tileref)) same
-    ∙ ap (λ (c : Primitives). tiles_of_tables (library_tables cov tables c (plan_by cut.plan) tileref)) by.source
+pub tiled_is : (cov : List ℕ) (tables : PrimitiveTables) (plan tileref : Grid) (tiles : ℕ) (cut : Cutting) → tiles ≡ length tileref.rows
+    → plan_refusal tables plan tiles ≡ None → IsCutBy tables plan tiles cut
+    → tiles_of_tables (library_tables cov tables cut.source (plan_by cut.plan) tileref) ≡ tiled cov tables plan tileref
+tiled_is cov tables plan tileref tiles cut many none by =
+    ap (λ (c : Primitives). tiles_of_tables (library_tables cov tables c (plan_by cut.plan) tileref)) by.source
     ∙ ap (λ (p : ℕ → ℕ). tiles_of_tables (library_tables cov tables (primitives_of tables) p tileref)) by.plan
     ∙ sym (ap (unless_refused (library_tables cov tables (primitives_of tables) (plan_of (names_of_faces tables plan)) tileref))
     (ap (plan_refusal tables plan) (sym many) ∙ none))
+
+-- the tables of tiles are like those of the coverage, as it is cut
+pub making_is : (cov : List ℕ) (forms tables : PrimitiveTables) (made cut : Cutting) (tileref : Grid) → forms ≡ tables → made ≡ cut
+    → tiles_of_tables (library_tables cov forms made.source (plan_by made.plan) tileref)
+    ≡ tiles_of_tables (library_tables cov tables cut.source (plan_by cut.plan) tileref)
+making_is cov forms tables made cut tileref same is =
+    ap (λ (ts : PrimitiveTables). tiles_of_tables (library_tables cov ts made.source (plan_by made.plan) tileref)) same
+    ∙ ap (λ (k : Cutting). tiles_of_tables (library_tables cov tables k.source (plan_by k.plan) tileref)) is
 
 -- ---- why tables aren't written is why a coverage isn't tiled
 

@@ -1,6 +1,6 @@
 //! A coverage that is tiled.
 
-ghost use Rattle.std.specs.Prelude.{◌≡◌, IfOk, Some, false};
+ghost use Rattle.std.specs.Prelude.{◌≡◌, IfOk, Some, false, length};
 ghost use Rattle.vpf_base.specs.Results.{Meets};
 ghost use Rattle.vpf_prims.specs.Coverages.{tile_at};
 ghost use Rattle.vpf_prims.specs.Reading.{primitives_of};
@@ -10,20 +10,78 @@ ghost use Rattle.vpf_wing.specs.WellFormed.{IsWellFormed};
 ghost use Rattle.vpf_plan.specs.Plans.{IsPlanTable};
 ghost use Rattle.vpf_tileref.specs.Stops.{IsBounded};
 ghost use Rattle.vpf_tileref.specs.Tileref.{IsTileref};
-ghost use Rattle.vpf_tiler.specs.Making.{tile_error_seen, tiled};
+ghost use Rattle.vpf_cutting.specs.Cuts.{plan_by};
+ghost use Rattle.vpf_tile_files.specs.Tables.{library_tables};
+ghost use Rattle.vpf_tiler.specs.Making.{tile_error_seen, tiled, tiles_of_tables};
 ghost use Rattle.vpf_tiler.specs.Tilings.{GoesOnAs, HasCyclesOf, InEachFolder, IsGluedTo, IsHeldInTiles, OfEachCoverage, tiling_of};
 
 use crate::errors::TileError;
 use crate::laws::made_agrees;
 use crate::sources::{cut_by, is_readable, paths_of, source_of};
-use std::alloc::Global;
+use std::alloc::{AllocError, Global};
 use vpf_cross::Checked;
 use vpf_cut_rings::CutRings;
+use vpf_cutting::Cut;
 use vpf_prims::Tile;
 use vpf_source::File;
 use vpf_table::TableView;
 use vpf_tile_files::Making;
 use vpf_tile_tables::Forms;
+
+/// What the tables of tiles are made of.
+fn making_of<'w, 't, 'a>(
+    alloc: Global,
+    source: &'t Tile<'a>,
+    cut: &'w Cut<'t, 'a>,
+) -> Result<Making<'w, 't, 'a>, AllocError>
+    requires { HasColumns source.now.tables }
+    ensures cut { IfOk result (λ making. making.cut.now ≡ cut.now) }
+    ensures rings { IfOk result (λ making. making.rings ≡ cut.now) }
+    ensures forms { IfOk result (λ making. making.forms ≡ source.now.tables) }
+{
+    let rings = CutRings::new(alloc, cut)?;
+    let forms = Forms::new(source)?;
+    Ok(Making { cut, rings, forms })
+}
+
+/// The files of the library of what they are made of.
+fn files_with(
+    alloc: Global,
+    making: &Making<'_, '_, '_>,
+    tileref: &TableView<'_>,
+    cov: &str,
+) -> Result<Vec<File>, TileError>
+    requires source { making.now.cut.now.source ≡ primitives_of making.now.forms }
+    requires rings { making.now.rings ≡ making.now.cut.now }
+    requires tileref { IsTileref tileref.now }
+    requires bounded { IsBounded tileref.now }
+    requires tiles { making.now.cut.now.tiles ≡ length tileref.now.rows }
+    ensures { Meets (λ files. files.items) tile_error_seen result
+        (tiles_of_tables (library_tables cov.now making.now.forms making.now.cut.now.source (plan_by making.now.cut.now.plan) tileref.now)) }
+{
+    let paths = paths_of(alloc, tileref)?;
+    Ok(making.files(alloc, cov, tileref, &paths)?)
+}
+
+/// The files of the library of these tables, as they are cut.
+fn files_of_cut<'t, 'a>(
+    alloc: Global,
+    source: &'t Tile<'a>,
+    cut: &Cut<'t, 'a>,
+    tileref: &TableView<'_>,
+    cov: &str,
+) -> Result<Vec<File>, TileError>
+    requires columns { HasColumns source.now.tables }
+    requires cut { cut.now.source ≡ primitives_of source.now.tables }
+    requires tileref { IsTileref tileref.now }
+    requires bounded { IsBounded tileref.now }
+    requires tiles { cut.now.tiles ≡ length tileref.now.rows }
+    ensures { Meets (λ files. files.items) tile_error_seen result
+        (tiles_of_tables (library_tables cov.now source.now.tables cut.now.source (plan_by cut.now.plan) tileref.now)) }
+{
+    let making = making_of(alloc, source, cut)?;
+    files_with(alloc, &making, tileref, cov)
+}
 
 /// The files of the tiled library of these tables, or the first cause why there are none.
 fn cut_files(
@@ -41,15 +99,7 @@ fn cut_files(
     ensures { Meets (λ files. files.items) tile_error_seen result (tiled cov.now source.now.tables plan.now tileref.now) }
 {
     let cut = cut_by(alloc, source, plan, tileref.len())?;
-    let paths = paths_of(alloc, tileref)?;
-    let rings = CutRings::new(alloc, &cut)?;
-    let forms = Forms::new(source)?;
-    let making = Making {
-        cut: &cut,
-        rings,
-        forms,
-    };
-    Ok(making.files(alloc, cov, tileref, &paths)?)
+    files_of_cut(alloc, source, &cut, tileref, cov)
 }
 
 /// The files of the tiled library of an untiled coverage, cut by a plan that names a tile for each of its faces but the universe, and by a
