@@ -1,5 +1,6 @@
 //! Lines of findings as they are printed, and first places with ample memory.
 
+use std::alloc::Global;
 use std::test::Fail;
 use vpf_darts::TileDart;
 use vpf_findings::{
@@ -98,13 +99,15 @@ const LINES: [(Kind, Count, &[u8], Seen<'static>, &str); 10] = [
     ),
 ];
 
-#[test]
-fn prints_lines(rt: HostRuntime) -> Result<(), Fail> {
-    let alloc = rt.alloc();
-    for (kind, count, bytes, wanted, line) in LINES {
-        let cell = cell_at(Order::Little, kind, count, bytes, 0).ok();
-        let (cell, _) = cell.ok_or("a cell")?;
-        let finding = Finding {
+/// The finding of a cell of `LINES`.
+fn finding_of<'a>(
+    kind: Kind,
+    count: Count,
+    bytes: &'a [u8],
+    wanted: Seen<'a>,
+) -> Result<Finding<'a>, Fail> {
+    match cell_at(Order::Little, kind, count, bytes, 0) {
+        Ok((cell, _)) => Ok(Finding {
             rule: 3,
             tile: 1,
             table: TableName::Edg,
@@ -113,13 +116,32 @@ fn prints_lines(rt: HostRuntime) -> Result<(), Fail> {
             column: ColumnAt::new(b"a\""),
             found: Seen::Cell(kind, cell),
             wanted,
-        };
-        let mut text = String::new(alloc);
-        put_line(&mut text, "t/edg", &finding)?;
+        }),
+        Err(_) => Err("no cell")?,
+    }
+}
+
+fn line_of(alloc: Global, finding: &Finding<'_>) -> Result<String, Fail> {
+    let mut text = String::new(alloc);
+    put_line(&mut text, "t/edg", finding)?;
+    Ok(text)
+}
+
+/// Whether the finding is kept with its place, and prints this line then.
+fn is_kept(alloc: Global, finding: &Finding<'_>, line: &str) -> Result<bool, Fail> {
+    let own = OwnFinding::of(alloc, finding)?;
+    let same = own.line(alloc, "t/edg")?.as_slice() == line.as_bytes();
+    Ok(same && own.tile == 1 && own.file == 2 && own.table == TableName::Edg)
+}
+
+#[test]
+fn prints_lines(rt: HostRuntime) -> Result<(), Fail> {
+    let alloc = rt.alloc();
+    for (kind, count, bytes, wanted, line) in LINES {
+        let finding = finding_of(kind, count, bytes, wanted)?;
+        let text = line_of(alloc, &finding)?;
         assert_eq!(rt; text.as_str(), line);
-        let own = OwnFinding::of(alloc, &finding)?;
-        let same = own.line(alloc, "t/edg")?.as_slice() == line.as_bytes();
-        assert!(rt; same && own.tile == 1 && own.file == 2 && own.table == TableName::Edg);
+        assert!(rt; is_kept(alloc, &finding, line)?);
     }
     Ok(())
 }
