@@ -1,5 +1,6 @@
 -- The lines on the home copy of a dart, by the rows of both edges.
-use Rattle.std.proofs.Common.{◌≡◌, ℕ, ◌^◌, ◌<◌, ◌≤◌, eqb, Option, Some, None, Result, nat_eq, List, length, refl, sym, ap, ◌∙◌, subst}
+use Rattle.std.proofs.Common.{◌≡◌, ℕ, ◌^◌, ◌<◌, ◌≤◌, eqb, Option, Some, None, Result, nat_eq, List, length, refl, sym, ap, ◌∙◌, subst, inl, inr}
+use mathlib.Core.Bool.{beq}
 use Rattle.std.specs.Option.{option_eq, option_map}
 use Rattle.vpf_value.specs.Values.{Value}
 use Rattle.vpf_darts.specs.declared.darts.TileDart.{TileDart}
@@ -13,8 +14,9 @@ use Rattle.vpf_prims.specs.declared.citing.Citation.TheVariants as cites
 use Rattle.vpf_prims.specs.Columns.{in_table}
 use Rattle.vpf_prims.specs.Coverages.{CoverageTables, tile_at, last_tile}
 use Rattle.vpf_prims.specs.Lists.{kth}
-use Rattle.vpf_prims.specs.Numbering.{IsRowOf}
-use Rattle.vpf_prims.specs.Primitives.{EdgePrimitive, absent_edge}
+use Rattle.vpf_prims.specs.Libraries.{library_of}
+use Rattle.vpf_prims.specs.Numbering.{IsLineMark, IsRowOf}
+use Rattle.vpf_prims.specs.Primitives.{EdgePrimitive, absent_edge, edge_count, is_tile_line}
 use Rattle.vpf_prims.specs.Reading.{edge_in_row, primitives_of}
 use Rattle.vpf_prims.specs.Roles.{edge_roles}
 use Rattle.vpf_prims.specs.Suiting.{carried_columns}
@@ -25,12 +27,14 @@ use Rattle.vpf_follow.specs.Following.{home_copy, number_seen}
 use Rattle.vpf_follow.specs.Homes.{IsDartIn}
 use Rattle.vpf_follow.specs.SideLines.{face_citation}
 use Rattle.vpf_cross.specs.Carrying.{Difference, carried_at, first_difference}
+use Rattle.vpf_cross.specs.Laws.{AreNumbered}
 use Rattle.vpf_cross.specs.HomeLines.{coverage_links, home_carried_line, home_flip_line, home_lines, home_mark_line, home_sign_line, mark_seen}
 use Rattle.vpf_cross.proofs.AgreeLemmas.{is_there}
 use Rattle.vpf_cross.proofs.CarriedLemmas.{at_number}
 use Rattle.vpf_cross.proofs.CarryLemmas.{empty_carries}
 use Rattle.vpf_cross.proofs.DartLemmas.{same_numbers, seen_so}
-use Rattle.vpf_cross.proofs.LinkLemmas.{edge-code, edge_at, sign-code, tile-code}
+use Rattle.vpf_cross.proofs.LawNumbered.{tile_has_tables}
+use Rattle.vpf_cross.proofs.LinkLemmas.{edge-code, edge_at, edges_at, sign-code, tile-code}
 
 -- the tile of a dart of a coverage, and its edge there
 pub record IsIn (c : CoverageTables) (d : TileDart) : Type 0 where
@@ -156,3 +160,27 @@ module _ (c : CoverageTables) (d : TileDart) (T : TileTables) where
 
 pub finds_same : {V : Type 0} (r : Result V Finding) (a b : Option Disagreement) → b ≡ a → Finds r a → Finds r b
 finds_same r a b same h = subst (λ (o : Option Disagreement). Finds r o) (sym same) h
+
+-- ---- marks
+
+-- each mark is 0 or 1
+pub line_mark : (c : CoverageTables) → AreNumbered (library_of c) → (t k : ℕ) (T : TileTables) → tile_at c t ≡ Some T → IsRowOf (length (primitives_of T.tables).edges) k
+    → IsLineMark (kth (primitives_of T.tables).edges k absent_edge).mark
+line_mark c numbered t k T is row =
+    let same = edges_at c t T is in
+    let there : IsRowOf (edge_count (library_of c) t) k = subst (λ (es : List EdgePrimitive). IsRowOf (length es) k) (sym same) row in
+    let edge = (numbered t (tile_has_tables c t T is)).edges k there in
+    subst (λ (es : List EdgePrimitive). IsLineMark (kth es k absent_edge).mark) same edge.mark
+
+-- two marks are the same where both edges are lines between tiles, or neither is
+pub same_marks : (m n : Option ℕ) → IsLineMark m → IsLineMark n → beq (is_tile_line m) (is_tile_line n) ≡ option_eq nat_eq m n
+same_marks m n a b = elim a [
+  | inl x ↦ (elim b [
+    | inl y ↦ rw (x, y) refl
+    | inr y ↦ rw (x, y) refl
+  ])
+  | inr x ↦ (elim b [
+    | inl y ↦ rw (x, y) refl
+    | inr y ↦ rw (x, y) refl
+  ])
+]

@@ -55,7 +55,7 @@ fn row_counted<'t, 'a, L: Ledger>(blank: Blank, table: &'t TableView<'a>, k: u32
 }
 
 /// Row `k`, counted from 1.
-pub(crate) fn row_of<'t, 'a>(table: &'t TableView<'a>, k: u32) -> RowView<'t, 'a>
+fn row_of<'t, 'a>(table: &'t TableView<'a>, k: u32) -> RowView<'t, 'a>
     requires { IsRowOf (length table.now.rows) k }
     ensures row { result ≡ kth table.now.rows k [] }
     ensures width { length result ≡ length table.now.head.columns }

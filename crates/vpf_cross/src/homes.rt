@@ -1,7 +1,7 @@
 //! The home copies of outside darts.
 
-ghost use Rattle.std.specs.Prelude.{◌≡◌, ◌==◌, Some, length};
-ghost use Rattle.std.specs.Option.{option_map};
+ghost use Rattle.std.specs.Prelude.{◌≡◌, ◌==◌, Some, length, nat_eq};
+ghost use Rattle.std.specs.Option.{option_eq, option_map};
 ghost use Rattle.vpf_darts.specs.Darts.{sign_of, tile_dart_code};
 ghost use Rattle.vpf_findings.specs.Findings.{DartSeen, WordSeen};
 ghost use Rattle.vpf_findings.specs.Firsts.{Finds, unless};
@@ -9,10 +9,9 @@ ghost use Rattle.vpf_prims.specs.Coverages.{tile_at};
 ghost use Rattle.vpf_prims.specs.Lists.{kth};
 ghost use Rattle.vpf_prims.specs.Numbering.{IsRowOf};
 ghost use Rattle.vpf_prims.specs.Primitives.{absent_edge};
-ghost use Rattle.vpf_prims.specs.Reading.{natural_in, primitives_of};
+ghost use Rattle.vpf_prims.specs.Reading.{primitives_of};
 ghost use Rattle.vpf_prims.specs.Roles.{edge_roles};
 ghost use Rattle.vpf_prims.specs.Suiting.{carried_columns};
-ghost use Rattle.vpf_value.specs.Values.{view};
 ghost use Rattle.vpf_follow.specs.FollowLines.{at_wing_of};
 ghost use Rattle.vpf_follow.specs.Following.{home_copy};
 ghost use Rattle.vpf_follow.specs.Homes.{IsDartIn};
@@ -20,38 +19,14 @@ ghost use Rattle.vpf_cross.specs.Carrying.{carried_at, difference_of, first_diff
 ghost use Rattle.vpf_cross.specs.HomeLines.{copies_lines, coverage_links, home_carried_line, home_flip_line, home_lines, home_mark_line};
 ghost use Rattle.vpf_cross.specs.HomeLines.{homes_finding, outside_lines};
 
-use crate::carrying::{Difference, first_difference, row_of};
+use crate::carrying::{Difference, first_difference};
 use crate::tables::{face_citation, table, table_at, wing_citation};
 use vpf_coverage::Coverage;
 use vpf_darts::TileDart;
 use vpf_findings::{Finding, Seen, SeenWord, TableName};
 use vpf_follow::{Followed, is_outside};
+use vpf_numbers::laws::numbers_decide;
 use vpf_prims::{Citation, Tile, edge_roles};
-use vpf_value::Cell;
-
-/// The number of a cell, from 0 up.
-fn natural_in(cell: Cell<'_>) -> Option<u32>
-    ensures { result ≡ natural_in (view cell.entry) }
-{
-    match cell {
-        Cell::Short(number) => u32::try_from(i32::from(number)).ok(),
-        Cell::Long(number) => u32::try_from(number).ok(),
-        _ => None,
-    }
-}
-
-/// The mark of edge `k`, which says whether it is a line between tiles: 0 where the tile has no column of marks.
-fn mark(tile: &Tile<'_>, k: u32) -> Option<u32>
-    requires { IsRowOf (length (primitives_of tile.now.tables).edges) k }
-    ensures { result ≡ (kth (primitives_of tile.now.tables).edges k absent_edge).mark }
-{
-    let edges = table(tile, TableName::Edg);
-    let row = row_of(edges, k);
-    match edges.header().column(b"tile_line") {
-        Some(place) => natural_in(row.cell(place)),
-        None => Some(0),
-    }
-}
 
 /// The first difference of two edges in what they carry.
 fn edge_difference<'a>(here: &Tile<'a>, k: u32, there: &Tile<'a>, j: u32) -> Option<Difference<'a>>
@@ -118,6 +93,27 @@ fn check_sign<'a>(tile: &Tile<'a>, dart: TileDart, home: TileDart) -> Result<(),
     Err(tile.finding(dart.tile, citation, 5, dart.edge, Seen::Dart(home), wanted))
 }
 
+/// Whether an edge and an edge of another tile, by their darts, are both lines between tiles, or neither is: their marks are the same then,
+/// since each is 0 or 1.
+fn have_same_mark(
+    coverage: &Coverage<'_>,
+    tile: &Tile<'_>,
+    dart: TileDart,
+    there: &Tile<'_>,
+    home: TileDart,
+) -> bool
+    requires tile { tile_at coverage.now dart.tile ≡ Some tile.now }
+    requires row { IsRowOf (length (primitives_of tile.now.tables).edges) dart.edge }
+    requires there { tile_at coverage.now home.tile ≡ Some there.now }
+    requires row_there { IsRowOf (length (primitives_of there.now.tables).edges) home.edge }
+    ensures { result ≡ option_eq nat_eq (kth (primitives_of tile.now.tables).edges dart.edge absent_edge).mark
+        (kth (primitives_of there.now.tables).edges home.edge absent_edge).mark }
+{
+    coverage.has_numbers();
+    numbers_decide();
+    tile.edge(dart.edge).line == there.edge(home.edge).line
+}
+
 /// The edge of the home copy has the mark of the dart's edge.
 fn check_mark<'a>(
     coverage: &Coverage<'a>,
@@ -132,7 +128,7 @@ fn check_mark<'a>(
     ensures { Finds result (home_mark_line coverage.now dart.tile tile.now dart.edge dart.minus) }
 {
     let there = tile_of(coverage, home);
-    if mark(tile, dart.edge) == mark(there, home.edge) {
+    if have_same_mark(coverage, tile, dart, there, home) {
         return Ok(());
     }
     let found = tile.seen(Citation::TileLine, dart.edge);

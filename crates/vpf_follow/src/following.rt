@@ -38,6 +38,7 @@ pub fn is_outside(coverage: &Coverage<'_>, dart: TileDart) -> bool
 }
 
 /// Of the edge of this number in a tile, the home dart that begins there: nothing where both darts do, or neither does.
+#[inline(always)]
 fn named_dart(coverage: &Coverage<'_>, tile: u32, edge: u32, start: &Start) -> Option<TileDart>
     ensures { option_map tile_dart_code result ≡ only (is_named (links_of (library_of coverage.now)) start.now.node start.now.face) (code tile edge 0) }
 {
@@ -51,6 +52,7 @@ fn named_dart(coverage: &Coverage<'_>, tile: u32, edge: u32, start: &Start) -> O
 }
 
 /// The home dart that a wing and the head node name, for a dart of this tile that has the face of this name.
+#[inline(always)]
 fn linked_dart(
     coverage: &Coverage<'_>,
     tile: u32,

@@ -59,9 +59,11 @@ impl Homes {
             // There is no memory for so many darts.
             return Err(AllocError);
         }
-        let first = self.first(next);
         self.darts.reserve(1)?;
-        self.nexts.put(next)?;
+        let first = match self.nexts.put(next)? {
+            Some(place) => self.darts.get(place as usize).copied(),
+            None => None,
+        };
         self.darts.push(dart)?;
         Ok(first)
     }

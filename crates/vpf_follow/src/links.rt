@@ -40,6 +40,7 @@ pub(crate) struct Start {
 }
 
 /// The external part of a reference: there where both its tile and its number there are (MIL-STD-2407, 5.4, triplet id).
+#[inline(always)]
 pub(crate) fn external_part(reference: Triplet) -> Option<ExternalPart>
     ensures { result ≡ (link_of reference).out }
 {
@@ -67,6 +68,7 @@ pub(crate) fn is_own_face(face: Triplet) -> bool
 }
 
 /// Whether a face is one of another tile.
+#[inline(always)]
 pub(crate) fn is_far_face(face: Triplet) -> bool
     ensures { result ≡ is_far_face (link_of face) }
 {
@@ -74,6 +76,7 @@ pub(crate) fn is_far_face(face: Triplet) -> bool
 }
 
 /// A face of this tile, or one that it refers to, by its tile and its number there: nothing for the universe.
+#[inline(always)]
 pub(crate) fn face_name(tile: u32, face: Triplet) -> Option<ExternalPart>
     ensures { result ≡ face_beyond tile (link_of face) }
 {
@@ -86,6 +89,7 @@ pub(crate) fn face_name(tile: u32, face: Triplet) -> Option<ExternalPart>
 }
 
 /// The wing of the `+` or `-` dart of a row.
+#[inline(always)]
 pub(crate) fn wing(row: &EdgeRow, minus: bool) -> Triplet
     ensures { result ≡ row_wing minus row.now }
 {
@@ -93,6 +97,7 @@ pub(crate) fn wing(row: &EdgeRow, minus: bool) -> Triplet
 }
 
 /// The node where the `+` or `-` dart of a row ends.
+#[inline(always)]
 pub(crate) fn head_node(row: &EdgeRow, minus: bool) -> Triplet
     ensures { result ≡ row_node minus row.now }
 {
@@ -100,6 +105,7 @@ pub(crate) fn head_node(row: &EdgeRow, minus: bool) -> Triplet
 }
 
 /// The face of the `+` or `-` dart of a row.
+#[inline(always)]
 pub(crate) fn face(row: &EdgeRow, minus: bool) -> Triplet
     ensures { result ≡ row_face minus row.now }
 {
@@ -107,6 +113,7 @@ pub(crate) fn face(row: &EdgeRow, minus: bool) -> Triplet
 }
 
 /// Whether the `+` or `-` dart of a row of this tile is a home dart that begins there.
+#[inline(always)]
 pub(crate) fn begins_at(row: &EdgeRow, tile: u32, minus: bool, start: &Start) -> bool
     ensures { result ≡ row_is_named tile row.now minus start.now.node start.now.face }
 {
@@ -117,6 +124,7 @@ pub(crate) fn begins_at(row: &EdgeRow, tile: u32, minus: bool, start: &Start) ->
 }
 
 /// The row of an edge, where its tile has it.
+#[inline(always)]
 pub(crate) fn edge_row(coverage: &Coverage<'_>, tile: u32, edge: u32) -> Option<EdgeRow>
     ensures { result ≡ edge_row_in (library_of coverage.now) tile edge }
 {
