@@ -30,6 +30,36 @@ PY
   seconds=$(cat "$work/seconds")
 }
 
+# in_turn ROUNDS: runs the commands of its input in turn, ROUNDS times, and prints of each the median of its times, the least, and the peak. A line of the input is
+# MADE NAME COMMAND, parted by tabs: what MADE names is removed before each run of the command. So each command meets the same hours of the machine, which one
+# that runs alone for some seconds does not: one and the same command takes up to twice its least time. The medians are left in $medians, one a command.
+in_turn() {
+  cat > "$work/commands"
+  python3 - "$work/medians" "$work/commands" "$1" <<'PY'
+import os, shutil, statistics, subprocess, sys, time
+out, page, rounds = sys.argv[1], sys.argv[2], int(sys.argv[3])
+commands = [line.rstrip("\n").split("\t") for line in open(page)]
+times = [[] for _ in commands]
+peaks = [0 for _ in commands]
+for _ in range(rounds):
+    for k, (made, _, *command) in enumerate(commands):
+        if made and os.path.exists(made):
+            shutil.rmtree(made)
+        start = time.perf_counter()
+        child = subprocess.Popen(command, stdout=subprocess.DEVNULL)
+        _, status, used = os.wait4(child.pid, 0)
+        times[k].append(time.perf_counter() - start)
+        child.returncode = os.waitstatus_to_exitcode(status)
+        if child.returncode:
+            sys.exit(f"{command[0]} ended with {child.returncode}")
+        peaks[k] = max(peaks[k], used.ru_maxrss)
+for (_, name, *_), spent, peak in zip(commands, times, peaks):
+    print(f"{name:<30} {statistics.median(spent):8.3f} s   least {min(spent):8.3f} s   peak {peak / 1024:8.1f} MiB")
+open(out, "w").write(" ".join(str(statistics.median(spent)) for spent in times))
+PY
+  medians=$(cat "$work/medians")
+}
+
 # ratio NAME A B: prints A / B
 ratio() {
   python3 -c 'import sys; print(f"{sys.argv[1]:<44} {float(sys.argv[2]) / float(sys.argv[3]):6.2f}")' "$1" "$2" "$3"

@@ -1,0 +1,125 @@
+"""Sees that the pages of docs/ name what is there, and says what they lack: pages.py, at the root of the clone.
+
+DEFINITIONS: each word stands in a module of `specs/` that is named beside it, and the modules to read are all that the contract of `run` reaches, definition by definition.
+ARCHITECTURE: each crate stands in one layer, above none that it names, and has a row with the crates right below it. PROOFS: each crate with functions or laws has a row."""
+import functools
+import pathlib
+import re
+import sys
+
+lacks = []
+
+
+def page(name):
+    return pathlib.Path("docs", name).read_text()
+
+
+def rows(text):
+    """The rows of the tables of a page, cell by cell."""
+    lines = [line for line in text.splitlines() if line.startswith("|")]
+    return [[cell.strip() for cell in line.strip("|").split("|")] for line in lines]
+
+
+def ticked(text):
+    return re.findall(r"`([^`]+)`", text)
+
+
+def modules_named(cell):
+    """The modules that a cell names: a crate, and behind it modules in ticks."""
+    return [(crate, module) for crate, rest in re.findall(r"(vpf\w*)(.*?)(?=vpf_|vpf `|$)", cell) for module in ticked(rest) if module[0].isupper()]
+
+
+below = {}
+for line in pathlib.Path("crates.txt").read_text().splitlines():
+    if ":" in line and not line.startswith("#"):
+        crate, names = line.split(":")
+        below[crate] = names.split()
+
+modules = {(path.parts[1], path.stem): path.read_text() for path in pathlib.Path().glob("crates/*/specs/*.antt")}
+USE = re.compile(r"^(?:ghost )?use Rattle\.(vpf\w*)\.specs\.(\w+)\.\{([^}]*)\}", re.M)
+CALLED = re.compile(r"^use Rattle\.(vpf\w*)\.specs\.(\w+) as (\w+)", re.M)
+HEAD = re.compile(r"(?:(?:abbrev|unfoldable|pub|record|data) )*([^\s:()]+)")
+
+
+def imports(text):
+    """Where each name comes from that a module, or the code, takes from another module."""
+    return {name.strip(" ◌"): (crate, module) for crate, module, names in USE.findall(text) for name in names.split(",") if (crate, module) in modules}
+
+
+def definitions(text):
+    """What a module defines: a name, and its lines up to the next name."""
+    found, name = {}, None
+    for line in re.sub(r"--.*", "", text).splitlines():
+        head = HEAD.match(line)
+        if head and not line.startswith("use "):
+            name = head[1].strip("◌")
+        if name:
+            found[name] = found.get(name, "") + line + "\n"
+    return found
+
+
+taken = {key: imports(text) for key, text in modules.items()}
+called = {key: {name: (crate, module) for crate, module, name in CALLED.findall(text)} for key, text in modules.items()}
+defined = {key: definitions(text) for key, text in modules.items()}
+
+
+def reached():
+    """The modules of all definitions that the contract of `run` comes to."""
+    seen, todo = set(), [(key, name) for name, key in imports(pathlib.Path("crates/vpf/src/running.rt").read_text()).items()]
+    while todo:
+        key, name = todo.pop()
+        if (key, name) in seen:
+            continue
+        seen.add((key, name))
+        for alias, word in set(re.findall(r"(?:(\w+)\.)?([^\s(){}\[\],.;:→λ×]+)", defined[key].get(name, ""))):
+            if alias in called[key]:
+                todo.append((called[key][alias], word))
+            elif word in defined[key]:
+                todo.append((key, word))
+            elif word in taken[key]:
+                todo.append((taken[key][word], word))
+    return {key for key, _ in seen}
+
+
+def see_definitions():
+    to_read = set()
+    for cells in rows(page("DEFINITIONS.md")):
+        numbered = cells[0].isdigit()
+        named = modules_named(cells[1] if numbered else cells[-1])
+        lacks.extend(f"DEFINITIONS names {crate} {module}, which isn't there" for crate, module in named if (crate, module) not in modules)
+        if numbered:
+            to_read.update(named)
+            continue
+        text = "\n".join(modules.get(key, "") for key in named)
+        lacks.extend(f"DEFINITIONS: {word} isn't in {named}" for words in ticked(cells[1]) for word in re.findall(r"[A-Za-z_]\w*", words) if named and not re.search(rf"\b{word}\b", text))
+    lacks.extend(f"DEFINITIONS doesn't say to read {crate} {module}" for crate, module in sorted(reached() - to_read))
+
+
+@functools.cache
+def all_below(crate):
+    return {it for name in below.get(crate, ()) for it in {name} | all_below(name)}
+
+
+def see_architecture():
+    text = page("ARCHITECTURE.md")
+    layers = [line.split()[1:] for line in re.findall(r"^    (?:commands|libraries|topology|tables|bytes) .*$", text, re.M)]
+    place = {crate: k for k, layer in enumerate(layers) for crate in layer}
+    says = {name: cells[2] for cells in rows(text) if len(cells) == 3 for name in re.findall(r"vpf\w*", cells[0])}
+    for crate, names in below.items():
+        if crate not in place or any(place.get(name, len(layers)) < place[crate] for name in names):
+            lacks.append(f"ARCHITECTURE: the layer of {crate}")
+        right_below = {name for name in names if not name.startswith("vpf") or not any(name in all_below(other) for other in names)}
+        if set(re.findall(r"\w+", says.get(crate, "no row"))) != right_below:
+            lacks.append(f"ARCHITECTURE: {crate} stands on {sorted(right_below)}")
+
+
+def see_proofs():
+    told = {name for cells in rows(page("PROOFS.md")) for name in re.findall(r"vpf\w*", cells[0])}
+    lacks.extend(f"PROOFS: no row of {crate}" for crate in below if crate not in told and not crate.endswith("_trials"))
+
+
+see_definitions()
+see_architecture()
+see_proofs()
+print("\n".join(lacks) or "the pages name what is there")
+sys.exit(bool(lacks))
