@@ -35,15 +35,34 @@ for line in pathlib.Path("crates.txt").read_text().splitlines():
         crate, names = line.split(":")
         below[crate] = names.split()
 
-modules = {(path.parts[1], path.stem): path.read_text() for path in pathlib.Path().glob("crates/*/specs/*.antt")}
-USE = re.compile(r"^(?:ghost )?use Rattle\.(vpf\w*)\.specs\.(\w+)\.\{([^}]*)\}", re.M)
-CALLED = re.compile(r"^use Rattle\.(vpf\w*)\.specs\.(\w+) as (\w+)", re.M)
+
+def module_of(path):
+    """The name of a module of `specs/` below its crate: `Tilings.Cutting` stands in the folder Tilings."""
+    return ".".join(path.with_suffix("").parts[3:])
+
+
+modules = {(path.parts[1], module_of(path)): path.read_text() for path in pathlib.Path().glob("crates/*/specs/**/*.antt")}
+USE = re.compile(r"^(?:ghost )?use Rattle\.(vpf\w*)\.specs\.([\w.]+)\.\{([^}]*)\}", re.M)
+CALLED = re.compile(r"^use Rattle\.(vpf\w*)\.specs\.([\w.]+) as (\w+)", re.M)
+PASSED = re.compile(r"^pub use Rattle\.(vpf\w*)\.specs\.([\w.]+)(?: as (\w+))?$", re.M)
 HEAD = re.compile(r"(?:(?:abbrev|unfoldable|pub|record|data) )*([^\s:()]+)")
+
+
+# what a crate passes on of a lower one, by the name under which the crates above take it
+passed = {(at, name or module.split(".")[-1]): (crate, module) for (at, root), text in modules.items() if root == "Lib" for crate, module, name in PASSED.findall(text)}
+
+
+def home(crate, module):
+    """Where the text of a module stands that is taken from this crate, which may pass it on."""
+    key = (crate, module)
+    while key in passed:
+        key = passed[key]
+    return key
 
 
 def imports(text):
     """Where each name comes from that a module, or the code, takes from another module."""
-    return {name.strip(" ◌"): (crate, module) for crate, module, names in USE.findall(text) for name in names.split(",") if (crate, module) in modules}
+    return {name.strip(" ◌"): home(crate, module) for crate, module, names in USE.findall(text) for name in names.split(",") if home(crate, module) in modules}
 
 
 def definitions(text):
@@ -59,13 +78,14 @@ def definitions(text):
 
 
 taken = {key: imports(text) for key, text in modules.items()}
-called = {key: {name: (crate, module) for crate, module, name in CALLED.findall(text)} for key, text in modules.items()}
+called = {key: {name: home(crate, module) for crate, module, name in CALLED.findall(text) if home(crate, module) in modules}
+          for key, text in modules.items()}
 defined = {key: definitions(text) for key, text in modules.items()}
 
 
 def reached():
     """The modules of all definitions that the contract of `run` comes to."""
-    seen, todo = set(), [(key, name) for name, key in imports(pathlib.Path("crates/vpf/src/running.rt").read_text()).items()]
+    seen, todo = set(), [(key, name) for name, key in imports(pathlib.Path("crates/vpf_run/src/running.rt").read_text()).items()]
     while todo:
         key, name = todo.pop()
         if (key, name) in seen:

@@ -13,4 +13,4 @@ mod sources;
 #[cfg(test)]
 mod texts;
 #[cfg(test)]
-mod triplets;
+mod words;

@@ -1,5 +1,7 @@
+//! Indexes of rows: their entries, and how they are written.
+
 use std::test::Fail;
-use vpf_triplet::{Code, Order, Place};
+use vpf_triplet::Order;
 use vpf_varindex::{IndexView, index_of};
 
 /// One row of 7 bytes behind a header of 28, the most significant byte first.
@@ -10,45 +12,6 @@ const TWO: &[u8] = b"\x02\0\0\0\xe6\0\0\0\xea\0\0\0\x16\0\0\0\0\x01\0\0\x18\0\0\
 
 /// No rows.
 const NONE: &[u8] = b"\0\0\0\0\x18\0\0\0";
-
-/// As many entries as the number can tell, of which one is there.
-const MANY: &[u8] = b"\xff\xff\xff\xff\0\0\0\0\x08\0\0\0\0\0\0\0";
-
-/// The number of entries, or where the bytes are refused first.
-fn count_in(bytes: &[u8], order: Order) -> Result<u32, Place> {
-    let index = IndexView::open(bytes, order)?;
-    Ok(index.len())
-}
-
-#[test]
-fn opens_indexes(rt: HostRuntime) {
-    for (bytes, order, want) in [
-        (ONE, Order::Big, Ok(1)),
-        (TWO, Order::Little, Ok(2)),
-        (NONE, Order::Little, Ok(0)),
-        (&TWO[..0], Order::Little, Err((0, Code::IndexCut))),
-        (&TWO[..7], Order::Little, Err((0, Code::IndexCut))),
-        (&TWO[..8], Order::Little, Err((8, Code::IndexCut))),
-        (&TWO[..15], Order::Little, Err((8, Code::IndexCut))),
-        (&TWO[..16], Order::Little, Err((16, Code::IndexCut))),
-        (&TWO[..23], Order::Little, Err((16, Code::IndexCut))),
-        (TWO, Order::Big, Err((24, Code::IndexCut))),
-        (MANY, Order::Little, Err((16, Code::IndexCut))),
-        (
-            b"\0\0\0\0\0\0\0\0\x09",
-            Order::Little,
-            Err((8, Code::IndexExtra)),
-        ),
-        (
-            b"\0\0\0\x01\0\0\0\x18\0\0\0\x1c\0\0\0\x07\0\0\0\0\0\0\0\0",
-            Order::Big,
-            Err((16, Code::IndexExtra)),
-        ),
-    ] {
-        let want = want.map_err(|fault| Place::in_index(fault.0, fault.1));
-        assert_eq!(rt; count_in(bytes, order), want, "{bytes:?}");
-    }
-}
 
 /// Entry `k`, or nothing where there are fewer.
 fn entry_in(index: &IndexView<'_>, k: u32) -> Option<(u32, u32)> {

@@ -1,9 +1,8 @@
-//! Headers byte by byte: what is read of them and written of them, and where they are refused.
+//! Headers that are made of parts, and what is found and written of headers.
 
+mod finding;
 mod making;
 mod parts;
-mod reading;
-mod refusing;
 mod writing;
 
 use std::alloc::{AllocError, Global};
@@ -23,14 +22,6 @@ fn file(rt: &impl Abort, alloc: Global, text: &[u8]) -> Result<Vec<u8>, AllocErr
     order.put_u32(text.len() as u32, &mut bytes)?;
     bytes.extend_from_slice(text)?;
     Ok(bytes)
-}
-
-/// Where the bytes are refused, and why; nothing where they are read.
-fn refusal(alloc: Global, bytes: &[u8]) -> Option<PlaceError> {
-    match Header::read(alloc, bytes) {
-        Ok(_) => None,
-        Err(e) => Some(e),
-    }
 }
 
 fn refused(at: usize, code: Code) -> Option<PlaceError> {

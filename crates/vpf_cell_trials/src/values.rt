@@ -1,8 +1,7 @@
 //! What cells say, by bytes that are written out by hand.
 
-mod reading;
 mod values;
-mod writing;
+mod word_sizes;
 
 use vpf_triplet::{Count, Order};
 

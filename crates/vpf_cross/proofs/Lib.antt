@@ -27,3 +27,4 @@ mod RoundLemmas
 pub mod ElsewhereLemmas
 pub mod LikeLemmas
 pub mod LikeTiles
+pub use Rattle.vpf_follow.proofs.ListLemmas

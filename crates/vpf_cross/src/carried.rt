@@ -14,8 +14,8 @@ ghost use Rattle.vpf_cross.specs.Carrying.{carried_at, difference_of, first_diff
 
 use crate::carrying::{Difference, first_difference};
 use crate::tables::{external_part, head_node, node_citation, table, table_at};
-use vpf_coverage::Coverage;
 use vpf_findings::{Finding, TableName};
+use vpf_follow::coverage::Coverage;
 use vpf_prims::{Tile, face_roles, id_of, node_roles};
 
 /// The first difference of node `n` of a tile and node `m` of another in what they carry.

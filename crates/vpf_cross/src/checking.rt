@@ -15,8 +15,8 @@ use crate::tiles::{
 };
 use std::alloc::Global;
 use std::marker::Model;
-use vpf_coverage::Coverage;
 use vpf_findings::{FindError, Finding};
+use vpf_follow::coverage::Coverage;
 use vpf_follow::{Followed, check_follows};
 
 /// A coverage in whose topology nothing disagrees, with what follows its darts where it is tiled. Contracts see it as the coverage.

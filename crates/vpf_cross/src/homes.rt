@@ -21,9 +21,9 @@ ghost use Rattle.vpf_cross.specs.HomeLines.{homes_finding, outside_lines};
 
 use crate::carrying::{Difference, first_difference};
 use crate::tables::{face_citation, table, table_at, wing_citation};
-use vpf_coverage::Coverage;
 use vpf_darts::TileDart;
 use vpf_findings::{Finding, Seen, SeenWord, TableName};
+use vpf_follow::coverage::Coverage;
 use vpf_follow::{Followed, is_outside};
 use vpf_numbers::laws::numbers_decide;
 use vpf_prims::{Citation, Tile, edge_roles};

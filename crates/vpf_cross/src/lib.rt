@@ -19,3 +19,4 @@ pub use checking::{Checked, check_coverage};
 pub use homes::check_homes;
 pub use inhabited::check_inhabited;
 pub use rounds::check_rounds;
+pub use vpf_follow as follow;

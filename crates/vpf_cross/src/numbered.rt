@@ -5,7 +5,7 @@ ghost use Rattle.vpf_prims.specs.Libraries.{library_of};
 ghost use Rattle.vpf_cross.specs.Copies.{FacesAreElsewhere};
 ghost use Rattle.vpf_cross.specs.HomeLines.{coverage_links};
 
-use vpf_coverage::Coverage;
+use vpf_follow::coverage::Coverage;
 use vpf_numbers::laws::numbers_decide;
 
 /// What is so of the tiles of each coverage, whose columns, ids and references are right: they have few edges, and a face of another tile

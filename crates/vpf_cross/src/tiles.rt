@@ -15,8 +15,8 @@ use crate::homes::check_homes;
 use crate::inhabited::check_inhabited;
 use crate::rounds::check_rounds;
 use std::alloc::Global;
-use vpf_coverage::Coverage;
 use vpf_findings::{FindError, Finding};
+use vpf_follow::coverage::Coverage;
 use vpf_follow::{Followed, check_sides};
 use vpf_wing::{check_loops, check_tile};
 

@@ -10,13 +10,13 @@ use Rattle.vpf_prims.specs.Libraries.{library_of}
 use Rattle.vpf_loading.specs.Loading.{LoadedCoverage, read_coverage}
 use Rattle.vpf_loading.specs.declared.loading.LoadStop.{LoadStop}
 use Rattle.vpf_source.specs.declared.file.File.{File}
-use Rattle.vpf_library_commands.specs.Counting.{all_edges}
+use Rattle.vpf_tile_theorem.specs.Counting.{all_edges}
 use Rattle.vpf_trace.specs.Laws.{LibraryHasTrace, OneTrace}
 use Rattle.vpf_trace.specs.Tracing.{IsTrace}
 use Rattle.vpf_replies.specs.Answer.{done}
 use Rattle.vpf_replies.specs.Listings.{listing_text}
-use Rattle.vpf_library_commands.proofs.TraceAnswers.{darts_of, lists_are, text_same}
-use Rattle.vpf_grid_cutting.specs.Reading.{grid_request}
+use Rattle.vpf_tile_theorem.proofs.TraceAnswers.{darts_of, lists_are, text_same}
+use Rattle.vpf_drill.specs.GridCutting.Reading.{grid_request}
 use Rattle.vpf_drill.specs.Counting.{dart_count, longest}
 use Rattle.vpf_drill.specs.Digest.{digest}
 use Rattle.vpf_drill.specs.Drill.{cut_grid}

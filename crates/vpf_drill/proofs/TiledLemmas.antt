@@ -13,26 +13,26 @@ use Rattle.vpf_loading.specs.Holding.{bytes_in}
 use Rattle.vpf_loading.specs.Laws.{HeldIsRead}
 use Rattle.vpf_loading.specs.Loading.{LoadedCoverage, Read, most_loaded, within}
 use Rattle.vpf_table_files.specs.Adding.{files_made, first_limit_of}
-use Rattle.vpf_tile_files.specs.Tables.{library_tables}
+use Rattle.vpf_tiler.specs.TileFiles.Tables.{library_tables}
 use Rattle.vpf_replies.specs.declared.verdict.Verdict.TheVariants.{Done, Refused}
 use Rattle.vpf_replies.specs.Answer.{Answer, done}
-use Rattle.vpf_tiled_files.specs.Names.{NamesDifferWithin}
+use Rattle.vpf_tiler.specs.TiledFiles.Names.{NamesDifferWithin}
 use Rattle.vpf_features.specs.Finding.{Named}
 use Rattle.vpf_featured.specs.Reading.{FeaturedCoverage}
-use Rattle.vpf_library_commands.specs.Agreeing.{AgreeingIsRead, CheckCounts, IsAgreeing}
-use Rattle.vpf_library_commands.specs.declared.checking.CheckRequest.{CheckRequest}
-use Rattle.vpf_library_commands.specs.Check.{agrees_text, coverage_finding, found_answer, read_answer, read_finding}
-use Rattle.vpf_library_commands.specs.Made.{file_within}
-use Rattle.vpf_tilings.specs.Cutting.{IsCutFrom, cut_files}
-use Rattle.vpf_tilings.specs.Laws.{NoneIsLacked, RequestsHaveNames, TilesAreMade, TilingsAreHeld}
-use Rattle.vpf_tilings.specs.Tilings.{HasNames, StandsAlone, made_request, with_rebuilt}
-use Rattle.vpf_tilings.proofs.ReadLemmas.{OpenedIsRead}
-use Rattle.vpf_tilings.proofs.SourceLemmas.{AreRead, parts_read, unfound}
-use Rattle.vpf_tiled_sizes.specs.Sizes.{GridIsLoaded, GridPassesNoLimit}
+use Rattle.vpf_tile_theorem.specs.Agreeing.{AgreeingIsRead, CheckCounts, IsAgreeing}
+use Rattle.vpf_tile_theorem.specs.CheckRequest.{CheckRequest}
+use Rattle.vpf_tile_theorem.specs.Check.{agrees_text, coverage_finding, found_answer, read_answer, read_finding}
+use Rattle.vpf_tile_theorem.specs.Made.{file_within}
+use Rattle.vpf_tile_theorem.specs.Tilings.Cutting.{IsCutFrom, cut_files}
+use Rattle.vpf_tile_theorem.specs.Tilings.Laws.{NoneIsLacked, RequestsHaveNames, TilesAreMade, TilingsAreHeld}
+use Rattle.vpf_tile_theorem.specs.Tilings.Tilings.{HasNames, StandsAlone, made_request, with_rebuilt}
+use Rattle.vpf_tile_theorem.proofs.tilings.ReadLemmas.{OpenedIsRead}
+use Rattle.vpf_tile_theorem.proofs.tilings.SourceLemmas.{AreRead, parts_read, unfound}
+use Rattle.vpf_drill.specs.TiledSizes.Sizes.{GridIsLoaded, GridPassesNoLimit}
 use Rattle.vpf_vectors.specs.Library.{TablesSayGrid, coverage_tables}
-use Rattle.vpf_grid_cutting.specs.Held.{GridHoldsBytes, OutIsEmpty, grid_held, tileref_grid}
-use Rattle.vpf_grid_cutting.specs.Plans.{GridServes, grid_plan}
-use Rattle.vpf_grid_cutting.specs.Reading.{GridHasTables, GridIsAsked, GridIsReadToCut, GridIsUnfound, GridPartsAreUnfound, grid_parts, grid_request, grid_tile_tables, grid_words}
+use Rattle.vpf_drill.specs.GridCutting.Held.{GridHoldsBytes, OutIsEmpty, grid_held, tileref_grid}
+use Rattle.vpf_drill.specs.GridCutting.Plans.{GridServes, grid_plan}
+use Rattle.vpf_drill.specs.GridCutting.Reading.{GridHasTables, GridIsAsked, GridIsReadToCut, GridIsUnfound, GridPartsAreUnfound, grid_parts, grid_request, grid_tile_tables, grid_words}
 use Rattle.vpf_drill.specs.Drill.{cut_grid}
 use Rattle.vpf_drill.specs.Laws.{GridIsTiled}
 use Rattle.vpf_drill.specs.Request.{CanBeAsked}

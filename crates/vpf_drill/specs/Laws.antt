@@ -6,9 +6,9 @@ use Rattle.vpf_loading.specs.Loading.{LoadedCoverage, read_coverage}
 use Rattle.vpf_prims.specs.Libraries.{library_of}
 use Rattle.vpf_cross.specs.Agreeing.{LibraryAgrees}
 use Rattle.vpf_replies.specs.Answer.{Answer}
-use Rattle.vpf_library_commands.specs.Check.{coverage_finding}
-use Rattle.vpf_grid_cutting.specs.Held.{grid_held}
-use Rattle.vpf_grid_cutting.specs.Reading.{grid_request}
+use Rattle.vpf_tile_theorem.specs.Check.{coverage_finding}
+use Rattle.vpf_drill.specs.GridCutting.Held.{grid_held}
+use Rattle.vpf_drill.specs.GridCutting.Reading.{grid_request}
 use Rattle.vpf_drill.specs.Drill.{IsDrill, cut_grid}
 use Rattle.vpf_drill.specs.Request.{CanBeAsked}
 

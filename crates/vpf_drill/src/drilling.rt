@@ -8,8 +8,8 @@ ghost use Rattle.vpf_prims.specs.Libraries.{library_of};
 ghost use Rattle.vpf_loading.specs.Loading.{LoadedCoverage, read_coverage};
 ghost use Rattle.vpf_trace.specs.Tracing.{IsTrace};
 ghost use Rattle.vpf_cross.specs.CrossFinding.{topology_finding};
-ghost use Rattle.vpf_grid_cutting.specs.Held.{grid_held};
-ghost use Rattle.vpf_grid_cutting.specs.Reading.{grid_request};
+ghost use Rattle.vpf_drill.specs.GridCutting.Held.{grid_held};
+ghost use Rattle.vpf_drill.specs.GridCutting.Reading.{grid_request};
 ghost use Rattle.vpf_drill.specs.Drill.{IsDrill, cut_grid};
 ghost use Rattle.vpf_drill.specs.Digest.{digest};
 ghost use Rattle.vpf_drill.specs.Numbers.{source_numbers, tiled_numbers};
@@ -27,9 +27,9 @@ use vpf_coverage::Coverage;
 use vpf_cross::check_coverage;
 use vpf_darts::Listing;
 use vpf_findings::FindError;
-use vpf_library_commands::{MakeRequest, tile, totals_of};
 use vpf_replies::{Reply, Stop, Verdict, listed, settle};
 use vpf_source::{File, Name, SureTree, Tree};
+use vpf_tile_theorem::library_commands::{MakeRequest, tile, totals_of};
 use vpf_trace::trace;
 
 /// The folder of the library of the grid.

@@ -1,13 +1,18 @@
-//! `drill`: the grid of n by n cells, made in memory, cut into tiles, checked and traced, and what comes of it in numbers.
+//! `drill`: the grid of n by n cells, made in memory, cut into tiles, checked and traced, what comes of it in numbers, and the laws of the grid that
+//! it stands on.
 #![tactic(auto)]
 
 mod counting;
 mod digest;
 mod drilling;
+pub mod grid_agreement;
+pub mod grid_cutting;
 pub mod laws;
 mod numbers;
 mod request;
+pub mod tiled_sizes;
 mod trees;
 
 pub use drilling::drill;
 pub use request::DrillRequest;
+pub use vpf_tile_theorem as tile_theorem;

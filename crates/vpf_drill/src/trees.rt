@@ -9,12 +9,12 @@ ghost use Rattle.vpf_loading.specs.Loading.{LoadedCoverage, read_coverage};
 ghost use Rattle.vpf_numbers.specs.TableLines.{coverage_numbers};
 ghost use Rattle.vpf_drill.specs.Request.{CanBeAsked};
 ghost use Rattle.vpf_drill.specs.Trees.{CanBeRead};
-ghost use Rattle.vpf_grid_cutting.specs.Held.{grid_held};
+ghost use Rattle.vpf_drill.specs.GridCutting.Held.{grid_held};
 
+use crate::grid_cutting::laws::grid_is_held;
 use std::alloc::{AllocError, Global};
 use vpf_coverage::{Coverage, open_coverage};
 use vpf_findings::FindError;
-use vpf_grid_cutting::laws::grid_is_held;
 use vpf_loading::{LoadStop, load_coverage};
 use vpf_source::{DeviceError, File, SureTree, Tree, make_all};
 use vpf_vectors::grid;

@@ -3,3 +3,10 @@ pub mod Firsts
 pub mod FirstLaws
 pub mod Printing
 pub mod Places
+pub use Rattle.vpf_value.specs.Values
+pub use Rattle.vpf_value.specs.Canonical
+pub use Rattle.vpf_value.specs.Fitting
+pub use Rattle.vpf_value.specs.Faults
+pub use Rattle.vpf_value.specs.Reading
+pub use Rattle.vpf_value.specs.Spelling
+pub use Rattle.vpf_value.specs.Widths

@@ -12,3 +12,4 @@ pub use finding::{ColumnAt, Finding, Seen, SeenWord, TableName};
 pub use own::OwnFinding;
 pub use places::FirstPlaces;
 pub use printing::put_line;
+pub use vpf_value as value;

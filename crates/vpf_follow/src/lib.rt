@@ -13,3 +13,4 @@ mod sides;
 pub use followed::{Followed, check_follows};
 pub use following::{follow, is_home, is_outside};
 pub use sides::check_sides;
+pub use vpf_coverage as coverage;

@@ -1,12 +1,12 @@
 -- What an edge of a glued coverage names, all numbers small.
 use Rattle.std.proofs.Common.{◌≡◌, ℕ, ◌*◌, ◌^◌, ◌<◌, ◌≤◌, length, arith}
 use Rattle.vpf_base.specs.Limits.{most_rows}
-use Rattle.vpf_gluing.specs.Whole.{Whole}
-use Rattle.vpf_gluing.specs.Glued.{first_darts, plus_darts}
-use Rattle.vpf_glued_edges.specs.declared.glued.EdgeJoins.{EdgeJoins}
-use Rattle.vpf_glued_edges.specs.Glued.{AreRows}
-use Rattle.vpf_glued_tables.specs.declared.numbers.EdgeNumbers.{EdgeNumbers}
-use Rattle.vpf_glued_tables.specs.Numbers.{AreSmall}
+use Rattle.vpf_renumbering.specs.TilingLawsWhole.{Whole}
+use Rattle.vpf_renumbering.specs.Glued.{first_darts, plus_darts}
+use Rattle.vpf_renumbering.specs.declared.glued_edges.glued.EdgeJoins.{EdgeJoins}
+use Rattle.vpf_renumbering.specs.GluedEdges.Glued.{AreRows}
+use Rattle.vpf_glue.specs.declared.glued_tables.numbers.EdgeNumbers.{EdgeNumbers}
+use Rattle.vpf_glue.specs.GluedTables.Numbers.{AreSmall}
 
 abbrev pub joined : EdgeJoins → (right left : ℕ) → EdgeNumbers
 joined j right left = record {

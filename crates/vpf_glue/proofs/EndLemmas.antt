@@ -8,7 +8,7 @@ use Rattle.vpf_head.specs.Soundness.{IsSound}
 use Rattle.vpf_table.specs.Grid.{Grid}
 use Rattle.vpf_prims.specs.Coverages.{CoverageTables, tile_at}
 use Rattle.vpf_prims.specs.Tables.{TileTables, table_named}
-use Rattle.vpf_glued_tables.specs.Grids.{first_end}
+use Rattle.vpf_glue.specs.GluedTables.Grids.{first_end}
 use Rattle.vpf_glue.specs.Sources.{IsOfTile, table_in}
 
 skip_one : (o : Option TileTables) (rest : List (Option TileTables)) → option_and_then (λ (T : TileTables). table_named T names.End) o ≡ None

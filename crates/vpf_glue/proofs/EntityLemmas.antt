@@ -20,12 +20,12 @@ use Rattle.vpf_prims.specs.Reading.{entity_in_row, reference_of, rows_said}
 use Rattle.vpf_prims.specs.References.{id_of}
 use Rattle.vpf_prims.specs.Tables.{TileTables, table_named}
 use Rattle.vpf_tiling.specs.Ranks.{numbered, numbered_from}
-use Rattle.vpf_gluing.specs.Whole.{WholeEntity, face_here, tiles_in, whole_entities}
-use Rattle.vpf_gluing.specs.Glued.{face_number}
+use Rattle.vpf_renumbering.specs.TilingLawsWhole.{WholeEntity, face_here, tiles_in, whole_entities}
+use Rattle.vpf_renumbering.specs.Glued.{face_number}
 use Rattle.vpf_table_forms.specs.Forms.{pair_values}
-use Rattle.vpf_glued_faces.specs.Faces.{entity_face}
-use Rattle.vpf_glued_tables.specs.Grids.{EntitySource, entity_source, entity_sources, glued_entity_row, sources_in_table, whole_in}
-use Rattle.vpf_glued_tables.specs.Laws.{AreOfTiles}
+use Rattle.vpf_renumbering.specs.GluedFaces.Faces.{entity_face}
+use Rattle.vpf_glue.specs.GluedTables.Grids.{EntitySource, entity_source, entity_sources, glued_entity_row, sources_in_table, whole_in}
+use Rattle.vpf_glue.specs.GluedTables.Laws.{AreOfTiles}
 use Rattle.vpf_glue.specs.Sources.{IsOfTile, IsRight, sources_before, sources_of, table_in}
 use Rattle.vpf_glue.proofs.EndLemmas.{tile_with}
 

@@ -9,10 +9,10 @@ use Rattle.std.proofs.lemmas.List.FromFn.{get_or-map-range_with_len}
 use Rattle.vpf_prims.specs.Lists.{first_item}
 use Rattle.vpf_tiling.specs.Tiles.{Ring}
 use Rattle.vpf_cut_rings.specs.Rings.{first_rings_of}
-use Rattle.vpf_gluing.specs.Glued.{glued_rings, tiles_of_faces}
-use Rattle.vpf_gluing.specs.Whole.{WholeFace}
-use Rattle.vpf_glued_faces.specs.Faces.{nowhere}
-use Rattle.vpf_glued_tables.specs.Grids.{face_sources, row_in, whole_in}
+use Rattle.vpf_renumbering.specs.Glued.{glued_rings, tiles_of_faces}
+use Rattle.vpf_renumbering.specs.TilingLawsWhole.{WholeFace}
+use Rattle.vpf_renumbering.specs.GluedFaces.Faces.{nowhere}
+use Rattle.vpf_glue.specs.GluedTables.Grids.{face_sources, row_in, whole_in}
 
 mapped_at : (h : Beyond → Row) (fs : List WholeFace) (i : ℕ) → i < length fs
     → get_or (map (λ (f : WholeFace). h f.at) fs) i [] ≡ h (get_or (map (λ (f : WholeFace). f.at) fs) i nowhere)

@@ -12,7 +12,7 @@ use Rattle.vpf_cross.specs.CarriedLines.{first_tile}
 use Rattle.vpf_table_files.specs.declared.errors.AddError.{AddError}
 use Rattle.vpf_table_files.specs.Adding.{AreAdded, Fails, NamedTable, error_seen, made_of_tables}
 use Rattle.vpf_table_files.specs.AddLaws.{added_then, made_are, made_fail}
-use Rattle.vpf_glued_tables.specs.Grids.{glued_tables, plan_grid}
+use Rattle.vpf_glue.specs.GluedTables.Grids.{glued_tables, plan_grid}
 use Rattle.vpf_glue.specs.Tables.{coverage_tables, glued_made, tables_like, tileref_table}
 use Rattle.vpf_glue.proofs.AddLemmas.{first_fails, next_fails}
 

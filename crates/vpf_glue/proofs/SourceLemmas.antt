@@ -23,9 +23,9 @@ use Rattle.vpf_wing.specs.DartLaws.{IsThere, code-edge, code-tile, flip-edge, fl
 use Rattle.vpf_wing.specs.Links.{Beyond, edge_of_dart, face_by, is_minus, link_of, links_of, node_by, tail_node}
 use Rattle.vpf_follow.specs.Following.{face_beyond, face_name, is_home}
 use Rattle.vpf_follow.specs.FollowLaws.{home_has}
-use Rattle.vpf_gluing.specs.Whole.{whole_of}
-use Rattle.vpf_glued_tables.specs.Grids.{row_in}
-use Rattle.vpf_glued_tables.specs.Laws.{AreOfTiles}
+use Rattle.vpf_renumbering.specs.TilingLawsWhole.{whole_of}
+use Rattle.vpf_glue.specs.GluedTables.Grids.{row_in}
+use Rattle.vpf_glue.specs.GluedTables.Laws.{AreOfTiles}
 use Rattle.vpf_glue.specs.Sources.{IsFaceThere, IsOfTile, IsRight, IsRowIn, table_in}
 
 -- ---- rows of tables

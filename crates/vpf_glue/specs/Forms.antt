@@ -5,8 +5,8 @@ use Rattle.vpf_triplet.specs.declared.kinds.Kind.TheVariants.{I}
 use Rattle.vpf_prims.specs.Coverages.{CoverageTables}
 use Rattle.vpf_prims.specs.Reading.{PrimitiveTables}
 use Rattle.vpf_table_forms.specs.Models.{PairsLike}
-use Rattle.vpf_glued_tables.specs.declared.forms.GluedForms.{GluedForms}
-use Rattle.vpf_glued_tables.specs.Grids.{glued_edge_grid, glued_entity_grid, glued_face_grid, glued_node_grid, glued_ring_grid}
+use Rattle.vpf_glue.specs.declared.glued_tables.forms.GluedForms.{GluedForms}
+use Rattle.vpf_glue.specs.GluedTables.Grids.{glued_edge_grid, glued_entity_grid, glued_face_grid, glued_node_grid, glued_ring_grid}
 use Rattle.vpf_glue.specs.Sources.{IsOfTile}
 
 -- a table of entity nodes is written like one of a tile, with numbers of faces

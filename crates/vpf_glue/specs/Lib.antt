@@ -1,3 +1,5 @@
 pub mod Tables
 pub mod Sources
 pub mod Forms
+pub mod GluedTables
+pub mod GluedReading

@@ -18,7 +18,7 @@ use Rattle.vpf_numbers.specs.Matching.{HaveColumns}
 use Rattle.vpf_revise.specs.Revising.{FitsElsewhere, with_kinds}
 use Rattle.vpf_wing.specs.Links.{Beyond}
 use Rattle.vpf_table_forms.specs.Forms.{EdgeValues, edge_kinds_of, edge_values_of, pair_kinds, pair_values}
-use Rattle.vpf_glued_tables.specs.Grids.{EntitySource, sources_in_table}
+use Rattle.vpf_glue.specs.GluedTables.Grids.{EntitySource, sources_in_table}
 
 -- the tiles of a coverage are those of a library, all tables have their columns, and rows are numbered
 pub record IsRight (c : CoverageTables) : Type 0 where

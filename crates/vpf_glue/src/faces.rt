@@ -3,16 +3,16 @@
 ghost use Rattle.std.specs.Prelude.{◌≡◌, ◌+◌, ◌<◌, ◌^◌, [], All, Some, codes, length, slice_index_or};
 ghost use Rattle.vpf_table.specs.Grid.{Grid};
 ghost use Rattle.vpf_write.specs.Writing.{Writes};
-ghost use Rattle.vpf_gluing.specs.Glued.{glued_rings};
+ghost use Rattle.vpf_renumbering.specs.Glued.{glued_rings};
 ghost use Rattle.vpf_cut_rings.specs.Rings.{first_rings_of};
-ghost use Rattle.vpf_glued_tables.specs.Grids.{face_sources, glued_face_grid, whole_in};
+ghost use Rattle.vpf_glue.specs.GluedTables.Grids.{face_sources, glued_face_grid, whole_in};
 ghost use Rattle.vpf_glue.specs.Sources.{FitsPairs, IsOfTile};
 
+use crate::glued_tables::laws::rows_of_tiles_fit;
 use crate::sources::{is_right, row_in_tile};
 use std::alloc::Global;
 use vpf_findings::TableName;
-use vpf_glued_faces::GluedFaces;
-use vpf_glued_tables::laws::rows_of_tiles_fit;
+use vpf_renumbering::glued_faces::GluedFaces;
 use vpf_table::{RowView, TableView};
 use vpf_table_forms::{PairForm, row_of};
 use vpf_write::{WriteError, Written};

@@ -5,6 +5,8 @@
 mod edges;
 mod entities;
 mod faces;
+pub mod glued_reading;
+pub mod glued_tables;
 mod gluing;
 mod nodes;
 mod plan;

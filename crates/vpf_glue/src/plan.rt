@@ -1,11 +1,11 @@
 //! The tiles of the faces of a glued coverage, which its plan names.
 
 ghost use Rattle.std.specs.Prelude.{◌≡◌, ◌<◌, ◌^◌, All, IfOk};
-ghost use Rattle.vpf_gluing.specs.Glued.{tiles_of_faces};
-ghost use Rattle.vpf_glued_tables.specs.Grids.{whole_in};
+ghost use Rattle.vpf_renumbering.specs.Glued.{tiles_of_faces};
+ghost use Rattle.vpf_glue.specs.GluedTables.Grids.{whole_in};
 
 use std::alloc::{AllocError, Global};
-use vpf_glued_faces::GluedFaces;
+use vpf_renumbering::glued_faces::GluedFaces;
 
 /// A tile's number, where a cell of 4 bytes can name it. A coverage with more tiles is larger than memory.
 fn nameable(tile: u32) -> Result<u32, AllocError>

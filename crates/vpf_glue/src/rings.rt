@@ -3,14 +3,14 @@
 ghost use Rattle.std.specs.Prelude.{◌≡◌, ◌<◌, ◌^◌, All, length, map};
 ghost use Rattle.vpf_prims.specs.Libraries.{library_of};
 ghost use Rattle.vpf_write.specs.Writing.{Writes};
-ghost use Rattle.vpf_gluing.specs.Glued.{glued_rings};
-ghost use Rattle.vpf_glued_faces.specs.Rings.{HasHomeStart, ring_of};
-ghost use Rattle.vpf_glued_tables.specs.Grids.{glued_ring_grid, whole_in};
+ghost use Rattle.vpf_renumbering.specs.Glued.{glued_rings};
+ghost use Rattle.vpf_renumbering.specs.GluedFaces.Rings.{HasHomeStart, ring_of};
+ghost use Rattle.vpf_glue.specs.GluedTables.Grids.{glued_ring_grid, whole_in};
 
 use crate::sources::are_few;
 use std::alloc::Global;
-use vpf_glued_edges::GluedEdges;
-use vpf_glued_faces::GluedRing;
+use vpf_renumbering::glued_edges::GluedEdges;
+use vpf_renumbering::glued_faces::GluedRing;
 use vpf_table_forms::RingForm;
 use vpf_write::{WriteError, Written};
 

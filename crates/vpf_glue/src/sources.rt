@@ -9,16 +9,16 @@ ghost use Rattle.vpf_prims.specs.Numbering.{IsRowOf};
 ghost use Rattle.vpf_prims.specs.Libraries.{library_of};
 ghost use Rattle.vpf_cross.specs.CarriedLines.{first_tile};
 ghost use Rattle.vpf_base.specs.Limits.{most_rows};
-ghost use Rattle.vpf_gluing.specs.Glued.{first_darts, plus_darts};
-ghost use Rattle.vpf_glued_tables.specs.Grids.{first_end, whole_in};
+ghost use Rattle.vpf_renumbering.specs.Glued.{first_darts, plus_darts};
+ghost use Rattle.vpf_glue.specs.GluedTables.Grids.{first_end, whole_in};
 ghost use Rattle.vpf_glue.specs.Sources.{IsOfTile, IsRight, IsRowIn, table_in};
 
 use vpf_coverage::Coverage;
 use vpf_cross::{Checked, first_tile};
 use vpf_findings::TableName;
-use vpf_glued_edges::GluedEdges;
 use vpf_numbers::laws::numbers_decide;
 use vpf_prims::Tile;
+use vpf_renumbering::glued_edges::GluedEdges;
 use vpf_table::{RowView, TableView};
 use vpf_table_forms::row_of;
 

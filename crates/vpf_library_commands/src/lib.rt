@@ -17,3 +17,4 @@ pub use requesting::MakeRequest;
 pub use tiling::tile;
 pub use totals::{Totals, totals_of};
 pub use tracing::trace;
+pub use vpf_tiler as tiler;

@@ -1,10 +1,10 @@
 -- Rows that are read one after another.
 use Rattle.std.proofs.Common.{◌≡◌, ℕ, ◌+◌, Bool, true, false, Option, Some, None, Err, List, [], ◌∷◌, ◌++◌, map, append_assoc, refl, sym, ap, ◌∙◌}
-use Rattle.vpf_findings.specs.Firsts.{◌or◌, Tells, unless, first_of_rows}
-use Rattle.vpf_findings.specs.Findings.{Disagreement, disagreement_of}
-use Rattle.vpf_findings.specs.declared.errors.FindError.{FindError}
-use Rattle.vpf_findings.specs.declared.errors.FindError.TheVariants as errors
-use Rattle.vpf_findings.specs.FirstLaws.{or-assoc, rows_pass}
+use Rattle.vpf_table.specs.Firsts.{◌or◌, Tells, unless, first_of_rows}
+use Rattle.vpf_table.specs.Findings.{Disagreement, disagreement_of}
+use Rattle.vpf_table.specs.FindError.{FindError}
+use Rattle.vpf_table.specs.FindError.TheVariants as errors
+use Rattle.vpf_table.specs.FirstLaws.{or-assoc, rows_pass}
 
 pub unless_none : {F : Type 0} (b : Bool) (f : F) → unless b f ≡ None → b ≡ true
 unless_none true f h = refl

@@ -4,8 +4,8 @@ use Rattle.std.specs.Option.{unwrap_or}
 use Rattle.std.proofs.lemmas.List.Elements.{All-map}
 use Rattle.std.proofs.lemmas.Bool.Decides.{nat_tests}
 use Rattle.vpf_table.specs.Grid.{Row}
-use Rattle.vpf_findings.specs.Firsts.{◌or◌}
-use Rattle.vpf_findings.specs.FirstLaws.{or-none_both, rows_none}
+use Rattle.vpf_table.specs.Firsts.{◌or◌}
+use Rattle.vpf_table.specs.FirstLaws.{or-none_both, rows_none}
 use Rattle.vpf_prims.specs.declared.edges.Ranges.{Ranges}
 use Rattle.vpf_prims.specs.declared.placing.TableAt.{TableAt}
 use Rattle.vpf_prims.specs.Columns.{RoleAt}

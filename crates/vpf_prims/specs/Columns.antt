@@ -4,9 +4,9 @@ use Rattle.std.specs.Option.{option_and_then}
 use Rattle.vpf_triplet.specs.declared.kinds.Kind.{Kind}
 use Rattle.vpf_triplet.specs.declared.kinds.Kind.TheVariants as kinds
 use Rattle.vpf_head.specs.Head.{Col, place_of}
-use Rattle.vpf_findings.specs.declared.finding.SeenWord.TheVariants as words
-use Rattle.vpf_findings.specs.Findings.{Sight, KindSeen, WordSeen, Disagreement, column_name}
-use Rattle.vpf_findings.specs.Firsts.{◌or◌, unless}
+use Rattle.vpf_table.specs.SeenWord.TheVariants as words
+use Rattle.vpf_table.specs.Findings.{Sight, KindSeen, WordSeen, Disagreement, column_name}
+use Rattle.vpf_table.specs.Firsts.{◌or◌, unless}
 use Rattle.vpf_prims.specs.declared.placing.TableAt.{TableAt}
 use Rattle.vpf_prims.specs.declared.placing.RoleColumn.{RoleColumn}
 use Rattle.vpf_prims.specs.Roles.{Role, suits, wanted_word, number_role, reference_role}

@@ -3,8 +3,8 @@ use Rattle.std.specs.Prelude.{ℕ, ◌≤◌, List, All, Option, codes}
 use Rattle.vpf_triplet.specs.declared.triplets.Triplet.{Triplet}
 use Rattle.vpf_head.specs.Head.{Col}
 use Rattle.vpf_table.specs.Grid.{Row}
-use Rattle.vpf_findings.specs.Findings.{Disagreement}
-use Rattle.vpf_findings.specs.Firsts.{◌or◌, first_of_rows}
+use Rattle.vpf_table.specs.Findings.{Disagreement}
+use Rattle.vpf_table.specs.Firsts.{◌or◌, first_of_rows}
 use Rattle.vpf_prims.specs.declared.placing.TableAt.{TableAt}
 use Rattle.vpf_prims.specs.declared.edges.Ranges.{Ranges}
 use Rattle.vpf_prims.specs.declared.rows.Edge.{Edge}

@@ -1,8 +1,8 @@
 -- A coverage by what the tables of its tiles say, and what a rule finds in its tiles.
 use Rattle.std.specs.Prelude.{◌≡◌, ℕ, ◌+◌, ◌<◌, ◌^◌, true, false, Option, Some, None}
 use Rattle.std.specs.Option.{option_map}
-use Rattle.vpf_findings.specs.Findings.{Disagreement}
-use Rattle.vpf_findings.specs.Firsts.{first_over}
+use Rattle.vpf_table.specs.Findings.{Disagreement}
+use Rattle.vpf_table.specs.Firsts.{first_over}
 use Rattle.vpf_prims.specs.Primitives.{Primitives, Library, edge_count, has_tables}
 use Rattle.vpf_prims.specs.Reading.{primitives_of}
 use Rattle.vpf_prims.specs.Tables.{TileTables}

@@ -3,8 +3,8 @@ use Rattle.std.specs.Prelude.{ℕ, pos, not, ◌==◌, List, length, Option}
 use Rattle.vpf_value.specs.Values.{Value}
 use Rattle.vpf_head.specs.Head.{Col}
 use Rattle.vpf_table.specs.Grid.{Row}
-use Rattle.vpf_findings.specs.Findings.{NumberSeen, CellSeen, RangeSeen, Disagreement}
-use Rattle.vpf_findings.specs.Firsts.{unless}
+use Rattle.vpf_table.specs.Findings.{NumberSeen, CellSeen, RangeSeen, Disagreement}
+use Rattle.vpf_table.specs.Firsts.{unless}
 use Rattle.vpf_prims.specs.declared.placing.TableAt.{TableAt}
 use Rattle.vpf_prims.specs.Columns.{RoleAt, id_column, in_table}
 use Rattle.vpf_prims.specs.References.{reference_in, signed_in, cell_at, is_same, is_from}

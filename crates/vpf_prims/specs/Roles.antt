@@ -2,8 +2,8 @@
 use Rattle.std.specs.Prelude.{ℕ, Bool, true, false, List, [], ◌∷◌, codes}
 use Rattle.vpf_triplet.specs.declared.kinds.Kind.{Kind}
 use Rattle.vpf_triplet.specs.declared.kinds.Kind.TheVariants as kinds
-use Rattle.vpf_findings.specs.declared.finding.SeenWord.{SeenWord}
-use Rattle.vpf_findings.specs.declared.finding.SeenWord.TheVariants as words
+use Rattle.vpf_table.specs.SeenWord.{SeenWord}
+use Rattle.vpf_table.specs.SeenWord.TheVariants as words
 use Rattle.vpf_prims.specs.declared.roles.Wants.{Wants}
 use Rattle.vpf_prims.specs.declared.roles.Wants.TheVariants as wants
 use Rattle.vpf_prims.specs.declared.roles.Role.{Role as LentRole}

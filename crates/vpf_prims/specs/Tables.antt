@@ -2,9 +2,9 @@
 use Rattle.std.specs.Prelude.{ℕ, ◌+◌, [], Option, Some, None, codes, if◌then◌else◌}
 use Rattle.vpf_head.specs.Head.{varies_in}
 use Rattle.vpf_table.specs.Grid.{Grid}
-use Rattle.vpf_findings.specs.declared.finding.TableName.{TableName}
-use Rattle.vpf_findings.specs.declared.finding.TableName.TheVariants as names
-use Rattle.vpf_findings.specs.Findings.{Sight, CellSeen, Disagreement}
+use Rattle.vpf_table.specs.TableName.{TableName}
+use Rattle.vpf_table.specs.TableName.TheVariants as names
+use Rattle.vpf_table.specs.Findings.{Sight, CellSeen, Disagreement}
 use Rattle.vpf_prims.specs.declared.placing.TableAt.{TableAt}
 use Rattle.vpf_prims.specs.declared.citing.Citation.{Citation}
 use Rattle.vpf_prims.specs.declared.citing.Citation.TheVariants as cites

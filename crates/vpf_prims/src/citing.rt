@@ -1,6 +1,6 @@
 //! The columns that refer to primitives, in which later rules find what disagrees.
 
-use vpf_findings::TableName;
+use vpf_table::findings::TableName;
 
 /// A column of the primitive tables that refers to primitives, or marks them.
 #[derive(Clone, Copy, Debug, PartialEq, Eq)]

@@ -1,7 +1,7 @@
 //! The columns and the rows of an edge table.
 
 ghost use Rattle.std.specs.Prelude.{◌≡◌, ◌<◌, ◌^◌, IfOk, length, map};
-ghost use Rattle.vpf_findings.specs.Firsts.{Finds, Tells};
+ghost use Rattle.vpf_table.specs.Firsts.{Finds, Tells};
 ghost use Rattle.vpf_prims.specs.Roles.{edge_roles};
 ghost use Rattle.vpf_prims.specs.Columns.{columns_finding, role_at};
 ghost use Rattle.vpf_prims.specs.Edges.{AreWithin, moved_to, edge_columns, edge_lines, edge_of, edge_row, edges_finding, HaveWings};
@@ -14,8 +14,8 @@ use crate::roles::edge_roles;
 use crate::rows::{Edge, EdgeRow};
 use std::alloc::Global;
 use std::marker::Model;
-use vpf_findings::{FindError, Finding};
 use vpf_head::Header;
+use vpf_table::findings::{FindError, Finding};
 use vpf_table::{RowView, TableView};
 
 /// The columns of an edge table that have a role.

@@ -1,8 +1,8 @@
 //! The first finding on a column of a row.
 
 ghost use Rattle.std.specs.Prelude.{◌≡◌, IfOk, length};
-ghost use Rattle.vpf_findings.specs.Findings.{CellSeen, disagreement_of, sight_of};
-ghost use Rattle.vpf_findings.specs.Firsts.{Finds};
+ghost use Rattle.vpf_table.specs.Findings.{CellSeen, disagreement_of, sight_of};
+ghost use Rattle.vpf_table.specs.Firsts.{Finds};
 ghost use Rattle.vpf_prims.specs.Columns.{IsWithin, in_table, role_at};
 ghost use Rattle.vpf_prims.specs.Edges.{id_at};
 ghost use Rattle.vpf_prims.specs.Lines.{cell_range_line, id_line, range_line};
@@ -12,8 +12,8 @@ ghost use Rattle.vpf_value.specs.Values.{view};
 use crate::placing::{RoleColumn, TableAt};
 use crate::reading::{cell_at, is_from, is_same, reference_in, signed_in};
 use crate::rows::id_of;
-use vpf_findings::{Finding, Seen};
 use vpf_table::RowView;
+use vpf_table::findings::{Finding, Seen};
 use vpf_value::Cell;
 
 /// The id of row `k` is `k`.

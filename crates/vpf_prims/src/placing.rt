@@ -2,15 +2,15 @@
 
 ghost use Rattle.std.specs.Prelude.{◌≡◌, ◌<◌, All, IfOk, IfSome, length, map};
 ghost use Rattle.vpf_head.specs.Head.{place_of};
-ghost use Rattle.vpf_findings.specs.Findings.{column_name, disagreement_of, sight_of};
-ghost use Rattle.vpf_findings.specs.Firsts.{Finds, Tells};
+ghost use Rattle.vpf_table.specs.Findings.{column_name, disagreement_of, sight_of};
+ghost use Rattle.vpf_table.specs.Firsts.{Finds, Tells};
 ghost use Rattle.vpf_prims.specs.Roles.{role_of};
 ghost use Rattle.vpf_prims.specs.Columns.{IsWithin, role_line, columns_finding, in_table, role_at, role_column};
 
 use crate::roles::Role;
 use std::alloc::Global;
-use vpf_findings::{ColumnAt, FindError, Finding, Seen, SeenWord, TableName};
 use vpf_head::{Column, Header};
+use vpf_table::findings::{ColumnAt, FindError, Finding, Seen, SeenWord, TableName};
 use vpf_triplet::Kind;
 
 /// A table that is looked at: where its findings are.

@@ -4,7 +4,7 @@ ghost use Rattle.std.specs.Prelude.{◌≡◌, map};
 ghost use Rattle.vpf_prims.specs.Roles.{role_of, class_roles, edge_roles, entity_roles, face_roles, feature_roles, node_roles, plan_roles};
 ghost use Rattle.vpf_prims.specs.Roles.{ring_roles, tileref_roles};
 
-use vpf_findings::SeenWord;
+use vpf_table::findings::SeenWord;
 use vpf_triplet::Kind;
 
 /// What a role wants of its column.

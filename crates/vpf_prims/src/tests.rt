@@ -7,8 +7,8 @@ use crate::{
 use std::alloc::Global;
 use std::str;
 use std::test::Fail;
-use vpf_findings::{FindError, TableName, put_line};
 use vpf_table::TableView;
+use vpf_table::findings::{FindError, TableName, put_line};
 use vpf_triplet::Triplet;
 
 /// The lists of roles.

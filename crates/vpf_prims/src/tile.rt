@@ -12,8 +12,8 @@ use crate::seeking::{cell_in_row, number_in_row, row_of};
 use crate::views::{PrimitiveViews, TileColumns};
 use std::alloc::{AllocError, Global};
 use std::marker::Model;
-use vpf_findings::{Finding, Seen, TableName};
 use vpf_table::TableView;
+use vpf_table::findings::{Finding, Seen, TableName};
 
 /// The primitive tables of a tile, or of an untiled coverage, whose columns are there, and whose rows name rows of the tile (MIL-STD-2407,
 /// 5.2.2, primitives). Rows stay in their files, but for what those of edges say, which a tile can keep. Numbers of primitives count from 1.
@@ -49,7 +49,7 @@ pub fn files_of(table: &TableView<'_>) -> u32
 impl<'a> Tile<'a> {
     ghost use Rattle.std.specs.Prelude.{◌≡◌, ◌<◌, ◌≤◌, ◌+◌, ◌^◌, [], IfOk, None, Some, length, option_map};
     ghost use Rattle.vpf_value.specs.Values.{view};
-    ghost use Rattle.vpf_findings.specs.Findings.{disagreement_of, sight_of};
+    ghost use Rattle.vpf_table.specs.Findings.{disagreement_of, sight_of};
     ghost use Rattle.vpf_prims.specs.Columns.{IsWithin, role_at};
     ghost use Rattle.vpf_prims.specs.Lists.{kth};
     ghost use Rattle.vpf_prims.specs.Numbering.{IsRowOf};

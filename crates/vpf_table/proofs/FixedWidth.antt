@@ -15,9 +15,9 @@ use Rattle.vpf_triplet.specs.declared.places.Code.TheVariants.{CellCut}
 use Rattle.vpf_triplet.specs.declared.kinds.Kind.{Kind}
 use Rattle.vpf_triplet.specs.declared.kinds.Count.{Count}
 use Rattle.vpf_triplet.specs.Places.{fault}
-use Rattle.vpf_value.specs.Values.{Value}
-use Rattle.vpf_value.specs.Reading.{cell_from}
-use Rattle.vpf_value.specs.Widths.{cell_width, TakesWidth}
+use Rattle.vpf_findings.specs.Values.{Value}
+use Rattle.vpf_findings.specs.Reading.{cell_from}
+use Rattle.vpf_findings.specs.Widths.{cell_width, TakesWidth}
 use Rattle.vpf_head.specs.Head.{Col}
 use Rattle.vpf_table.specs.Grid.{Row}
 use Rattle.vpf_table.specs.Reading.{lifted, cell_in, row_at, rows_at}

@@ -3,7 +3,7 @@ use Rattle.std.proofs.Common.{◌≡◌, ℕ, ◌+◌, List, Result, Ok, Err, ap
 use Rattle.vpf_base.proofs.Results.{ok_is}
 use Rattle.vpf_triplet.specs.declared.places.Place.{Place}
 use Rattle.vpf_triplet.specs.declared.places.Code.{Code}
-use Rattle.vpf_value.specs.Values.{Value}
+use Rattle.vpf_findings.specs.Values.{Value}
 use Rattle.vpf_table.specs.Grid.{Row}
 use Rattle.vpf_table.specs.Reading.{lifted}
 

@@ -9,10 +9,10 @@ use Rattle.vpf_triplet.specs.declared.orders.Order.{Order}
 use Rattle.vpf_triplet.specs.declared.kinds.Kind.{Kind}
 use Rattle.vpf_triplet.specs.declared.kinds.Count.{Count}
 use Rattle.vpf_triplet.specs.Kinds.{allows}
-use Rattle.vpf_value.specs.Values.{Value}
-use Rattle.vpf_value.specs.Spelling.{IsCell}
-use Rattle.vpf_value.specs.Fitting.{FitsCell}
-use Rattle.vpf_value.specs.Canonical.{spelled}
+use Rattle.vpf_findings.specs.Values.{Value}
+use Rattle.vpf_findings.specs.Spelling.{IsCell}
+use Rattle.vpf_findings.specs.Fitting.{FitsCell}
+use Rattle.vpf_findings.specs.Canonical.{spelled}
 use Rattle.vpf_head.specs.Head.{Col}
 use Rattle.vpf_head.specs.Soundness.{IsCounted}
 use Rattle.vpf_table.specs.Grid.{Row}

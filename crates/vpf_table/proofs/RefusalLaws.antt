@@ -9,8 +9,8 @@ use Rattle.vpf_triplet.specs.declared.places.Place.{Place}
 use Rattle.vpf_triplet.specs.declared.places.Code.{Code}
 use Rattle.vpf_triplet.specs.declared.places.Code.TheVariants as codes
 use Rattle.vpf_triplet.specs.Places.{fault}
-use Rattle.vpf_value.specs.Faults as values
-use Rattle.vpf_value.specs.Reading.{cell_from}
+use Rattle.vpf_findings.specs.Faults as values
+use Rattle.vpf_findings.specs.Reading.{cell_from}
 use Rattle.vpf_head.specs.Head.{Head, Col}
 use Rattle.vpf_head.specs.Reading.{header_of}
 use Rattle.vpf_varindex.specs.Reading.{index_at}

@@ -12,8 +12,8 @@ use Rattle.vpf_base.proofs.ByteLists.{IsBytes-drop}
 use Rattle.vpf_triplet.specs.declared.orders.Order.{Order}
 use Rattle.vpf_triplet.specs.declared.places.Code.TheVariants as codes
 use Rattle.vpf_triplet.specs.Places.{fault}
-use Rattle.vpf_value.specs.Reading.{cell_from}
-use Rattle.vpf_value.specs.Spelling.{IsCell}
+use Rattle.vpf_findings.specs.Reading.{cell_from}
+use Rattle.vpf_findings.specs.Spelling.{IsCell}
 use Rattle.vpf_head.specs.Head.{Col}
 use Rattle.vpf_table.specs.Grid.{Row}
 use Rattle.vpf_table.specs.Reading.{cell_in, row_at, rows_at}

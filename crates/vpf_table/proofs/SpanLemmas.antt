@@ -6,7 +6,7 @@ use Rattle.vpf_base.proofs.Results.{ok_is, done}
 use Rattle.vpf_base.proofs.Lists.{next_item}
 use Rattle.vpf_triplet.specs.declared.orders.Order.{Order}
 use Rattle.vpf_triplet.specs.declared.places.Place.{Place}
-use Rattle.vpf_value.specs.Reading.{cell_from}
+use Rattle.vpf_findings.specs.Reading.{cell_from}
 use Rattle.vpf_head.specs.Head.{Col}
 use Rattle.vpf_table.specs.Grid.{Row}
 use Rattle.vpf_table.specs.Reading.{row_at, rows_at}

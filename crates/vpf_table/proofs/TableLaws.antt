@@ -13,7 +13,7 @@ use Rattle.vpf_triplet.specs.declared.kinds.Kind.{Kind}
 use Rattle.vpf_triplet.specs.declared.kinds.Kind.TheVariants as kinds
 use Rattle.vpf_triplet.specs.declared.kinds.Count.{Count}
 use Rattle.vpf_triplet.specs.declared.kinds.Count.TheVariants.{Fixed}
-use Rattle.vpf_value.specs.Values.{Value}
+use Rattle.vpf_findings.specs.Values.{Value}
 use Rattle.vpf_head.specs.Head.{Head, Col, is_data, holds_data}
 use Rattle.vpf_head.specs.Reading.{header_of}
 use Rattle.vpf_head.specs.Soundness.{IsInBounds, IsCounted, IsSound}

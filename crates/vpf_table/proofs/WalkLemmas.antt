@@ -7,7 +7,7 @@ use Rattle.vpf_base.proofs.Results.{done, ok_is}
 use Rattle.vpf_triplet.specs.declared.orders.Order.{Order}
 use Rattle.vpf_triplet.specs.declared.places.Place.{Place}
 use Rattle.vpf_triplet.specs.declared.places.Code.TheVariants as codes
-use Rattle.vpf_value.specs.Values.{Value}
+use Rattle.vpf_findings.specs.Values.{Value}
 use Rattle.vpf_head.specs.Head.{Col}
 use Rattle.vpf_triplet.specs.Places.{fault}
 use Rattle.vpf_table.specs.Grid.{Row}

@@ -2,8 +2,8 @@
 use Rattle.std.specs.Prelude.{ℕ, ◌+◌, ◌<◌, ◌≤◌, ◌^◌, List, [], ◌∷◌, ◌++◌, length, Option, Some, None, if◌then◌else◌, All}
 use Rattle.vpf_base.specs.Limits.{longest_text, most_rows}
 use Rattle.vpf_triplet.specs.declared.orders.Order.{Order}
-use Rattle.vpf_value.specs.Canonical.{spelled}
-use Rattle.vpf_value.specs.Fitting.{FitsCell}
+use Rattle.vpf_findings.specs.Canonical.{spelled}
+use Rattle.vpf_findings.specs.Fitting.{FitsCell}
 use Rattle.vpf_head.specs.Canonical.{canonical_text, canonical_header}
 use Rattle.vpf_head.specs.Head.{Col, varies_in}
 use Rattle.vpf_head.specs.Soundness.{IsSound}

@@ -7,7 +7,7 @@ use Rattle.vpf_triplet.specs.declared.orders.Order.{Order}
 use Rattle.vpf_triplet.specs.declared.places.Place.{Place}
 use Rattle.vpf_triplet.specs.declared.places.Code.TheVariants as codes
 use Rattle.vpf_triplet.specs.Places.{fault, index_fault}
-use Rattle.vpf_value.specs.Faults as values
+use Rattle.vpf_findings.specs.Faults as values
 use Rattle.vpf_head.specs.Faults as headers
 use Rattle.vpf_head.specs.Head.{Head, Col}
 use Rattle.vpf_head.specs.Spelling.{IsHeader}

@@ -1,6 +1,6 @@
 -- What a table says (MIL-STD-2407, 5.4, VPF table encoding).
 use Rattle.std.specs.Prelude.{List}
-use Rattle.vpf_value.specs.Values.{Value}
+use Rattle.vpf_findings.specs.Values.{Value}
 use Rattle.vpf_head.specs.Head.{Head}
 
 -- a row: a value for each column

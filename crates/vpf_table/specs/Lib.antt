@@ -17,3 +17,9 @@ pub mod Faults
 pub mod Deciding
 pub mod Lower
 pub mod Canonical
+pub use Rattle.vpf_findings.specs.Firsts
+pub use Rattle.vpf_findings.specs.Findings
+pub use Rattle.vpf_findings.specs.declared.finding.SeenWord
+pub use Rattle.vpf_findings.specs.declared.finding.TableName
+pub use Rattle.vpf_findings.specs.declared.errors.FindError
+pub use Rattle.vpf_findings.specs.FirstLaws

@@ -8,10 +8,10 @@ use Rattle.vpf_triplet.specs.declared.kinds.Count.{Count}
 use Rattle.vpf_triplet.specs.declared.kinds.Count.TheVariants.{Fixed}
 use Rattle.vpf_triplet.specs.declared.places.Place.{Place}
 use Rattle.vpf_triplet.specs.declared.places.Code.{Code}
-use Rattle.vpf_value.specs.Faults as cells
-use Rattle.vpf_value.specs.Values.{Value}
-use Rattle.vpf_value.specs.Reading.{cell_from}
-use Rattle.vpf_value.specs.Spelling.{IsCell}
+use Rattle.vpf_findings.specs.Faults as cells
+use Rattle.vpf_findings.specs.Values.{Value}
+use Rattle.vpf_findings.specs.Reading.{cell_from}
+use Rattle.vpf_findings.specs.Spelling.{IsCell}
 use Rattle.vpf_head.specs.Deciding.{BeginsHeader}
 use Rattle.vpf_head.specs.Faults as headers
 use Rattle.vpf_head.specs.Head.{Head}

@@ -1,6 +1,6 @@
 -- Rows of one width.
 use Rattle.std.specs.Prelude.{ℕ, ◌+◌, List, [], ◌∷◌, Option, Some, None}
-use Rattle.vpf_value.specs.Widths.{cell_width}
+use Rattle.vpf_findings.specs.Widths.{cell_width}
 use Rattle.vpf_head.specs.Head.{Col}
 
 -- the sum of two widths, where both are known

@@ -8,9 +8,9 @@ ghost use Rattle.vpf_table.specs.Widths.{width_of};
 
 use crate::walking::skip_row;
 use vpf_base::limits::MOST_ROWS;
+use vpf_findings::value::laws::fixed_cells;
 use vpf_head::Header;
 use vpf_triplet::{Code, Place};
-use vpf_value::laws::fixed_cells;
 
 /// The row past the most.
 const TOO_MANY_ROWS: u64 = MOST_ROWS as u64 + 1;

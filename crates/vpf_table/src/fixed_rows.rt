@@ -10,8 +10,8 @@ ghost use Rattle.vpf_table.specs.Walking.{rows_of};
 ghost use Rattle.vpf_table.specs.Widths.{width_of};
 
 use crate::laws::cells_and_headers;
+use vpf_findings::value::laws::{fitting_is_written, spelled_fits};
 use vpf_head::Header;
-use vpf_value::laws::{fitting_is_written, spelled_fits};
 
 /// Rows that have one width, as they lie in their file.
 #[derive(Clone, Copy)]

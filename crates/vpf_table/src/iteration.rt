@@ -5,8 +5,8 @@ use crate::row::RowView;
 use crate::walking::next_row;
 use std::marker::Model;
 use vpf_base::limits::MOST_ROWS;
+use vpf_findings::value::laws::spelled_fits;
 use vpf_head::Header;
-use vpf_value::laws::spelled_fits;
 
 /// The rows that are left. Contracts see it as the list of them.
 #[derive(Drop)]

@@ -17,8 +17,8 @@ ghost use Rattle.vpf_table.specs.Opening.{opened_of, row_spans};
 ghost use Rattle.vpf_table.specs.Spans.{IsOpened};
 ghost use Rattle.vpf_table.specs.Lower.{CellAndHeaderLaws, IndexLaws};
 
+use vpf_findings::value::laws as cells;
 use vpf_head::laws as headers;
-use vpf_value::laws as cells;
 use vpf_varindex::laws as indexes;
 
 /// The laws of cells and headers, together.

@@ -19,4 +19,5 @@ pub use limit::{Bound, Limit};
 pub use row::{Cells, RowView, RowWalk};
 pub use table_file::TableFile;
 pub use view::TableView;
+pub use vpf_findings as findings;
 pub use vpf_findings::{ColumnAt, FindError, Finding, OwnFinding, Seen, SeenWord, TableName};

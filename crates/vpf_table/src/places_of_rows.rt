@@ -2,7 +2,7 @@
 
 use crate::table_file::TableFile;
 use crate::walking::sure_end;
-use vpf_value::laws::fixed_cells;
+use vpf_findings::value::laws::fixed_cells;
 use vpf_varindex::IndexView;
 
 impl<'a> TableFile<'a> {

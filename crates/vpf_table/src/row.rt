@@ -1,15 +1,15 @@
 //! A row, seen in its file.
 
 ghost use Rattle.std.specs.Prelude.{◌≡◌, ◌≤◌, ◌<◌, ◌+◌, Some, IsOk, length, slice_get};
-ghost use Rattle.vpf_value.specs.Values.{view};
+ghost use Rattle.vpf_findings.specs.Values.{view};
 ghost use Rattle.vpf_table.specs.Reading.{row_at};
 ghost use Rattle.vpf_table.specs.RowWalks.{IsLeft};
 ghost use Rattle.vpf_table.specs.Walking.{row_of};
 
 use crate::walking::{sure_cell, sure_past};
 use std::marker::Model;
+use vpf_findings::value::Cell;
 use vpf_head::Header;
-use vpf_value::Cell;
 
 /// A row of a table, whose cells stay in the file. Contracts see it as the list of its values.
 #[derive(Drop)]
@@ -62,7 +62,7 @@ impl<'t, 'a> RowView<'t, 'a> {
     ghost use Rattle.std.specs.Prelude.{◌≡◌, ◌<◌, ◌≤◌, IsOk, Some, length, slice_get};
     ghost use Rattle.vpf_table.specs.Reading.{row_at};
     ghost use Rattle.vpf_table.specs.Walking.{row_of};
-    ghost use Rattle.vpf_value.specs.Values.{view};
+    ghost use Rattle.vpf_findings.specs.Values.{view};
 
     /// The row that is known to begin at `at`.
     pub(crate) fn new(header: &'t Header<'a>, bytes: &'a [u8], at: usize) -> RowView<'t, 'a>
@@ -134,7 +134,7 @@ impl<'t, 'a> Model for RowWalk<'t, 'a> {
 
 impl<'t, 'a> RowWalk<'t, 'a> {
     ghost use Rattle.std.specs.Prelude.{◌≡◌, ◌<◌, Some, length, slice_get};
-    ghost use Rattle.vpf_value.specs.Values.{view};
+    ghost use Rattle.vpf_findings.specs.Values.{view};
 
     /// The cell in column `c`, counted from 0.
     pub fn cell(&mut self, c: usize) -> Cell<'a>
@@ -178,7 +178,7 @@ impl<'t, 'a> Model for Cells<'t, 'a> {
 
 impl<'t, 'a> Iterator for Cells<'t, 'a> {
     ghost use Rattle.std.specs.Iterator.{YieldsFirstBy, item_count};
-    ghost use Rattle.vpf_value.specs.Values.{view};
+    ghost use Rattle.vpf_findings.specs.Values.{view};
 
     type Item = Cell<'a>;
 

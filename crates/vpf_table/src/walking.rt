@@ -1,16 +1,16 @@
 //! Walking over cells and rows.
 
 ghost use Rattle.std.specs.Prelude.{◌≡◌, ◌≤◌, ◌<◌, ◌^◌, ℕ, IsOk, Ok, Some, IfOk, IfSome, length};
-ghost use Rattle.vpf_value.specs.Values.{view};
+ghost use Rattle.vpf_findings.specs.Values.{view};
 ghost use Rattle.vpf_head.specs.Views.{col};
 ghost use Rattle.vpf_table.specs.Reading.{cell_in, row_at};
 ghost use Rattle.vpf_table.specs.Walking.{end_of, past_of};
 ghost use Rattle.vpf_table.specs.Widths.{width_of};
 
+use vpf_findings::value::laws::fixed_cells;
+use vpf_findings::value::{Cell, cell_at, cell_width};
 use vpf_head::{Column, Header};
 use vpf_triplet::{Order, Place};
-use vpf_value::laws::fixed_cells;
-use vpf_value::{Cell, cell_at, cell_width};
 
 fn skip_cell(order: Order, column: &Column<'_>, bytes: &[u8], at: usize) -> Result<usize, Place>
     requires { at ≤ length bytes.now }

@@ -82,29 +82,6 @@ fn index_in(alloc: Global, bytes: &[u8], index: &[u8]) -> Result<(), Place> {
 }
 
 #[test]
-fn counts_rows(rt: HostRuntime) -> Result<(), Fail> {
-    let alloc = rt.alloc();
-    for (bytes, want) in [
-        (FIXED, Ok(3)),
-        (&FIXED[..46], Ok(0)),
-        (&FIXED[..52], Ok(1)),
-        (&FIXED[..51], Err(Place::in_table(50, Code::CellCut))),
-        (&FIXED[..55], Err(Place::in_table(52, Code::CellCut))),
-        (&FIXED[..56], Err(Place::in_table(56, Code::CellCut))),
-        (VARYING, Ok(3)),
-        (&VARYING[..28], Ok(0)),
-        (&VARYING[..35], Ok(1)),
-        (&VARYING[..34], Err(Place::in_table(28, Code::CellCut))),
-        (&VARYING[..43], Err(Place::in_table(39, Code::CellCut))),
-        (&FIXED[..45], Err(Place::in_table(4, Code::HeaderCut))),
-        (&FIXED[..3], Err(Place::in_table(0, Code::NumberCut))),
-    ] {
-        assert_eq!(rt; rows_in(alloc, bytes, None), want, "{}", bytes.len());
-    }
-    Ok(())
-}
-
-#[test]
 fn opens_with_an_index(rt: HostRuntime) -> Result<(), Fail> {
     let alloc = rt.alloc();
     for (bytes, index, want) in [
@@ -152,23 +129,6 @@ fn reads_like_another_table(rt: HostRuntime) -> Result<(), Fail> {
     ] {
         let own = TableView::open(alloc, own, None)?;
         assert_eq!(rt; rows_like(alloc, &own, bytes), want, "{bytes:?}");
-    }
-    Ok(())
-}
-
-#[test]
-fn stops_at_the_row_past_the_most(rt: HostRuntime) -> Result<(), Fail> {
-    let alloc = rt.alloc();
-    for header in [
-        b"\x18\0\0\0L;T;-;a=T,1,N,d,-,-,-,:;",
-        b"\x18\0\0\0L;T;-;a=K,1,N,d,-,-,-,:;",
-    ] {
-        let mut bytes = header.to_vec(alloc)?;
-        bytes.resize(28 + 16_777_215, 0)?;
-        assert_eq!(rt; rows_in(alloc, &bytes, None), Ok(16_777_215));
-        bytes.push(0)?;
-        let past = Place::in_table(28 + 16_777_215, Code::LimitRows(16_777_216));
-        assert_eq!(rt; rows_in(alloc, &bytes, None), Err(past));
     }
     Ok(())
 }

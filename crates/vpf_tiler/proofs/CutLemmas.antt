@@ -28,7 +28,7 @@ use Rattle.vpf_tiler.specs.declared.errors.TileError.TheVariants as errors
 use Rattle.vpf_tiler.specs.CutBy.{IsCause, IsCutBy, names_of_faces, plan_refusal}
 use Rattle.vpf_tiler.specs.Making.{tile_error_seen, tiles_of_tables, unless_tile_limited}
 use Rattle.vpf_tiler.specs.Making.{tiled, unless_refused}
-use Rattle.vpf_tile_files.specs.Tables.{library_tables}
+use Rattle.vpf_tiler.specs.TileFiles.Tables.{library_tables}
 
 -- there is a tile, or none, for each face
 pub names_all : (plan : Grid) (faces : ℕ) (named : List (Option ℤ)) → named ≡ tiles_named plan faces → length named ≡ faces

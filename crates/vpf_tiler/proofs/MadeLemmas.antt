@@ -22,16 +22,16 @@ use Rattle.vpf_tiling.specs.Tiles.{tiled_library}
 use Rattle.vpf_tileable.specs.declared.refusals.Refusal.{Refusal}
 use Rattle.vpf_tileable.specs.Laws.{RefusalsDecide}
 use Rattle.vpf_cross.specs.Agreeing.{LibraryAgrees}
-use Rattle.vpf_tiled.specs.Laws.{FollowingIsNext, ListingIsNamed, MapIsNamed, TiledAgrees}
-use Rattle.vpf_gluing.specs.Gluing.{GluingGivesRenumbered}
+use Rattle.vpf_tiling_laws.specs.Tiled.Laws.{FollowingIsNext, ListingIsNamed, MapIsNamed, TiledAgrees}
+use Rattle.vpf_tiling_laws.specs.Gluing.Gluing.{GluingGivesRenumbered}
 use Rattle.vpf_tile_reading.specs.Laws.{CutsAreRead, CutsHaveColumns}
 use Rattle.vpf_tile_writing.specs.Laws.{TilerefIsRead, TilerefIsWritable, TilesAreWritable}
 use Rattle.vpf_tiler.specs.declared.errors.TileError.{TileError}
 use Rattle.vpf_table_files.specs.Adding.{NamedTable, files_made, first_limit_of}
 use Rattle.vpf_tiler.specs.Making.{tile_error_seen, tiles_of_tables, unless_tile_limited}
-use Rattle.vpf_tile_files.specs.Tables.{all_tile_tables, library_tables, tileref_table}
-use Rattle.vpf_tiled_files.specs.Folders.{CanBeMade, HoldsExactly}
-use Rattle.vpf_tiled_files.specs.Laws.{HoldsCut, MadeIsHeld}
+use Rattle.vpf_tiler.specs.TileFiles.Tables.{all_tile_tables, library_tables, tileref_table}
+use Rattle.vpf_tiler.specs.TiledFiles.Folders.{CanBeMade, HoldsExactly}
+use Rattle.vpf_tiler.specs.TiledFiles.Laws.{HoldsCut, MadeIsHeld}
 use Rattle.vpf_tiler.specs.CutBy.{names_of_faces, plan_refusal}
 use Rattle.vpf_tiler.specs.Laws.{AreTilesGiven, MadeAgrees, MadeGoesOn, MadeHasCycles, MadeIsGlued, MadeIsTileable, OfFilesMade}
 use Rattle.vpf_tiler.specs.Making.{tiled, unless_refused}

@@ -22,7 +22,7 @@ use Rattle.vpf_loading.specs.Loading.{within}
 use Rattle.vpf_tiling.specs.Tiles.{is_made}
 use Rattle.vpf_tile_tables.specs.Grids.{edges_made, entities_made, faces_made, nodes_made, rings_made}
 use Rattle.vpf_table_files.specs.Adding.{NamedTable, first_limit_of, named_limit, table_within}
-use Rattle.vpf_tile_files.specs.Tables.{all_tile_tables, edge_table, entity_tables, face_table, node_table, ring_table, tables_if_made, tile_tables}
+use Rattle.vpf_tiler.specs.TileFiles.Tables.{all_tile_tables, edge_table, entity_tables, face_table, node_table, ring_table, tables_if_made, tile_tables}
 use Rattle.vpf_tile_reading.specs.Cuts.{tables_of_tile}
 use Rattle.vpf_tile_writing.specs.Writable.{AreWritable, HaveFewRows}
 

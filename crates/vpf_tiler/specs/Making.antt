@@ -9,7 +9,7 @@ use Rattle.vpf_tileable.specs.Planning.{plan_of}
 use Rattle.vpf_tiler.specs.declared.errors.TileError.{TileError}
 use Rattle.vpf_tiler.specs.declared.errors.TileError.TheVariants as errors
 use Rattle.vpf_table_files.specs.Adding.{NamedTable, files_made, first_limit_of}
-use Rattle.vpf_tile_files.specs.Tables.{library_tables}
+use Rattle.vpf_tiler.specs.TileFiles.Tables.{library_tables}
 use Rattle.vpf_tiler.specs.CutBy.{names_of_faces, plan_refusal}
 
 -- what tiling answers; of want of memory nothing is seen

@@ -13,16 +13,16 @@ use Rattle.vpf_numbers.specs.Matching.{HaveColumns}
 use Rattle.vpf_loading.specs.Holding.{HoldsCoverage, bytes_in}
 use Rattle.vpf_loading.specs.Loading.{LoadedCoverage, most_loaded}
 use Rattle.vpf_wing.specs.Links.{links_of}
-use Rattle.vpf_follow.specs.Following.{follow}
+use Rattle.vpf_tiling_laws.specs.Following.{follow}
 use Rattle.vpf_cross.specs.Agreeing.{LibraryAgrees}
-use Rattle.vpf_trace.specs.Tracing.{IsTrace, map_of_library, tile_lines}
+use Rattle.vpf_tiling_laws.specs.Tracing.{IsTrace, map_of_library, tile_lines}
 use Rattle.vpf_tiling.specs.Presence.{copy_in, coverage_map, dart_name, is_present, next_of}
 use Rattle.vpf_tiling.specs.Tiles.{tiled_library}
-use Rattle.vpf_tiled.specs.Names.{named_map}
-use Rattle.vpf_gluing.specs.Glued.{glued, renumbered, tiles_of_faces}
-use Rattle.vpf_gluing.specs.Whole.{whole_named, whole_of}
+use Rattle.vpf_tiling_laws.specs.Tiled.Names.{named_map}
+use Rattle.vpf_tiling_laws.specs.Gluing.Glued.{glued, renumbered, tiles_of_faces}
+use Rattle.vpf_tiling_laws.specs.Gluing.Whole.{whole_named, whole_of}
 use Rattle.vpf_tileable.specs.Planning.{plan_of}
-use Rattle.vpf_tiled_files.specs.Folders.{HoldsExactly}
+use Rattle.vpf_tiler.specs.TiledFiles.Folders.{HoldsExactly}
 use Rattle.vpf_tiler.specs.CutBy.{names_of_faces}
 
 -- what is cut into tiles: an untiled coverage, the tile that its plan names for each face, and how many tiles there are

@@ -2,13 +2,15 @@
 
 ghost use Rattle.vpf_tiler.specs.Laws.{MadeAgrees, MadeGoesOn, MadeHasCycles, MadeIsGlued, MadeIsTileable};
 
-use vpf_gluing::laws::gluing_gives_renumbered;
+use crate::tiled_files::laws::made_is_held;
 use vpf_loading::laws::coverages_are_held;
 use vpf_tile_reading::laws::{cuts_are_read, cuts_have_columns};
 use vpf_tile_writing::laws::{tilerefs_are_written, tiles_are_writable};
 use vpf_tileable::laws::refusals_decide;
-use vpf_tiled::laws::{following_is_next, listing_is_named, map_is_named, tiled_agrees};
-use vpf_tiled_files::laws::made_is_held;
+use vpf_tiling_laws::gluing::laws::gluing_gives_renumbered;
+use vpf_tiling_laws::tiled::laws::{
+    following_is_next, listing_is_named, map_is_named, tiled_agrees,
+};
 
 /// Where tiling comes to some files, the coverage may be tiled by its plan, and each folder that holds exactly these files holds the coverage in
 /// tiles: it agrees, goes on as the coverage does, has its boundary cycles past its lines between tiles, and is glued to it.

@@ -5,6 +5,8 @@
 mod errors;
 pub mod laws;
 mod sources;
+pub mod tile_files;
+pub mod tiled_files;
 mod tiling;
 
 pub use errors::TileError;

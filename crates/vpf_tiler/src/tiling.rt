@@ -11,13 +11,14 @@ ghost use Rattle.vpf_plan.specs.Plans.{IsPlanTable};
 ghost use Rattle.vpf_tileref.specs.Stops.{IsBounded};
 ghost use Rattle.vpf_tileref.specs.Tileref.{IsTileref};
 ghost use Rattle.vpf_cutting.specs.Cuts.{plan_by};
-ghost use Rattle.vpf_tile_files.specs.Tables.{library_tables};
+ghost use Rattle.vpf_tiler.specs.TileFiles.Tables.{library_tables};
 ghost use Rattle.vpf_tiler.specs.Making.{tile_error_seen, tiled, tiles_of_tables};
 ghost use Rattle.vpf_tiler.specs.Tilings.{GoesOnAs, HasCyclesOf, InEachFolder, IsGluedTo, IsHeldInTiles, OfEachCoverage, tiling_of};
 
 use crate::errors::TileError;
 use crate::laws::made_agrees;
 use crate::sources::{cut_by, is_readable, paths_of, source_of};
+use crate::tile_files::Making;
 use std::alloc::{AllocError, Global};
 use vpf_cross::Checked;
 use vpf_cut_rings::CutRings;
@@ -25,7 +26,6 @@ use vpf_cutting::Cut;
 use vpf_prims::Tile;
 use vpf_source::File;
 use vpf_table::TableView;
-use vpf_tile_files::Making;
 use vpf_tile_tables::Forms;
 
 /// What the tables of tiles are made of.

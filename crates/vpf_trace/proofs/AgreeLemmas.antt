@@ -5,11 +5,11 @@ use Rattle.std.proofs.lemmas.Bool.{cases_Bool}
 use Rattle.vpf_darts.specs.Laws.{RemainderHasListing, RemovalLeavesAMap}
 use Rattle.vpf_prims.specs.Primitives.{Library}
 use Rattle.vpf_wing.specs.Links.{DartLinks, links_of}
-use Rattle.vpf_follow.specs.Following.{follow, is_outside, is_far_face}
-use Rattle.vpf_follow.specs.Sided.{HasFollowers}
+use Rattle.vpf_cross.specs.Following.{follow, is_outside, is_far_face}
+use Rattle.vpf_cross.specs.Sided.{HasFollowers}
 use Rattle.vpf_wing.specs.DartLaws.{never_both}
-use Rattle.vpf_follow.specs.FollowLaws.{outside_has}
-use Rattle.vpf_follow.specs.Laws.{HomesExist}
+use Rattle.vpf_cross.specs.FollowLaws.{outside_has}
+use Rattle.vpf_cross.specs.VpfFollowLaws.{HomesExist}
 use Rattle.vpf_cross.specs.Agreeing.{AgreesAcross, LibraryAgrees}
 use Rattle.vpf_trace.specs.Tracing.{IsTraceable}
 use Rattle.vpf_trace.specs.Laws.{LibraryHasKept, LibraryHasLines, LibraryHasMap, LibraryHasTrace, UntiledMapIsOfWings}

@@ -16,13 +16,13 @@ use Rattle.vpf_wing.specs.CycleLines.{cycles_finding, loops_finding}
 use Rattle.vpf_wing.specs.Laws.{CyclesDecide}
 use Rattle.vpf_wing.specs.Links.{DartLinks, is_minus}
 use Rattle.vpf_wing.specs.DartLaws.{code-minus, code-sign, never_both, sign-small}
-use Rattle.vpf_follow.specs.FollowLaws.{outside_has}
-use Rattle.vpf_follow.specs.FollowLines.{follows_finding}
-use Rattle.vpf_follow.specs.Following.{home_copy, is_outside}
-use Rattle.vpf_follow.specs.Laws.{FollowersDecide}
-use Rattle.vpf_follow.specs.Sided.{HasFollowers}
-use Rattle.vpf_follow.specs.SideLines.{sides_finding}
-use Rattle.vpf_follow.specs.TileLaws.{TileOfDart, dart-tile, darts-none, options-same, tile-below, tiles-none, unless-none}
+use Rattle.vpf_cross.specs.FollowLaws.{outside_has}
+use Rattle.vpf_cross.specs.FollowLines.{follows_finding}
+use Rattle.vpf_cross.specs.Following.{home_copy, is_outside}
+use Rattle.vpf_cross.specs.VpfFollowLaws.{FollowersDecide}
+use Rattle.vpf_cross.specs.Sided.{HasFollowers}
+use Rattle.vpf_cross.specs.SideLines.{sides_finding}
+use Rattle.vpf_cross.specs.TileLaws.{TileOfDart, dart-tile, darts-none, options-same, tile-below, tiles-none, unless-none}
 use Rattle.vpf_cross.specs.CarriedLines.{carried_finding, inhabited_finding}
 use Rattle.vpf_cross.specs.CrossFinding.{across_finding, topology_finding, topology_finding_of}
 use Rattle.vpf_cross.specs.HomeLines.{coverage_links, home_carried_line, home_flip_line, home_lines, home_mark_line, home_sign_line, homes_finding, outside_lines}

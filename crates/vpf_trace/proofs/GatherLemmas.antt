@@ -13,11 +13,11 @@ use Rattle.vpf_darts.specs.Laws.{RemovalLeavesAMap}
 use Rattle.vpf_prims.specs.Primitives.{Library, edge_count}
 use Rattle.vpf_wing.specs.Links.{links_of}
 use Rattle.vpf_wing.specs.DartLaws.{darts-stand, stands_in}
-use Rattle.vpf_follow.specs.FollowLaws.{home_has}
-use Rattle.vpf_follow.specs.Following.{is_home}
-use Rattle.vpf_follow.specs.Homes.{darts_to}
-use Rattle.vpf_follow.specs.Laws.{HomesExist}
-use Rattle.vpf_follow.proofs.ListLemmas.{to_below, to_end, to_next, to_tile}
+use Rattle.vpf_cross.specs.FollowLaws.{home_has}
+use Rattle.vpf_cross.specs.Following.{is_home}
+use Rattle.vpf_cross.specs.FollowHomes.{darts_to}
+use Rattle.vpf_cross.specs.VpfFollowLaws.{HomesExist}
+use Rattle.vpf_cross.proofs.ListLemmas.{to_below, to_end, to_next, to_tile}
 use Rattle.vpf_trace.specs.Gathering.{AreKeptAmong}
 use Rattle.vpf_kept.specs.Kept.{AreKept}
 use Rattle.vpf_trace.specs.Tracing.{IsTraceable, KeptAreLeft, LinesAreMarked, is_kept, is_on_line, map_of_library, tile_lines}

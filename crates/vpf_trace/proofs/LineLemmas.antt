@@ -11,11 +11,11 @@ use Rattle.vpf_darts.proofs.WithoutLemmas.{live_without_all}
 use Rattle.vpf_prims.specs.Lists.{kth}
 use Rattle.vpf_prims.specs.Primitives.{Library, absent_edge, is_tile_line, tile_edges}
 use Rattle.vpf_wing.specs.Links.{DartLinks, is_minus, links_of}
-use Rattle.vpf_follow.specs.Following.{follow, home_copy, is_home, library_map}
-use Rattle.vpf_follow.specs.Sided.{HasFollowers}
-use Rattle.vpf_follow.specs.Laws.{HomesExist}
+use Rattle.vpf_cross.specs.Following.{follow, home_copy, is_home, library_map}
+use Rattle.vpf_cross.specs.Sided.{HasFollowers}
+use Rattle.vpf_cross.specs.VpfFollowLaws.{HomesExist}
 use Rattle.vpf_wing.specs.DartLaws.{darts-below, darts-stand, dart_bound, flip-edge, flip-flip, flip-has, flip-minus, flip-sign, flip-tile, never_both, stands_in}
-use Rattle.vpf_follow.specs.FollowLaws.{away_outside, away_stays, home_has, home_moves, home_self, next_apart}
+use Rattle.vpf_cross.specs.FollowLaws.{away_outside, away_stays, home_has, home_moves, home_self, next_apart}
 use Rattle.vpf_trace.specs.Tracing.{IsTrace, IsTraceable, KeptAreLeft, LinesAreMarked, begins_line, is_on_line, map_of_library, tile_lines, traced_map}
 use Rattle.vpf_trace.specs.Laws.{OneTrace, TraceWithoutLines}
 

@@ -11,10 +11,10 @@ use Rattle.vpf_prims.specs.References.{id_of}
 use Rattle.vpf_prims.specs.Numbering.{IsPlain, IsReference, IsFace, IsEdgeOf, IsNumbered}
 use Rattle.vpf_wing.specs.Links.{DartLinks, Link, edge_of_dart, face_by, is_minus, is_next, link_of, links_of, local_map, local_next, only, tail_node, wing_by}
 use Rattle.vpf_wing.specs.WellFormed.{HasCycles, IsDartOf}
-use Rattle.vpf_follow.specs.Following.{face_beyond, face_name, follow, follow_to, home_copy, is_far_face, is_home, is_named, library_map, same_beyond}
-use Rattle.vpf_follow.specs.Sided.{HasFollowers}
+use Rattle.vpf_cross.specs.Following.{face_beyond, face_name, follow, follow_to, home_copy, is_far_face, is_home, is_named, library_map, same_beyond}
+use Rattle.vpf_cross.specs.Sided.{HasFollowers}
 use Rattle.vpf_wing.specs.DartLaws.{IsThere, never_both, has-there, flip-has, flip-tile, code-tile}
-use Rattle.vpf_follow.specs.FollowLaws.{home_has, home_self}
+use Rattle.vpf_cross.specs.FollowLaws.{home_has, home_self}
 use Rattle.vpf_trace.specs.Laws.{SameDarts}
 
 -- an untiled coverage whose numbers and cycles are right

@@ -8,9 +8,9 @@ use Rattle.vpf_darts.proofs.WithoutLemmas.{without-is_map}
 use Rattle.vpf_prims.specs.Primitives.{Library}
 use Rattle.vpf_wing.specs.Links.{links_of}
 use Rattle.vpf_wing.specs.DartLaws.{flip-has, never_both}
-use Rattle.vpf_follow.specs.FollowLaws.{home_has, home_self}
-use Rattle.vpf_follow.specs.Following.{follow, home_copy, is_home}
-use Rattle.vpf_follow.specs.Laws.{HomesExist}
+use Rattle.vpf_cross.specs.FollowLaws.{home_has, home_self}
+use Rattle.vpf_cross.specs.Following.{follow, home_copy, is_home}
+use Rattle.vpf_cross.specs.VpfFollowLaws.{HomesExist}
 use Rattle.vpf_trace.specs.Tracing.{IsTraceable, KeptAreLeft, is_kept, is_on_line, map_of_library, tile_lines, traced_map}
 use Rattle.vpf_trace.proofs.LineLemmas.{flip_is, library_has_kept, library_has_lines}
 

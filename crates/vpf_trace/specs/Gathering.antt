@@ -5,7 +5,7 @@ use Rattle.vpf_darts.specs.Darts.{tile_dart_code}
 use Rattle.vpf_prims.specs.Coverages.{CoverageTables}
 use Rattle.vpf_prims.specs.Libraries.{library_of}
 use Rattle.vpf_prims.specs.Primitives.{Library, edge_count}
-use Rattle.vpf_follow.specs.Homes.{darts_before, darts_to}
+use Rattle.vpf_cross.specs.FollowHomes.{darts_before, darts_to}
 use Rattle.vpf_trace.specs.Tracing.{is_kept}
 
 -- these are the home darts among some darts whose edges are no lines, in their order, and their edges have numbers of 32 bits

@@ -4,7 +4,7 @@ use Rattle.vpf_darts.specs.Cycles.{IsListing}
 use Rattle.vpf_darts.specs.Maps.{DartMap, IsMap}
 use Rattle.vpf_prims.specs.Primitives.{Library}
 use Rattle.vpf_wing.specs.Links.{links_of, local_map}
-use Rattle.vpf_follow.specs.Following.{is_home}
+use Rattle.vpf_cross.specs.Following.{is_home}
 use Rattle.vpf_cross.specs.Agreeing.{LibraryAgrees}
 use Rattle.vpf_trace.specs.Tracing.{IsTrace, KeptAreLeft, LinesAreMarked, is_on_line, map_of_library}
 

@@ -5,7 +5,7 @@ use Rattle.vpf_darts.specs.Darts.{flip, sign_in}
 use Rattle.vpf_darts.specs.Maps.{AreEdges, DartMap, IsMap, is_of_any, without}
 use Rattle.vpf_prims.specs.Primitives.{Library, edge_count, is_tile_line}
 use Rattle.vpf_wing.specs.Links.{links_of, is_minus}
-use Rattle.vpf_follow.specs.Following.{follow, home_copy, is_home, is_outside, library_map}
+use Rattle.vpf_cross.specs.Following.{follow, home_copy, is_home, is_outside, library_map}
 
 -- the map of a library: its darts are the home darts, each goes on to the one that follows it, and the other dart of its edge is the home
 -- copy of the other dart in its tile; in an untiled coverage every dart is a home dart, and this is the map of the wings

@@ -11,8 +11,8 @@ ghost use Rattle.vpf_trace.specs.Gathering.{AreKeptAmong, AreGatheredBefore, Are
 use crate::stepping::is_on_line;
 use std::alloc::{AllocError, Global};
 use vpf_coverage::Coverage;
+use vpf_cross::follow::is_home;
 use vpf_darts::TileDart;
-use vpf_follow::is_home;
 
 /// Whether a dart is a home dart of an edge that is no line between tiles.
 fn is_kept(coverage: &Coverage<'_>, dart: TileDart) -> bool

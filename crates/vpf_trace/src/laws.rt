@@ -3,8 +3,8 @@
 ghost use Rattle.vpf_trace.specs.Laws.{LibraryHasKept, LibraryHasLines, LibraryHasMap, LibraryHasTrace, OneTrace, TraceWithoutLines};
 ghost use Rattle.vpf_trace.specs.Laws.{UntiledMapIsOfWings};
 
+use vpf_cross::follow::laws::homes_exist;
 use vpf_darts::laws::{one_listing, removal_leaves_a_map};
-use vpf_follow::laws::homes_exist;
 
 /// A library that agrees is a combinatorial map; that of an untiled coverage is the map of its wings.
 pub fn library_has_map()

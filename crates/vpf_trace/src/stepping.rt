@@ -8,10 +8,10 @@ ghost use Rattle.vpf_trace.specs.Tracing.{IsTraceable, LinesAreMarked, is_kept, 
 
 use vpf_coverage::Coverage;
 use vpf_cross::Checked;
+use vpf_cross::follow::follow;
+use vpf_cross::follow::laws::{followers_decide, homes_exist};
 use vpf_cross::laws::homes_flip_back;
 use vpf_darts::{TileDart, Walk, next_kept};
-use vpf_follow::follow;
-use vpf_follow::laws::{followers_decide, homes_exist};
 use vpf_numbers::laws::numbers_decide;
 use vpf_wing::laws::cycles_decide;
 

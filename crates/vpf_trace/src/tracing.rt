@@ -9,9 +9,9 @@ use crate::gathering::kept_darts;
 use crate::stepping::{PastLines, is_traceable};
 use std::alloc::{AllocError, Global};
 use vpf_cross::Checked;
+use vpf_cross::follow::laws::homes_exist;
 use vpf_darts::Listing;
 use vpf_darts::laws::removal_leaves_a_map;
-use vpf_follow::laws::homes_exist;
 use vpf_kept::list_kept;
 
 /// The boundary cycles of a coverage, its lines between tiles passed over: the listing of its map without these lines, in which each home

@@ -33,7 +33,7 @@ fn knows_widths(rt: HostRuntime) {
     }
 }
 
-pub(super) fn coords_of(order: Order, kind: Kind, count: u32, bytes: &[u8]) -> Cell<'_> {
+fn coords_of(order: Order, kind: Kind, count: u32, bytes: &[u8]) -> Cell<'_> {
     match cell_at(order, kind, Count::Fixed(count), bytes, 0) {
         Ok((cell, _)) => cell,
         Err(_) => Cell::Null,
@@ -44,7 +44,7 @@ fn id_of(id: Option<u32>, tile: Option<u32>, ext: Option<u32>) -> Cell<'static> 
     Cell::Triplet(Triplet { id, tile, ext })
 }
 
-pub(super) const SIX_WORDS: &[u8] = b"\x01\0\0\0\x02\0\0\0\x03\0\0\0\x04\0\0\0\x05\0\0\0\x06\0\0\0";
+const SIX_WORDS: &[u8] = b"\x01\0\0\0\x02\0\0\0\x03\0\0\0\x04\0\0\0\x05\0\0\0\x06\0\0\0";
 
 #[test]
 fn compares_values(rt: HostRuntime) {

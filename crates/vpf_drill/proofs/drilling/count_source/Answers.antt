@@ -2,8 +2,8 @@ use Rattle.std.proofs.Common.{sym, subst}
 use Rattle.vpf_source.specs.declared.file.File.{File}
 use Rattle.vpf_loading.specs.Holding.{AreCoverageFiles}
 use Rattle.std.proofs.Common.{List}
-use Rattle.vpf_grid_cutting.specs.Held.{grid_held}
-use Rattle.vpf_grid_cutting.specs.Reading.{grid_request}
+use Rattle.vpf_drill.specs.GridCutting.Held.{grid_held}
+use Rattle.vpf_drill.specs.GridCutting.Reading.{grid_request}
 use Rattle.vpf_drill.proofs.DrillLemmas.{none_first, source_is}
 use Rattle.vpf_drill.proofs.drilling.count_source.Goals as goal
 

@@ -6,7 +6,7 @@ use Rattle.vpf_prims.specs.Libraries.{library_of}
 use Rattle.vpf_loading.specs.Holding.{AreCoverageFiles}
 use Rattle.vpf_trace.specs.Tracing.{IsTrace}
 use Rattle.vpf_cross.specs.CrossFinding.{topology_finding}
-use Rattle.vpf_grid_cutting.specs.Reading.{grid_request}
+use Rattle.vpf_drill.specs.GridCutting.Reading.{grid_request}
 use Rattle.vpf_drill.specs.Numbers.{tiled_numbers}
 use Rattle.vpf_drill.specs.Traced.{IsOfTiled}
 use Rattle.vpf_drill.proofs.DrillLemmas.{if_given, none_first, none_second}

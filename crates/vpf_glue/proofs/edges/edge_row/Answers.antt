@@ -3,7 +3,7 @@ use Rattle.vpf_darts.specs.Darts.{edge_in, tile_dart_code}
 use Rattle.vpf_prims.specs.Coverages.{tile_at}
 use Rattle.vpf_prims.specs.Libraries.{library_of}
 use Rattle.vpf_prims.specs.Reading.{PrimitiveTables}
-use Rattle.vpf_glued_tables.specs.Grids.{row_in}
+use Rattle.vpf_glue.specs.GluedTables.Grids.{row_in}
 use Rattle.vpf_glue.proofs.SourceLemmas.{edge_is, edge_listed, edge_there, like_there, row_is, row_of_dart, tile_is}
 use Rattle.vpf_glue.proofs.edges.edge_row.Goals as goal
 

@@ -1,6 +1,6 @@
 use Rattle.vpf_darts.specs.Darts.{tile_dart_code}
-use Rattle.vpf_gluing.specs.Glued.{edge_number, face_number, node_number}
-use Rattle.vpf_glued_tables.specs.Grids.{whole_in}
+use Rattle.vpf_renumbering.specs.Glued.{edge_number, face_number, node_number}
+use Rattle.vpf_glue.specs.GluedTables.Grids.{whole_in}
 use Rattle.vpf_glue.proofs.EdgeLemmas.{same_names, small_names}
 use Rattle.vpf_glue.proofs.edges.names_of.Goals as goal
 

@@ -10,7 +10,7 @@ use Rattle.vpf_follow.specs.Following.{is_home}
 use Rattle.vpf_write.specs.Writing.{Writes}
 use Rattle.vpf_table_forms.specs.Forms.{edge_kinds_of, head_like, table_like}
 use Rattle.vpf_table_forms.proofs.CountedRows.{numbered-map, put_all, put_more}
-use Rattle.vpf_glued_tables.specs.Grids.{glued_edge_row}
+use Rattle.vpf_glue.specs.GluedTables.Grids.{glued_edge_row}
 use Rattle.vpf_triplet.specs.declared.kinds.Kind.{Kind}
 use Rattle.vpf_triplet.specs.declared.kinds.Kind.TheVariants.{I}
 use Rattle.vpf_glue.proofs.edges.write_edges.Goals as goal

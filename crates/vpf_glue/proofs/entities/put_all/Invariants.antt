@@ -1,7 +1,7 @@
 use Rattle.std.proofs.Common.{◌≡◌, length}
 use Rattle.vpf_tiling.specs.Ranks.{numbered}
 use Rattle.vpf_write.specs.Tallies.{Holds}
-use Rattle.vpf_glued_tables.specs.Grids.{glued_entity_row}
+use Rattle.vpf_glue.specs.GluedTables.Grids.{glued_entity_row}
 use Rattle.vpf_glue.specs.Sources.{sources_before}
 use Rattle.vpf_glue.proofs.entities.put_all.Given as goal
 

@@ -5,9 +5,9 @@ use Rattle.vpf_prims.specs.Coverages.{CoverageTables}
 use Rattle.vpf_prims.specs.Libraries.{library_of}
 use Rattle.vpf_revise.specs.Revising.{FitsElsewhere, revised}
 use Rattle.vpf_write.specs.Tallies.{Holds}
-use Rattle.vpf_glued_faces.specs.Faces.{entity_face}
+use Rattle.vpf_renumbering.specs.GluedFaces.Faces.{entity_face}
 use Rattle.vpf_table_forms.specs.Forms.{head_like, pair_kinds, pair_values}
-use Rattle.vpf_glued_tables.specs.Grids.{EntitySource, entity_source, glued_entity_row}
+use Rattle.vpf_glue.specs.GluedTables.Grids.{EntitySource, entity_source, glued_entity_row}
 use Rattle.vpf_glue.specs.Sources.{IsRight}
 use Rattle.vpf_glue.proofs.EntityLemmas.{entity_like, entity_listed, entity_row, no_source, rows_more}
 use Rattle.std.proofs.lemmas.List.{length-map, take_all}

@@ -3,7 +3,7 @@ use Rattle.vpf_head.specs.Head.{Head}
 use Rattle.vpf_tiling.specs.Ranks.{numbered}
 use Rattle.vpf_write.specs.Writing.{Writes}
 use Rattle.vpf_table_forms.specs.Forms.{head_like, pair_kinds}
-use Rattle.vpf_glued_tables.specs.Grids.{entity_sources, glued_entity_row}
+use Rattle.vpf_glue.specs.GluedTables.Grids.{entity_sources, glued_entity_row}
 use Rattle.vpf_glue.proofs.entities.write_entities.Goals as goal
 
 pub put_all-requires-clause-head : goal.put_all-requires-clause-head

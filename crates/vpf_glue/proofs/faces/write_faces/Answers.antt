@@ -9,11 +9,11 @@ use Rattle.vpf_revise.specs.Revising.{FitsElsewhere}
 use Rattle.vpf_tiling.specs.Ranks.{numbered}
 use Rattle.vpf_tiling.specs.Tiles.{Ring}
 use Rattle.vpf_write.specs.Writing.{Writes}
-use Rattle.vpf_gluing.specs.Whole.{WholeFace}
-use Rattle.vpf_gluing.specs.Glued.{glued_rings}
+use Rattle.vpf_renumbering.specs.TilingLawsWhole.{WholeFace}
+use Rattle.vpf_renumbering.specs.Glued.{glued_rings}
 use Rattle.vpf_table_forms.specs.Forms.{head_like, pair_kinds, pair_values}
 use Rattle.vpf_table_forms.proofs.CountedRows.{put_all, put_more}
-use Rattle.vpf_glued_tables.specs.Grids.{face_sources, glued_face_row, row_in, whole_in}
+use Rattle.vpf_glue.specs.GluedTables.Grids.{face_sources, glued_face_row, row_in, whole_in}
 use Rattle.vpf_glue.proofs.FaceLemmas.{first_ring, sources_many}
 use Rattle.vpf_glue.proofs.faces.write_faces.Goals as goal
 

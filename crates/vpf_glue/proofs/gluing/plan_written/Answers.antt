@@ -1,7 +1,7 @@
 use Rattle.std.proofs.Common.{◌≡◌, ℕ, List, length, ap, ◌∙◌, arith}
 use Rattle.std.proofs.lemmas.List.{length-map}
-use Rattle.vpf_gluing.specs.Whole.{WholeFace}
-use Rattle.vpf_glued_tables.specs.Grids.{whole_in}
+use Rattle.vpf_renumbering.specs.TilingLawsWhole.{WholeFace}
+use Rattle.vpf_glue.specs.GluedTables.Grids.{whole_in}
 use Rattle.vpf_glue.proofs.gluing.plan_written.Goals as goal
 
 pub write_plan-requires-clause-few : goal.write_plan-requires-clause-few

@@ -18,10 +18,10 @@ use Rattle.vpf_tiling.specs.Tiles.{first_edge_at}
 use Rattle.vpf_wing.specs.Links.{links_of, tail_node}
 use Rattle.vpf_follow.specs.Following.{is_home}
 use Rattle.vpf_write.specs.Writing.{Writes}
-use Rattle.vpf_gluing.specs.Glued.{first_darts, glued_edges}
+use Rattle.vpf_renumbering.specs.Glued.{first_darts, glued_edges}
 use Rattle.vpf_table_forms.specs.Forms.{head_like, pair_kinds, pair_values, table_like}
 use Rattle.vpf_table_forms.proofs.CountedRows.{numbered-map, put_all, put_more}
-use Rattle.vpf_glued_tables.specs.Grids.{glued_node_row, row_in, whole_in}
+use Rattle.vpf_glue.specs.GluedTables.Grids.{glued_node_row, row_in, whole_in}
 use Rattle.vpf_glue.specs.Sources.{IsOfTile}
 use Rattle.vpf_glue.proofs.nodes.write_nodes.Goals as goal
 

@@ -2,7 +2,7 @@ use Rattle.std.proofs.Common.{◌≡◌, ℕ, ◌^◌, ◌<◌, List, [], ◌∷
 use Rattle.std.specs.Prelude.{All}
 use Rattle.std.proofs.lemmas.List.Elements.{All-append, All-cons, All-nil}
 use Rattle.vpf_wing.specs.Links.{Beyond}
-use Rattle.vpf_glued_tables.specs.Grids.{whole_in}
+use Rattle.vpf_glue.specs.GluedTables.Grids.{whole_in}
 use Rattle.vpf_glue.proofs.FaceLemmas.{tiles_more}
 use Rattle.vpf_glue.proofs.plan.tiles_of_faces.Goals as goal
 

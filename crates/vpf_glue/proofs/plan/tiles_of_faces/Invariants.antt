@@ -1,7 +1,7 @@
 use Rattle.std.proofs.Common.{◌≡◌, ℕ, ◌^◌, ◌<◌, map, take}
 use Rattle.std.specs.Prelude.{All}
-use Rattle.vpf_gluing.specs.Whole.{WholeFace}
-use Rattle.vpf_glued_tables.specs.Grids.{whole_in}
+use Rattle.vpf_renumbering.specs.TilingLawsWhole.{WholeFace}
+use Rattle.vpf_glue.specs.GluedTables.Grids.{whole_in}
 use Rattle.vpf_glue.proofs.plan.tiles_of_faces.Given as goal
 
 abbrev pub invariant-loop-place : goal.invariant-loop-place

@@ -3,9 +3,9 @@ use Rattle.vpf_table.specs.Grid.{Grid}
 use Rattle.vpf_tiling.specs.Ranks.{numbered}
 use Rattle.vpf_tiling.specs.Tiles.{Ring}
 use Rattle.vpf_write.specs.Writing.{Writes}
-use Rattle.vpf_glued_faces.specs.declared.rings.GluedRing.{GluedRing}
-use Rattle.vpf_glued_faces.specs.Rings.{ring_of}
-use Rattle.vpf_glued_tables.specs.Grids.{whole_in}
+use Rattle.vpf_renumbering.specs.declared.glued_faces.rings.GluedRing.{GluedRing}
+use Rattle.vpf_renumbering.specs.GluedFaces.Rings.{ring_of}
+use Rattle.vpf_glue.specs.GluedTables.Grids.{whole_in}
 use Rattle.vpf_table_forms.specs.Forms.{ring_kinds, ring_row, rings_like, table_like}
 use Rattle.vpf_table_forms.proofs.CountedRows.{numbered-map, put_all, put_more}
 use Rattle.vpf_glue.proofs.rings.write_rings.Goals as goal

@@ -1,5 +1,5 @@
 use Rattle.std.proofs.Common.{◌≡◌, drop}
-use Rattle.vpf_glued_tables.specs.Grids.{first_end}
+use Rattle.vpf_glue.specs.GluedTables.Grids.{first_end}
 use Rattle.vpf_glue.proofs.sources.first_end_of.Given as goal
 
 abbrev pub invariant-loop-t : goal.invariant-loop-t

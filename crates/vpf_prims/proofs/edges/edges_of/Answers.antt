@@ -1,6 +1,6 @@
 use Rattle.std.proofs.Common.{◌≡◌, ◌∙◌, arith, length, ap, sym}
 use Rattle.std.proofs.lemmas.List.Elements.{All-rest}
-use Rattle.vpf_findings.specs.FirstLaws.{rows_pass}
+use Rattle.vpf_table.specs.FirstLaws.{rows_pass}
 use Rattle.vpf_table.specs.Grid.{Row}
 use Rattle.vpf_prims.specs.Edges.{edge_lines, edge_of}
 use Rattle.vpf_prims.proofs.RowLemmas.{map_more}

@@ -1,6 +1,6 @@
 use Rattle.std.proofs.Common.{◌≡◌, ◌+◌, ◌++◌, length, map}
 use Rattle.std.specs.Prelude.{All}
-use Rattle.vpf_findings.specs.Firsts.{first_of_rows}
+use Rattle.vpf_table.specs.Firsts.{first_of_rows}
 use Rattle.vpf_prims.specs.Edges.{edge_lines, edge_of, edges_finding}
 use Rattle.vpf_prims.proofs.edges.edges_of.Given as goal
 

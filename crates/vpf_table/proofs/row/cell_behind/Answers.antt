@@ -1,6 +1,6 @@
 use Rattle.std.proofs.Common.{◌≡◌, ◌+◌, ℕ, Some, Ok, drop, sym, ap, subst, ◌∙◌, arith}
 use Rattle.vpf_triplet.specs.declared.orders.Order.{Order}
-use Rattle.vpf_value.specs.Values.{Value, view}
+use Rattle.vpf_findings.specs.Values.{Value, view}
 use Rattle.vpf_head.specs.Views.{col}
 use Rattle.vpf_table.specs.Reading.{cell_in, row_at}
 use Rattle.vpf_table.specs.Walking.{row_of, past_of}

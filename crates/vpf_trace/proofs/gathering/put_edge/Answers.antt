@@ -1,7 +1,7 @@
 use Rattle.std.proofs.Common.{ℕ, List, OnOk, subst}
 use Rattle.vpf_prims.specs.Libraries.{library_of}
 use Rattle.vpf_prims.specs.Primitives.{edge_count}
-use Rattle.vpf_follow.proofs.ListLemmas.{darts_after}
+use Rattle.vpf_cross.proofs.ListLemmas.{darts_after}
 use Rattle.vpf_trace.specs.Gathering.{AreKeptAmong}
 use Rattle.vpf_trace.proofs.gathering.put_edge.Goals as goal
 

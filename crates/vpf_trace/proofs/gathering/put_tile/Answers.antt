@@ -1,8 +1,8 @@
 use Rattle.std.proofs.Common.{◌≡◌, ℕ, suc, ◌+◌, List, ap, sym, subst, ◌∙◌, arith}
 use Rattle.vpf_prims.specs.Libraries.{library_of}
 use Rattle.vpf_prims.specs.Primitives.{edge_count}
-use Rattle.vpf_follow.specs.Homes.{darts_to}
-use Rattle.vpf_follow.proofs.ListLemmas.{to_tile}
+use Rattle.vpf_cross.specs.FollowHomes.{darts_to}
+use Rattle.vpf_cross.proofs.ListLemmas.{to_tile}
 use Rattle.vpf_trace.specs.Gathering.{AreKeptAmong}
 use Rattle.vpf_trace.proofs.gathering.put_tile.Goals as goal
 

@@ -1,5 +1,5 @@
 use Rattle.std.proofs.Common.{◌∙◌}
-use Rattle.vpf_findings.specs.declared.finding.TableName.TheVariants as names
+use Rattle.vpf_table.specs.TableName.TheVariants as names
 use Rattle.vpf_prims.specs.declared.placing.TableAt.{TableAt}
 use Rattle.vpf_prims.proofs.OwnLemmas.{within_moved}
 use Rattle.vpf_prims.proofs.tile.Tile.new.Goals as goal

@@ -4,7 +4,7 @@ use Rattle.vpf_darts.proofs.DartLemmas.{flip-tile_dart}
 use Rattle.vpf_prims.specs.Libraries.{library_of}
 use Rattle.vpf_wing.specs.Links.{links_of}
 use Rattle.vpf_wing.specs.DartLaws.{flip-has}
-use Rattle.vpf_follow.specs.FollowLaws.{home_has}
+use Rattle.vpf_cross.specs.FollowLaws.{home_has}
 use Rattle.vpf_trace.proofs.WalkLemmas.{flip_tiled, flip_untiled}
 use Rattle.vpf_trace.proofs.stepping.PastLinesWalk.flip.Goals as goal
 

@@ -1,0 +1,56 @@
+//! Words as they are printed, and numbers by bytes that are written out by hand.
+
+use std::alloc::{AllocError, Global};
+use std::test::Fail;
+use vpf_triplet::{Code, Count, Kind, Order, Place, PlaceError};
+
+fn printed<T: std::fmt::Display + Drop>(alloc: Global, value: T) -> Result<String, AllocError> {
+    format!(in alloc; "{value}")
+}
+
+#[test]
+fn prints_words(rt: HostRuntime) -> Result<(), Fail> {
+    let alloc = rt.alloc();
+    let place = Place::in_table(29, Code::CellCut);
+    for (text, want) in [
+        (printed(alloc, Order::Little)?, "L"),
+        (printed(alloc, Order::Big)?, "M"),
+        (printed(alloc, Kind::Y)?, "Y"),
+        (printed(alloc, Count::Fixed(67_108_864))?, "67108864"),
+        (printed(alloc, Count::Star)?, "*"),
+        (printed(alloc, Code::LimitHeader(65_537))?, "limit-header"),
+        (printed(alloc, Code::ThemeRowtype)?, "theme-rowtype"),
+        (printed(alloc, place)?, "cell-cut at 29"),
+        (
+            printed(alloc, PlaceError::from(place))?,
+            "refused: cell-cut at 29",
+        ),
+        (
+            printed(alloc, PlaceError::from(AllocError))?,
+            "out of memory",
+        ),
+    ] {
+        assert_eq!(rt; text.as_str(), want);
+    }
+    Ok(())
+}
+
+#[test]
+fn reads_numbers_and_counts(rt: HostRuntime) {
+    let bytes = [1, 2, 3, 4, 5, 6, 7, 8, 9];
+    assert_eq!(rt; Order::Little.u16_from(&bytes), 0x0201);
+    assert_eq!(rt; Order::Big.u16_from(&bytes), 0x0102);
+    assert_eq!(rt; Order::Little.u32_from(&bytes), 0x0403_0201);
+    assert_eq!(rt; Order::Big.u32_from(&bytes), 0x0102_0304);
+    assert_eq!(rt; Order::Little.u64_from(&bytes), 0x0807_0605_0403_0201);
+    assert_eq!(rt; Order::Big.u64_from(&bytes), 0x0102_0304_0506_0708);
+    for (kind, count, want) in [
+        (Kind::N, Count::Star, true),
+        (Kind::B, Count::Fixed(3), true),
+        (Kind::I, Count::Fixed(1), true),
+        (Kind::I, Count::Fixed(2), false),
+        (Kind::X, Count::Star, false),
+    ] {
+        assert_eq!(rt; kind.allows(count), want);
+    }
+}

@@ -1,0 +1,3 @@
+//! The law that the coverage of the grid of n by n cells agrees: its tables have the columns of a coverage, and their rows agree.
+
+pub mod laws;

@@ -1,4 +1,0 @@
-//! The law that the coverage of the grid of n by n cells agrees: its tables have the columns of a coverage, and their rows agree.
-#![tactic(auto)]
-
-pub mod laws;

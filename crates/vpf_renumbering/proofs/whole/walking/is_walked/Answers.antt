@@ -1,0 +1,18 @@
+use Rattle.std.proofs.Common.{◌≡◌, None, subst}
+use Rattle.vpf_prims.specs.Coverages.{CoverageTables}
+use Rattle.vpf_prims.specs.Libraries.{IsLibrary, library_of}
+use Rattle.vpf_numbers.specs.TableLines.{coverage_numbers}
+use Rattle.vpf_trace.proofs.CheckedLemmas.{checked_traceable}
+use Rattle.vpf_renumbering.proofs.whole.walking.is_walked.Goals as goal
+
+pub returns : goal.returns
+returns c =
+    checked_traceable (record {
+      numbers = c.numbers_decide.ensures.coverage;
+      cycles = c.cycles_decide.ensures;
+      followers = c.followers_decide.ensures;
+      flips = c.homes_flip_back.ensures;
+    }) c.args.checked.now
+    (subst (λ (v : CoverageTables). IsLibrary (library_of v)) c.coverage-coverage.ensures c.is_library.ensures)
+    (subst (λ (v : CoverageTables). coverage_numbers v ≡ None) c.coverage-coverage.ensures c.has_numbers.ensures)
+    c.agrees.ensures

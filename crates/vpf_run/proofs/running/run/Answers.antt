@@ -1,0 +1,55 @@
+use Rattle.std.proofs.Common.{sym}
+use Rattle.std.specs.Prelude.{map, string_bytes}
+use Rattle.vpf_run.proofs.Answering.{asked_side, words_answered}
+use Rattle.vpf_run.proofs.DrilledAnswers.{run_drills}
+use Rattle.vpf_run.proofs.CheckedAnswers.{run_agrees, run_traces}
+use Rattle.vpf_run.proofs.Grammared.{words_said}
+use Rattle.vpf_run.proofs.ServedAnswers.{index_serves}
+use Rattle.vpf_run.proofs.TiledAnswers.{run_tiles}
+use Rattle.vpf_run.proofs.running.run.Goals as goal
+
+pub returns-clause-indexed : goal.returns-clause-indexed
+returns-clause-indexed g c files request answer e f agrees plain = c.do_words.ensures.answer answer (words_answered c.plain_answers.ensures _ _ files request answer e f agrees plain)
+
+pub returns-clause-built : goal.returns-clause-built
+returns-clause-built g c files request asked e f asks done = index_serves c.opened_is_read.ensures c.indexes_are_elsewhere.ensures c.made_indexes_serve.ensures (map string_bytes c.args.words.now) files request asked _ _ _ e f asks done c.do_words.ensures.answer
+
+pub returns-clause-selected : goal.returns-clause-selected
+returns-clause-selected g c files request e f agree =
+    c.do_words.ensures.answer _ (words_said _ _ _ files _ e f (c.plain_selections.ensures files request agree))
+
+pub returns-clause-spelled : goal.returns-clause-spelled
+returns-clause-spelled g c command files name bytes grid answer e f has t said =
+    c.do_words.ensures.answer answer (words_said _ _ command files answer e f (c.answers_follow_the_grammar.ensures.tables command files name bytes grid answer has t said))
+
+pub returns-clause-faulty : goal.returns-clause-faulty
+returns-clause-faulty g c command files name bytes place e f has fault over =
+    c.do_words.ensures.answer _ (words_said _ _ command files _ e f (c.answers_follow_the_grammar.ensures.faults command files name bytes place has fault over))
+
+pub returns-clause-checked : goal.returns-clause-checked
+returns-clause-checked g c files request loaded e f agrees =
+    c.do_words.ensures.answer _ (words_said _ _ _ files _ e f (c.checks_decide.ensures.said files request loaded agrees))
+
+pub returns-clause-agrees : goal.returns-clause-agrees
+returns-clause-agrees g c files request bytes e f done = run_agrees c.checks_decide.ensures.only (map string_bytes c.args.words.now) files request _ _ _ bytes e f done c.do_words.ensures.answer
+
+pub returns-clause-traced : goal.returns-clause-traced
+returns-clause-traced g c files request loaded cycles e f agrees lists =
+    c.do_words.ensures.answer _ (words_said _ _ _ files _ e f (c.traces_list_cycles.ensures.said files request loaded cycles agrees lists))
+
+pub returns-clause-traceable : goal.returns-clause-traceable
+returns-clause-traceable g c files request bytes e f done =
+    run_traces c.traces_list_cycles.ensures.some c.traces_list_cycles.ensures.only (map string_bytes c.args.words.now) files request _ _ _ bytes e f done c.do_words.ensures.answer
+
+pub returns-clause-tiled : goal.returns-clause-tiled
+returns-clause-tiled g c files request parts tables e f cut =
+    c.do_words.ensures.answer _ (words_said _ _ _ files _ e f (sym (c.tiles_are_made.ensures files request parts tables cut)))
+
+pub returns-clause-rejoined : goal.returns-clause-rejoined
+returns-clause-rejoined g c before after request bytes later e told left done alone lacks =
+    run_tiles c.tilings_agree.ensures.listed c.requests_have_names.ensures c.args.words.now before after request _ _ _ bytes later e told left done alone lacks c.do_words.ensures.answer
+
+pub returns-clause-drilled : goal.returns-clause-drilled
+returns-clause-drilled g c request e =
+    run_drills c.one_drill.ensures.some _ _ request _ _ _ e (asked_side c.requests_can_be_asked.ensures (map string_bytes c.args.words.now) request e)
+    (c.do_words.ensures.drilled request e) c.do_words.ensures.answer

@@ -1,8 +1,0 @@
-use Rattle.vpf_cutting.specs.Cuts.{plan_by}
-use Rattle.vpf_tile_files.proofs.TileLemmas.{entities_fail}
-use Rattle.vpf_tile_files.proofs.making.Making.add_entities.Goals as goal
-
-pub returns-in-Err : goal.returns-in-Err
-returns-in-Err c =
-    entities_fail c.args.folder.now c.args.self.now.forms.end c.args.self.now.cut.now.source (plan_by c.args.self.now.cut.now.plan) c.args.tile c.in-Err.error
-    c.args.files.now.items c.add_table-in-Err.new.files.items c.add_table-in-Err.result c.in-Err.ensures c.add_table-in-Err.ensures

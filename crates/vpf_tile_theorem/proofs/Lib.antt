@@ -1,0 +1,1 @@
+pub use Rattle.vpf_library_commands.proofs.TraceAnswers

@@ -1,0 +1,10 @@
+pub mod Tilings
+pub mod TiledFeatures
+pub use Rattle.vpf_library_commands.specs.Tile
+pub use Rattle.vpf_library_commands.specs.Check
+pub use Rattle.vpf_library_commands.specs.Counting
+pub use Rattle.vpf_library_commands.specs.declared.requesting.MakeRequest
+pub use Rattle.vpf_library_commands.specs.Make
+pub use Rattle.vpf_library_commands.specs.Agreeing
+pub use Rattle.vpf_library_commands.specs.declared.checking.CheckRequest
+pub use Rattle.vpf_library_commands.specs.Made

@@ -1,6 +1,0 @@
-use Rattle.vpf_prims.specs.Libraries.{library_of}
-use Rattle.vpf_whole.proofs.OrderLemmas.{none_yet}
-use Rattle.vpf_whole.proofs.gathering.gathered.Goals as goal
-
-pub loop-number-init : goal.loop-number-init
-loop-number-init c = rw c.new-darts.ensures.items (none_yet (library_of c.args.coverage.now))
