@@ -1,16 +1,14 @@
-//! Trials of the crates on files, their names, numbers, indexes of rows, printed text and findings: no function but tests. They stand apart, since a crate
+//! Trials of the crates on files, numbers, indexes of rows, printed text and findings: no function but tests. They stand apart, since a crate
 //! with tests is proved once more with them.
 #![tactic(auto)]
 
 #[cfg(test)]
-mod file_names;
-#[cfg(test)]
 mod row_indexes;
+#[cfg(test)]
+mod same;
 #[cfg(test)]
 mod seen_findings;
 #[cfg(test)]
 mod sources;
-#[cfg(test)]
-mod texts;
 #[cfg(test)]
 mod words;

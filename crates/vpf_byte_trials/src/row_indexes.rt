@@ -1,5 +1,6 @@
 //! Indexes of rows: their entries, and how they are written.
 
+use crate::same::same;
 use std::test::Fail;
 use vpf_triplet::Order;
 use vpf_varindex::{IndexView, index_of};
@@ -32,7 +33,7 @@ fn finds_entries(rt: HostRuntime) -> Result<(), Fail> {
         match IndexView::open(bytes, order) {
             Ok(index) => {
                 assert!(rt; !index.is_empty());
-                assert_eq!(rt; entry_in(&index, k), want, "entry {k}");
+                same(&rt, entry_in(&index, k), want, k);
             }
             Err(place) => assert!(rt; false, "{place}"),
         }
@@ -44,10 +45,10 @@ fn finds_entries(rt: HostRuntime) -> Result<(), Fail> {
 fn writes_indexes(rt: HostRuntime) -> Result<(), Fail> {
     let alloc = rt.alloc();
     let made = index_of(alloc, Order::Big, 24, &[(28, 7)])?;
-    assert_eq!(rt; made.as_slice(), ONE);
+    same(&rt, made.as_slice(), ONE, "one row");
     let made = index_of(alloc, Order::Little, 230, &[(234, 22), (256, 24)])?;
-    assert_eq!(rt; made.as_slice(), TWO);
+    same(&rt, made.as_slice(), TWO, "two rows");
     let made = index_of(alloc, Order::Little, 24, &[])?;
-    assert_eq!(rt; made.as_slice(), NONE);
+    same(&rt, made.as_slice(), NONE, "no rows");
     Ok(())
 }

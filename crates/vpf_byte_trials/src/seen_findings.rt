@@ -1,5 +1,6 @@
 //! Lines of findings as they are printed, and first places with ample memory.
 
+use crate::same::same;
 use std::alloc::Global;
 use std::test::Fail;
 use vpf_darts::TileDart;
@@ -140,7 +141,7 @@ fn prints_lines(rt: HostRuntime) -> Result<(), Fail> {
     for (kind, count, bytes, wanted, line) in LINES {
         let finding = finding_of(kind, count, bytes, wanted)?;
         let text = line_of(alloc, &finding)?;
-        assert_eq!(rt; text.as_str(), line);
+        same(&rt, text.as_str(), line, line);
         assert!(rt; is_kept(alloc, &finding, line)?);
     }
     Ok(())
@@ -157,9 +158,9 @@ fn keeps_first_places(rt: HostRuntime) -> Result<(), Fail> {
         (4, None),
     ] {
         let first = places.put(key)?;
-        assert_eq!(rt; first, before);
+        same(&rt, first, before, key);
     }
-    assert_eq!(rt; places.first(&4), Some(4));
-    assert_eq!(rt; places.first(&5), None);
+    same(&rt, places.first(&4), Some(4), 4);
+    same(&rt, places.first(&5), None, 5);
     Ok(())
 }

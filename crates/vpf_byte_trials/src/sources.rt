@@ -1,99 +1,93 @@
 //! Loads and writes over the objects in memory, and one test of each adapter over the real outside.
 
-ghost use Rattle.std.specs.Prelude.{◌≡◌, ◌≤◌, ◌<◌, ◌+◌, None, Some, [], ◌∷◌};
+ghost use Rattle.std.specs.Prelude.{◌≡◌, ◌<◌, ◌+◌, None, Some, [], ◌∷◌};
 
+use crate::same::same;
 use std::alloc::{AllocError, Global};
 use std::marker::Brand;
+use std::process::Abort;
 use std::sync::ledger::{Blank, Ledger};
 use std::test::Fail;
 use std::{env, fs};
 use vpf_source::*;
 
 /// A tree with a file of five bytes and an empty one.
-fn small_tree(alloc: Global, piece: u32, fail: Vec<u64>) -> Result<MemTree, AllocError>
-    requires { 1 ≤ piece }
-{
-    let mut tree = MemTree::new(alloc, piece, fail);
+fn small_tree(alloc: Global, piece: u32, fail: Vec<u64>) -> Result<MemTree, AllocError> {
+    let mut tree = MemTree::new(alloc, piece.max(1), fail);
     tree.put("five", b"fghij")?;
     tree.put("empty", b"")?;
     tree.put("five", b"abcde")?;
     Ok(tree)
 }
 
-fn loads_as(
+/// What a load of a file is to come to.
+type Loaded = Result<Option<&'static [u8]>, LoadError>;
+
+const FIVE: Loaded = Ok(Some(b"abcde"));
+
+const EMPTY: Loaded = Ok(Some(b""));
+
+/// Ends the trial unless the load of a file comes to this.
+fn check_load(
+    rt: &impl Abort,
     alloc: Global,
     tree: &mut MemTree,
     name: &str,
     budget: u64,
-    want: Result<Option<&[u8]>, LoadError>,
-) -> bool {
-    match load(alloc, tree, name, budget) {
+    want: Loaded,
+) {
+    let holds = match load(alloc, tree, name, budget) {
         Ok(Some(bytes)) => want == Ok(Some(bytes.as_slice())),
         Ok(None) => want == Ok(None),
         Err(error) => want == Err(error),
-    }
+    };
+    same(rt, holds, true, (name, budget));
 }
 
 #[test]
 fn loads_whole_files(rt: HostRuntime) -> Result<(), Fail> {
     let alloc = rt.alloc();
-    let five: &[u8] = b"abcde";
-    let empty: &[u8] = b"";
+    let cases = [
+        ("five", 5, FIVE),
+        ("five", u64::MAX, FIVE),
+        ("five", 4, Err(LoadError::TooLarge { size: 5 })),
+        ("five", 0, Err(LoadError::TooLarge { size: 5 })),
+        ("empty", 0, EMPTY),
+        ("fiv", 5, Ok(None)),
+        ("", 0, Ok(None)),
+    ];
     for piece in [1, 2, 4096] {
-        assert!(rt; piece >= 1);
         let mut tree = small_tree(alloc, piece, Vec::new(alloc))?;
-        let cases = [
-            ("five", 5, Ok(Some(five))),
-            ("five", u64::MAX, Ok(Some(five))),
-            ("five", 4, Err(LoadError::TooLarge { size: 5 })),
-            ("five", 0, Err(LoadError::TooLarge { size: 5 })),
-            ("empty", 0, Ok(Some(empty))),
-            ("fiv", 5, Ok(None)),
-            ("", 0, Ok(None)),
-        ];
         for (name, budget, want) in cases {
-            assert!(rt;
-                loads_as(alloc, &mut tree, name, budget, want),
-                "{name} in pieces of {piece}, budget {budget}"
-            );
+            check_load(&rt, alloc, &mut tree, name, budget, want);
         }
     }
     Ok(())
 }
 
+/// Files, how many calls of the tree their loads make, and what they come to.
+const CALLS: [(u32, &str, u64, u64, Loaded); 6] = [
+    (1, "five", 5, 6, FIVE),
+    (2, "five", 5, 4, FIVE),
+    (4096, "five", 5, 2, FIVE),
+    (2, "five", 4, 1, Err(LoadError::TooLarge { size: 5 })),
+    (2, "empty", 5, 1, EMPTY),
+    (2, "absent", 5, 1, Ok(None)),
+];
+
 /// Each of the calls of a load fails in turn; the load that makes no further call is right.
 #[test]
 fn fails_where_a_call_fails(rt: HostRuntime) -> Result<(), Fail> {
     let alloc = rt.alloc();
-    let five: &[u8] = b"abcde";
-    let empty: &[u8] = b"";
-    let cases = [
-        (1, "five", 5, 6, Ok(Some(five))),
-        (2, "five", 5, 4, Ok(Some(five))),
-        (4096, "five", 5, 2, Ok(Some(five))),
-        (2, "five", 4, 1, Err(LoadError::TooLarge { size: 5 })),
-        (2, "empty", 5, 1, Ok(Some(empty))),
-        (2, "absent", 5, 1, Ok(None)),
-    ];
-    for (piece, name, budget, calls, want) in cases {
-        assert!(rt; piece >= 1);
+    for (piece, name, budget, calls, want) in CALLS {
         for failing in 1..=calls {
             let mut tree = small_tree(alloc, piece, vec![in alloc; failing]?)?;
-            assert!(rt;
-                loads_as(alloc, &mut tree, name, budget, Err(LoadError::Failed)),
-                "{name}, call {failing}"
-            );
-            assert!(rt;
-                loads_as(alloc, &mut tree, name, budget, want),
-                "{name}, again after call {failing}"
-            );
+            check_load(&rt, alloc, &mut tree, name, budget, Err(LoadError::Failed));
+            check_load(&rt, alloc, &mut tree, name, budget, want);
         }
         let mut tree = small_tree(alloc, piece, vec![in alloc; 0, calls + 1]?)?;
-        assert!(rt;
-            loads_as(alloc, &mut tree, name, budget, want),
-            "{name} in {calls} calls"
-        );
-        assert_eq!(rt; tree.size(name), Err(Failed), "{name}, the call behind");
+        check_load(&rt, alloc, &mut tree, name, budget, want);
+        same(&rt, tree.size(name), Err(Failed), (name, calls));
     }
     Ok(())
 }
@@ -131,7 +125,7 @@ impl Tree for ShortTree {
 #[test]
 fn ends_where_no_byte_comes(rt: HostRuntime) -> Result<(), Fail> {
     let loaded = load(rt.alloc(), &mut ShortTree, "short", 5)?.ok_or("absent")?;
-    assert_eq!(rt; loaded.as_slice(), b"a".as_slice());
+    same(&rt, loaded.as_slice(), b"a", "short");
     Ok(())
 }
 
@@ -139,9 +133,13 @@ fn ends_where_no_byte_comes(rt: HostRuntime) -> Result<(), Fail> {
 fn reads_pieces(rt: HostRuntime) -> Result<(), Fail> {
     let alloc = rt.alloc();
     let mut tree = small_tree(alloc, 3, vec![in alloc; 2]?)?;
-    assert_eq!(rt; tree.size("five"), Ok(Some(5)));
-    assert_eq!(rt; tree.size("five"), Err(Failed));
-    assert_eq!(rt; tree.size("absent"), Ok(None));
+    for (name, want) in [
+        ("five", Ok(Some(5))),
+        ("five", Err(Failed)),
+        ("absent", Ok(None)),
+    ] {
+        same(&rt, tree.size(name), want, name);
+    }
     let cases: [(&str, u64, usize, &[u8]); 8] = [
         ("five", 0, 8, b"abc"),
         ("five", 1, 2, b"bc"),
@@ -157,11 +155,9 @@ fn reads_pieces(rt: HostRuntime) -> Result<(), Fail> {
         assert!(rt; room <= 8);
         let count = tree.read_at(name, at, &mut buf[..room])?;
         assert!(rt; count <= 8);
-        assert_eq!(rt; &buf[..count], want, "{name} from {at}");
-        assert!(rt;
-            buf[count..].iter().all(|byte| *byte == b'-'),
-            "{name} behind {at}"
-        );
+        same(&rt, &buf[..count], want, (name, at));
+        let kept = buf[count..].iter().all(|byte| *byte == b'-');
+        same(&rt, kept, true, (name, at));
     }
     Ok(())
 }
@@ -179,18 +175,10 @@ fn puts_all_bytes(rt: HostRuntime) -> Result<(), Fail> {
         (2, 4, Ok(()), b"abcde"),
     ];
     for (piece, failing, want, written) in cases {
-        assert!(rt; piece >= 1);
-        let mut sink = MemSink::new(alloc, piece, vec![in alloc; failing]?);
-        assert_eq!(rt;
-            put_all(&mut sink, b"abcde"),
-            want,
-            "pieces of {piece}, failing {failing}"
-        );
-        assert_eq!(rt;
-            sink.bytes(),
-            written,
-            "pieces of {piece}, failing {failing}"
-        );
+        let mut sink = MemSink::new(alloc, piece.max(1), vec![in alloc; failing]?);
+        let put = put_all(&mut sink, b"abcde");
+        same(&rt, put, want, (piece, failing));
+        same(&rt, sink.bytes(), written, (piece, failing));
     }
     Ok(())
 }
@@ -199,11 +187,16 @@ fn puts_all_bytes(rt: HostRuntime) -> Result<(), Fail> {
 fn writes_pieces(rt: HostRuntime) -> Result<(), Fail> {
     let alloc = rt.alloc();
     let mut sink = MemSink::new(alloc, 3, vec![in alloc; 3]?);
-    assert_eq!(rt; sink.write(b"abcde"), Ok(3));
-    assert_eq!(rt; sink.write(b""), Ok(0));
-    assert_eq!(rt; sink.write(b"d"), Err(DeviceError::Failed));
-    assert_eq!(rt; sink.write(b"de"), Ok(2));
-    assert_eq!(rt; sink.bytes(), b"abcde".as_slice());
+    let writes: [(&[u8], Result<usize, DeviceError>); 4] = [
+        (b"abcde", Ok(3)),
+        (b"", Ok(0)),
+        (b"d", Err(DeviceError::Failed)),
+        (b"de", Ok(2)),
+    ];
+    for (bytes, want) in writes {
+        same(&rt, sink.write(bytes), want, bytes);
+    }
+    same(&rt, sink.bytes(), b"abcde", "in all");
     Ok(())
 }
 
@@ -214,8 +207,8 @@ fn names_and_bytes_are_lent(rt: HostRuntime) -> Result<(), Fail> {
         name: Name::new(String::from_str(alloc, "lib/cov/edg")?),
         bytes: Bytes::new(vec![in alloc; 1, 2]?),
     };
-    assert_eq!(rt; file.name.as_str(), "lib/cov/edg");
-    assert_eq!(rt; file.bytes.as_slice(), [1, 2].as_slice());
+    same(&rt, file.name.as_str(), "lib/cov/edg", "name");
+    same(&rt, file.bytes.as_slice(), [1, 2].as_slice(), "bytes");
     Ok(())
 }
 
@@ -242,10 +235,10 @@ fn makes_files_up_to_a_fault(rt: HostRuntime) -> Result<(), Fail> {
         } else {
             Ok(())
         };
-        assert_eq!(rt; made, want, "call {failing}");
-        assert_eq!(rt; tree.file("a"), first, "call {failing}");
-        assert_eq!(rt; tree.file("lib/b"), second, "call {failing}");
-        assert_eq!(rt; tree.file("lib"), None, "call {failing}");
+        same(&rt, made, want, failing);
+        for (name, bytes) in [("a", first), ("lib/b", second), ("lib", None)] {
+            same(&rt, tree.file(name), bytes, (name, failing));
+        }
     }
     Ok(())
 }
@@ -271,8 +264,8 @@ fn makes_the_folders(rt: HostRuntime) -> Result<(), Fail> {
     // A run that was cut off may have left them.
     let _left = fs::remove_dir_all(&rt, root);
     let mut tree = FolderTree::new(alloc, &rt);
-    assert_eq!(rt; tree.size(&name), Ok(None));
-    assert!(rt; tree.trouble().is_none());
+    same(&rt, tree.size(&name), Ok(None), "before");
+    same(&rt, tree.trouble().is_none(), true, "before");
     for (name, bytes, want) in [
         (name.as_str(), b"0123456789".as_slice(), Ok(())),
         (neighbour.as_str(), b"abc".as_slice(), Ok(())),
@@ -280,14 +273,14 @@ fn makes_the_folders(rt: HostRuntime) -> Result<(), Fail> {
         (behind.as_str(), b"5".as_slice(), Err(DeviceError::Failed)),
         (folder.as_str(), b"5".as_slice(), Err(DeviceError::Failed)),
     ] {
-        assert_eq!(rt; tree.make(name, bytes), want, "{name}");
+        same(&rt, tree.make(name, bytes), want, name);
     }
     for (name, want) in [
         (name.as_str(), b"0123".as_slice()),
         (neighbour.as_str(), b"abc".as_slice()),
     ] {
         let loaded = load(alloc, &mut tree, name, 10)?.ok_or("absent")?;
-        assert_eq!(rt; loaded.as_slice(), want, "{name}");
+        same(&rt, loaded.as_slice(), want, name);
     }
     fs::remove_dir_all(&rt, root)?;
     Ok(())
@@ -301,13 +294,11 @@ fn reads_the_folders(rt: HostRuntime) -> Result<(), Fail> {
     let name = path.as_str();
     fs::write(&rt, name, "0123456789")?;
     let mut tree = FolderTree::new(alloc, &rt);
-    assert_eq!(rt; tree.size(name), Ok(Some(10)));
+    same(&rt, tree.size(name), Ok(Some(10)), name);
     let whole = load(alloc, &mut tree, name, 10)?.ok_or("absent")?;
-    assert_eq!(rt; whole.as_slice(), b"0123456789".as_slice());
-    assert_eq!(rt;
-        load(alloc, &mut tree, name, 9),
-        Err(LoadError::TooLarge { size: 10 })
-    );
+    same(&rt, whole.as_slice(), b"0123456789", name);
+    let large = load(alloc, &mut tree, name, 9).err();
+    same(&rt, large, Some(LoadError::TooLarge { size: 10 }), name);
     for (at, want) in [
         (0, b"0123".as_slice()),
         (7, b"789".as_slice()),
@@ -316,7 +307,7 @@ fn reads_the_folders(rt: HostRuntime) -> Result<(), Fail> {
     ] {
         let mut buf = [0; 4];
         let count = tree.read_at(name, at, &mut buf)?;
-        assert_eq!(rt; &buf[..count], want, "from {at}");
+        same(&rt, &buf[..count], want, at);
     }
     let behind = format!(in alloc; "{name}/edg")?;
     let absent = format!(in alloc; "{name}.absent")?;
@@ -328,17 +319,18 @@ fn reads_the_folders(rt: HostRuntime) -> Result<(), Fail> {
         (".", Err(Failed), Err(Failed)),
         ("/", Err(Failed), Err(Failed)),
     ] {
-        assert_eq!(rt; tree.size(name), size, "{name}");
-        assert_eq!(rt; tree.read_at(name, 0, &mut buf), read, "{name}");
+        same(&rt, tree.size(name), size, name);
+        same(&rt, tree.read_at(name, 0, &mut buf), read, name);
     }
     let through = format!(in alloc; "{behind}: Not a directory (os error 20)")?;
     for (name, told) in [
         (behind.as_str(), through.as_str()),
         ("/", "/: is a directory"),
     ] {
-        assert_eq!(rt; tree.size(name), Err(Failed), "{name}");
+        same(&rt, tree.size(name), Err(Failed), name);
         let trouble = tree.trouble().ok_or("nothing is told")?;
-        assert_eq!(rt; format!(in alloc; "{trouble}")?.as_str(), told);
+        let trouble = format!(in alloc; "{trouble}")?;
+        same(&rt, trouble.as_str(), told, name);
     }
     fs::remove_file(&rt, name)?;
     Ok(())
@@ -347,10 +339,15 @@ fn reads_the_folders(rt: HostRuntime) -> Result<(), Fail> {
 #[test]
 fn writes_standard_output(rt: HostRuntime) -> Result<(), Fail> {
     let mut sink = StdSink::new(&rt);
-    assert_eq!(rt; sink.write(b"standard output\n"), Ok(16));
-    assert_eq!(rt; sink.write(b""), Ok(0));
-    assert_eq!(rt; put_all(&mut sink, b"more of it\n"), Ok(()));
-    assert!(rt; sink.trouble().is_none());
+    same(&rt, sink.write(b"standard output\n"), Ok(16), "a line");
+    same(&rt, sink.write(b""), Ok(0), "nothing");
+    same(
+        &rt,
+        put_all(&mut sink, b"more of it\n"),
+        Ok(()),
+        "a line more",
+    );
+    same(&rt, sink.trouble().is_none(), true, "trouble");
     Ok(())
 }
 

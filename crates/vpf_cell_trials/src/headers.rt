@@ -74,13 +74,6 @@ const ID: Column<'static> = Column {
     narrative: None,
 };
 
-/// The parts of a header: the table's description, its narrative and its columns.
-type Given = (
-    &'static [u8],
-    Option<&'static [u8]>,
-    &'static [Column<'static>],
-);
-
 /// Where the parts are refused, and why; nothing where they make a header.
 fn refused_parts(
     alloc: Global,

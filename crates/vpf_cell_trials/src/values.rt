@@ -1,7 +1,6 @@
 //! What cells say, by bytes that are written out by hand.
 
 mod values;
-mod word_sizes;
 
 use vpf_triplet::{Count, Order};
 

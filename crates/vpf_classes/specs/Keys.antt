@@ -4,7 +4,7 @@ use Rattle.std.specs.Option.{option_map}
 use Rattle.vpf_findings.specs.Firsts.{◌or◌}
 use Rattle.vpf_findings.specs.declared.finding.TableName.{TableName}
 use Rattle.vpf_head.specs.Head.{Col, place_of}
-use Rattle.vpf_names.specs.Items.{trimmed}
+use Rattle.vpf_source.specs.Names.Items.{trimmed}
 use Rattle.vpf_table.specs.Grid.{Grid}
 use Rattle.vpf_prims.specs.Coverages.{CoverageTables}
 use Rattle.vpf_prims.specs.Tables.{TileTables, table_named}

@@ -12,8 +12,8 @@ ghost use Rattle.vpf_classes.specs.Keys.{absent_from, absent_key, columns_called
 use vpf_coverage::Coverage;
 use vpf_findings::TableName;
 use vpf_head::Header;
-use vpf_names::trimmed;
 use vpf_schema::{ItemName, SchemaRow};
+use vpf_source::names::trimmed;
 
 /// The header of a table in a tile.
 fn header_in<'c, 'a>(coverage: &'c Coverage<'a>, t: u32, name: TableName) -> Option<&'c Header<'a>>

@@ -6,14 +6,14 @@ use Rattle.vpf_table.specs.Grid.{Grid}
 use Rattle.vpf_prims.specs.Coverages.{CoverageTables, tiled_coverage}
 use Rattle.vpf_prims.specs.Libraries.{IsLibrary, library_of}
 use Rattle.vpf_prims.specs.Tables.{TileTables}
-use Rattle.vpf_tileref.specs.Paths.{path_text}
-use Rattle.vpf_tileref.specs.Stops.{path_texts}
-use Rattle.vpf_tileref.specs.Tileref.{name_column, paths_of, row_path}
-use Rattle.vpf_loading.specs.Loading.{within}
-use Rattle.vpf_loading.specs.Holding.{AreCoverageFiles, AreTiledFiles, AreTilesFiles, AreUntiledFiles}
-use Rattle.vpf_loading.specs.Laws.{FilesAreLibraries}
-use Rattle.vpf_opening.specs.declared.opening.OpenCoverage.{OpenCoverage}
-use Rattle.vpf_opening.specs.Opened.{opened_coverage}
+use Rattle.vpf_library_files.specs.Tileref.Paths.{path_text}
+use Rattle.vpf_library_files.specs.Tileref.Stops.{path_texts}
+use Rattle.vpf_library_files.specs.Tileref.Tileref.{name_column, paths_of, row_path}
+use Rattle.vpf_library_files.specs.Loading.Loading.{within}
+use Rattle.vpf_library_files.specs.Loading.Holding.{AreCoverageFiles, AreTiledFiles, AreTilesFiles, AreUntiledFiles}
+use Rattle.vpf_library_files.specs.Loading.Laws.{FilesAreLibraries}
+use Rattle.vpf_coverage.specs.declared.opening.opening.OpenCoverage.{OpenCoverage}
+use Rattle.vpf_coverage.specs.Opening.Opened.{opened_coverage}
 use Rattle.vpf_coverage.specs.Opened.{IsCounted}
 
 -- as many tiles as paths

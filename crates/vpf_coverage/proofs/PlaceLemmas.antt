@@ -7,8 +7,8 @@ use Rattle.vpf_prims.specs.Tables.{TileTables}
 use Rattle.vpf_prims.specs.Views.{tables_in_view}
 use Rattle.vpf_prims.specs.Coverages.{tile_at}
 use Rattle.vpf_numbers.specs.Around.{Around, around_of, tables_around}
-use Rattle.vpf_opening.specs.declared.opening.OpenCoverage.{OpenCoverage}
-use Rattle.vpf_opening.specs.Opened.{opened_coverage, placed_view, placed_views}
+use Rattle.vpf_coverage.specs.declared.opening.opening.OpenCoverage.{OpenCoverage}
+use Rattle.vpf_coverage.specs.Opening.Opened.{opened_coverage, placed_view, placed_views}
 use Rattle.vpf_coverage.specs.Opened.{IsPlaced}
 
 -- what stands at a number

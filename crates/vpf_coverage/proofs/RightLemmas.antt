@@ -12,8 +12,8 @@ use Rattle.vpf_prims.specs.Coverages.{last_tile, tile_at}
 use Rattle.vpf_prims.specs.Libraries.{in_tile, in_tiles}
 use Rattle.vpf_numbers.specs.Around.{around_of}
 use Rattle.vpf_numbers.specs.TableLines.{coverage_numbers, numbers_finding}
-use Rattle.vpf_opening.specs.declared.opening.OpenCoverage.{OpenCoverage}
-use Rattle.vpf_opening.specs.Opened.{opened_coverage}
+use Rattle.vpf_coverage.specs.declared.opening.opening.OpenCoverage.{OpenCoverage}
+use Rattle.vpf_coverage.specs.Opening.Opened.{opened_coverage}
 use Rattle.vpf_coverage.specs.Opened.{AreAllRight, AreRightIn, IsCounted, IsPlaced}
 use Rattle.vpf_coverage.proofs.PlaceLemmas.{placed_length}
 

@@ -5,7 +5,7 @@ use Rattle.std.proofs.lemmas.List.Elements.{All-head, All-tail}
 use Rattle.vpf_prims.specs.declared.views.PrimitiveViews.{PrimitiveViews}
 use Rattle.vpf_prims.specs.declared.views.TileColumns.{TileColumns}
 use Rattle.vpf_prims.specs.Tables.{TileTables}
-use Rattle.vpf_opening.specs.Opened.{placed_view, placed_views}
+use Rattle.vpf_coverage.specs.Opening.Opened.{placed_view, placed_views}
 use Rattle.vpf_coverage.specs.Opened.{AreAllRight, AreRightIn}
 
 placed_first : (first : ℕ) (firsts : List ℕ) (views : Option PrimitiveViews) (tiles : List (Option PrimitiveViews))

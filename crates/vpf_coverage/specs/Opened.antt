@@ -7,8 +7,8 @@ use Rattle.vpf_prims.specs.Libraries.{IsLibrary, library_of}
 use Rattle.vpf_prims.specs.Owning.{NamesItsOwn}
 use Rattle.vpf_prims.specs.Reading.{primitives_of}
 use Rattle.vpf_prims.specs.Views.{AreColumnsOf, tables_in_view}
-use Rattle.vpf_opening.specs.declared.opening.OpenCoverage.{OpenCoverage}
-use Rattle.vpf_opening.specs.Opened.{opened_coverage}
+use Rattle.vpf_coverage.specs.declared.opening.opening.OpenCoverage.{OpenCoverage}
+use Rattle.vpf_coverage.specs.Opening.Opened.{opened_coverage}
 
 -- these are the columns of a tile's tables, whose rows name what is there
 pub record AreRight (views : PrimitiveViews) (columns : TileColumns) : Type 0 where

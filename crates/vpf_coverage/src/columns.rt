@@ -6,13 +6,13 @@ ghost use Rattle.vpf_prims.specs.Coverages.{tile_at};
 ghost use Rattle.vpf_prims.specs.Libraries.{in_tile};
 ghost use Rattle.vpf_numbers.specs.Around.{around_of};
 ghost use Rattle.vpf_numbers.specs.TableLines.{coverage_numbers, numbers_finding};
-ghost use Rattle.vpf_opening.specs.Opened.{opened_coverage};
+ghost use Rattle.vpf_coverage.specs.Opening.Opened.{opened_coverage};
 ghost use Rattle.vpf_coverage.specs.Opened.{AreAllRight, AreRightIn, IsCounted, IsPlaced};
 
+use crate::opening::{OpenCoverage, views_at};
 use std::alloc::Global;
 use vpf_findings::FindError;
 use vpf_numbers::{Around, check_tables};
-use vpf_opening::{OpenCoverage, views_at};
 use vpf_prims::TileColumns;
 
 /// Where the first file of tile `t` stands, 0 where there is no such tile.

@@ -3,21 +3,21 @@
 ghost use Rattle.std.specs.Prelude.{◌≡◌, IfOk};
 ghost use Rattle.vpf_findings.specs.Firsts.{Tells};
 ghost use Rattle.vpf_prims.specs.Coverages.{CoverageTables};
-ghost use Rattle.vpf_loading.specs.Holding.{AreCoverageFiles, AreOfCoverage};
+ghost use Rattle.vpf_library_files.specs.Loading.Holding.{AreCoverageFiles, AreOfCoverage};
 ghost use Rattle.vpf_numbers.specs.TableLines.{coverage_numbers};
-ghost use Rattle.vpf_opening.specs.Opened.{opened_coverage};
+ghost use Rattle.vpf_coverage.specs.Opening.Opened.{opened_coverage};
 ghost use Rattle.vpf_coverage.specs.Opened.{IsCounted, IsPlaced};
 
 use crate::columns::columns_of;
+use crate::opening::{OpenCoverage, open_files};
 use crate::tiles::{all_kept, tiles_of};
 use std::alloc::{AllocError, Global};
 use std::marker::Model;
 use vpf_findings::FindError;
-use vpf_loading::laws::files_are_libraries;
-use vpf_opening::{OpenCoverage, open_files};
+use vpf_library_files::loading::laws::files_are_libraries;
+use vpf_library_files::tileref::TilePaths;
 use vpf_prims::Tile;
 use vpf_source::File;
-use vpf_tileref::TilePaths;
 
 /// The primitives of a coverage, whose columns, ids and references are right. Contracts see it as the tables of its tiles.
 #[derive(Drop)]

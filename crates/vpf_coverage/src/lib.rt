@@ -4,6 +4,7 @@
 
 mod columns;
 mod coverage;
+pub mod opening;
 mod tiles;
 
 pub use coverage::{Coverage, open_coverage};

@@ -1,7 +1,7 @@
 //! The tiles of tables whose columns are known.
 
 ghost use Rattle.std.specs.Prelude.{◌≡◌, ◌<◌, ◌^◌, All, IfOk, IfSome, List, length};
-ghost use Rattle.vpf_opening.specs.Opened.{placed_view, placed_views};
+ghost use Rattle.vpf_coverage.specs.Opening.Opened.{placed_view, placed_views};
 ghost use Rattle.vpf_coverage.specs.Opened.{AreAllRight, AreRightIn};
 
 use std::alloc::{AllocError, Global};

@@ -15,7 +15,7 @@ use Rattle.vpf_prims.specs.Suiting.{carried_columns}
 use Rattle.vpf_prims.specs.Tables.{TileTables}
 use Rattle.vpf_numbers.specs.Around.{around_of, first_having, model_in}
 use Rattle.vpf_numbers.specs.Matching.{AreLike, ColumnsMatch, HaveColumns, HaveSameColumns}
-use Rattle.vpf_loading.specs.Laws.{AreNamedApart, IsNamedApart}
+use Rattle.vpf_library_files.specs.Loading.Laws.{AreNamedApart, IsNamedApart}
 use Rattle.vpf_cross.specs.Laws.{AreWhole, LikeAreWhole}
 use Rattle.vpf_cross.proofs.LikeLemmas.{carried_alike}
 

@@ -9,7 +9,7 @@ use Rattle.vpf_prims.specs.Suiting.{carried_columns}
 use Rattle.vpf_prims.specs.Tables.{TileTables}
 use Rattle.vpf_prims.specs.Coverages.{CoverageTables, tile_at}
 use Rattle.vpf_prims.specs.Laws.{AreFilled}
-use Rattle.vpf_loading.specs.Laws.{AreNamedApart}
+use Rattle.vpf_library_files.specs.Loading.Laws.{AreNamedApart}
 use Rattle.vpf_numbers.specs.Matching.{HaveColumns}
 use Rattle.vpf_findings.specs.Firsts.{where_holds}
 use Rattle.vpf_wing.specs.Links.{DartLinks, links_of}

@@ -15,7 +15,7 @@ use crate::within::{darts_in, is_within};
 use std::alloc::{AllocError, Global};
 use vpf_cutting::{Cut, TileWalk};
 use vpf_darts::{Dart, Listing};
-use vpf_kept::list_kept;
+use vpf_wing::kept::list_kept;
 use vpf_wing::laws::well_formed_has_map;
 
 /// The number in each tile of what is outside its faces.

@@ -1,3 +1,4 @@
+use crate::same::same;
 use std::test::Fail;
 use vpf_copies::{Copies, EdgeNodes, EdgeTiles};
 
@@ -19,9 +20,9 @@ const ENDS: [EdgeNodes; 4] = [
 #[test]
 fn edges_are_in_the_tiles_beside_them(rt: HostRuntime) -> Result<(), Fail> {
     let edges = Copies::of_edges(rt.alloc(), 3, &SIDES)?;
-    assert_eq!(rt; edges.in_tile(1), [1, 4].as_slice());
-    assert_eq!(rt; edges.tiles_of(4), [1, 3].as_slice());
-    assert_eq!(rt; edges.local(1, 4), Some(2));
+    same(&rt, edges.in_tile(1), [1, 4].as_slice(), "edges in tile 1");
+    same(&rt, edges.tiles_of(4), [1, 3].as_slice(), "tiles of edge 4");
+    same(&rt, edges.local(1, 4), Some(2), "edge 4 in tile 1");
     Ok(())
 }
 
@@ -29,15 +30,20 @@ fn edges_are_in_the_tiles_beside_them(rt: HostRuntime) -> Result<(), Fail> {
 fn nodes_are_in_the_tiles_of_their_edges(rt: HostRuntime) -> Result<(), Fail> {
     let edges = Copies::of_edges(rt.alloc(), 3, &SIDES)?;
     let nodes = Copies::of_nodes(rt.alloc(), &edges, 4, &ENDS)?;
-    assert_eq!(rt; nodes.in_tile(2), [1, 2, 3].as_slice());
-    assert_eq!(rt; nodes.local(3, 3), None);
+    same(
+        &rt,
+        nodes.in_tile(2),
+        [1, 2, 3].as_slice(),
+        "nodes in tile 2",
+    );
+    same(&rt, nodes.local(3, 3), None, "node 3 in tile 3");
     Ok(())
 }
 
 #[test]
 fn faces_are_in_one_tile(rt: HostRuntime) -> Result<(), Fail> {
     let faces = Copies::of_places(rt.alloc(), 3, &[0, 3, 1, 3])?;
-    assert_eq!(rt; faces.in_tile(3), [2, 4].as_slice());
-    assert_eq!(rt; faces.tiles_of(1), [].as_slice());
+    same(&rt, faces.in_tile(3), [2, 4].as_slice(), "faces in tile 3");
+    same(&rt, faces.tiles_of(1), [].as_slice(), "tiles of face 1");
     Ok(())
 }

@@ -1,11 +1,10 @@
-//! What no clause says: worked examples, printed texts, and that each call succeeds with ample memory.
+//! What no command reaches: the parts of a map, lists of which no map is made, and that each call succeeds with ample memory.
 
-use std::alloc::{AllocError, Global};
+use crate::same::same;
+use std::alloc::Global;
 use std::process::Abort;
 use std::test::Fail;
-use vpf_darts::{
-    Dart, Listing, Map, MapError, NotPermutation, TileDart, cycles, flip, laws, without,
-};
+use vpf_darts::{Dart, Map, MapError, NotPermutation, cycles, flip, laws, without};
 
 fn plus(edge: u32) -> Dart {
     Dart { edge, minus: false }
@@ -30,104 +29,49 @@ fn map_of(
     Map::new(alloc, next, tail, face)
 }
 
-/// The darts of a listing, a line a cycle.
-fn text_of(alloc: Global, listing: &Listing) -> Result<String, AllocError> {
-    let mut text = String::new(alloc);
-    for i in 0..listing.len() {
-        for dart in listing.at(i) {
-            write!(&mut text, "{dart} ")?;
-        }
-        text.push_str("\n")?;
-    }
-    Ok(text)
-}
-
 /// Three edges between two nodes, with three faces between them.
 fn three_edges(rt: &impl Abort, alloc: Global) -> Result<Map, MapError> {
     let next = [minus(3), minus(2), plus(3), minus(1), plus(2), plus(1)];
     map_of(rt, alloc, &next, &[1, 2, 2, 1, 1, 2], &[2, 1, 3, 1, 3, 2])
 }
 
-/// The same with an edge that ends in a face: from node 2 to a node of its own.
-fn with_a_spur(rt: &impl Abort, alloc: Global) -> Result<Map, MapError> {
-    let next = [
-        minus(3),
-        minus(2),
-        plus(3),
-        minus(1),
-        plus(4),
-        plus(1),
-        minus(4),
-        plus(2),
-    ];
-    let tail = [1, 2, 2, 1, 1, 2, 2, 3];
-    map_of(rt, alloc, &next, &tail, &[2, 1, 3, 1, 3, 2, 3, 3])
-}
+/// A dart of the three edges, negative where it runs back; the next, its tail and its face, and the next where the third edge is left out.
+const DARTS: [(i32, i32, [u32; 2], i32); 6] = [
+    (1, -3, [1, 2], 2),
+    (-1, -2, [2, 1], -2),
+    (2, 3, [2, 3], 1),
+    (-2, -1, [1, 1], -1),
+    (3, 2, [1, 3], 3),
+    (-3, 1, [2, 2], -3),
+];
 
-#[test]
-fn lists_and_removes(rt: HostRuntime) -> Result<(), Fail> {
-    let alloc = rt.alloc();
-    let map = three_edges(&rt, alloc)?;
-    assert_eq!(rt; map.edges(), 3);
-    assert_eq!(rt;
-        text_of(alloc, &cycles(alloc, &map)?)?.as_str(),
-        "1+ 3- \n1- 2- \n2+ 3+ \n"
-    );
-    for (lines, want) in [
-        ([false, false, false], "1+ 3- \n1- 2- \n2+ 3+ \n"),
-        ([false, false, true], "1+ 2+ \n1- 2- \n"),
-        ([true, false, true], "2+ 2- \n"),
-        ([true, true, true], ""),
-    ] {
-        let left = without(alloc, &map, &lines)?;
-        assert_eq!(rt; text_of(alloc, &cycles(alloc, &left)?)?.as_str(), want);
+fn dart_of(number: i32) -> Dart {
+    Dart {
+        edge: number.unsigned_abs(),
+        minus: number < 0,
     }
-    Ok(())
-}
-
-#[test]
-fn passes_over_a_run_of_lines(rt: HostRuntime) -> Result<(), Fail> {
-    let alloc = rt.alloc();
-    let map = with_a_spur(&rt, alloc)?;
-    assert_eq!(rt; map.edges(), 4);
-    for (lines, want) in [
-        ([false, false, true, false], "1+ 4+ 4- 2+ \n1- 2- \n"),
-        ([false, false, true, true], "1+ 2+ \n1- 2- \n"),
-    ] {
-        let left = without(alloc, &map, &lines)?;
-        assert_eq!(rt; text_of(alloc, &cycles(alloc, &left)?)?.as_str(), want);
-    }
-    Ok(())
 }
 
 #[test]
 fn reads_darts(rt: HostRuntime) -> Result<(), Fail> {
     let alloc = rt.alloc();
     let map = three_edges(&rt, alloc)?;
-    assert_eq!(rt; map.edges(), 3);
+    assert!(rt; map.edges() == 3);
     let left = without(alloc, &map, &[false, false, true])?;
-    for (dart, next, tail, face, next_left) in [
-        (plus(1), minus(3), 1, 2, plus(2)),
-        (minus(1), minus(2), 2, 1, minus(2)),
-        (plus(2), plus(3), 2, 3, plus(1)),
-        (minus(2), minus(1), 1, 1, minus(1)),
-        (plus(3), plus(2), 1, 3, plus(3)),
-        (minus(3), plus(1), 2, 2, minus(3)),
-    ] {
+    for (number, next, [tail, face], next_left) in DARTS {
+        let dart = dart_of(number);
         assert!(rt; map.has(dart) && left.has(dart));
-        assert_eq!(rt; map.next(dart), next, "after {dart}");
-        assert_eq!(rt; left.next(dart), next_left, "after {dart}");
-        assert_eq!(rt; (map.tail(dart), map.face(dart)), (tail, face), "at {dart}");
-        assert_eq!(rt;
-            (left.tail(dart), left.face(dart)),
-            (tail, face),
-            "at {dart}"
-        );
-        assert_eq!(rt; left.is_live(dart), dart.edge < 3);
-        assert_eq!(rt; flip(flip(dart)), dart);
+        same(&rt, map.next(dart), dart_of(next), number);
+        same(&rt, left.next(dart), dart_of(next_left), number);
+        for map in [&map, &left] {
+            assert!(rt; map.has(dart));
+            same(&rt, [map.tail(dart), map.face(dart)], [tail, face], number);
+        }
+        same(&rt, left.is_live(dart), dart.edge < 3, number);
+        same(&rt, flip(flip(dart)), dart, number);
     }
     for dart in [plus(0), minus(0), plus(4), minus(u32::MAX)] {
-        assert!(rt; !map.has(dart));
+        same(&rt, map.has(dart), false, dart);
     }
     Ok(())
 }
@@ -141,14 +85,12 @@ fn refuses_what_is_no_permutation(rt: HostRuntime) -> Result<(), Fail> {
         ([minus(2), plus(2), plus(1), plus(2)], minus(2)),
     ] {
         let made = map_of(&rt, alloc, &next, &[1, 1, 1, 1], &[1, 1, 1, 1]);
-        assert_eq!(rt;
-            made.err(),
-            Some(MapError::NotPermutation(NotPermutation { dart }))
-        );
+        let want = MapError::NotPermutation(NotPermutation { dart });
+        same(&rt, made.err(), Some(want), dart);
     }
-    let refusal = NotPermutation { dart: minus(7) };
-    let text = format!(in alloc; "{}", MapError::NotPermutation(refusal))?;
-    assert_eq!(rt; text.as_str(), "an earlier dart has the next of 7-");
+    let refusal = MapError::NotPermutation(NotPermutation { dart: minus(7) });
+    let text = format!(in alloc; "{refusal}")?;
+    same(&rt, text.as_str(), "an earlier dart has the next of 7-", 7);
     Ok(())
 }
 
@@ -158,59 +100,18 @@ fn makes_of_fitting_lists_alone(rt: HostRuntime) -> Result<(), Fail> {
     let both = [plus(1), minus(1)];
     for (next, tail, face, want) in [
         (both, [1, 1].as_slice(), [1, 1].as_slice(), true),
-        (both, [1].as_slice(), [1, 1].as_slice(), false),
-        (both, [1, 1].as_slice(), [1, 1, 1].as_slice(), false),
-        (
-            [plus(1), plus(2)],
-            [1, 1].as_slice(),
-            [1, 1].as_slice(),
-            false,
-        ),
-        (
-            [plus(1), plus(0)],
-            [1, 1].as_slice(),
-            [1, 1].as_slice(),
-            false,
-        ),
+        (both, &[1], &[1, 1], false),
+        (both, &[1, 1], &[1, 1, 1], false),
+        ([plus(1), plus(2)], &[1, 1], &[1, 1], false),
+        ([plus(1), plus(0)], &[1, 1], &[1, 1], false),
     ] {
-        assert_eq!(rt; Map::fits(&next, tail, face), want);
+        same(&rt, Map::fits(&next, tail, face), want, next);
     }
-    assert!(rt; !Map::fits(&[plus(1)], &[1], &[1]));
+    same(&rt, Map::fits(&[plus(1)], &[1], &[1]), false, "one dart");
     let none = map_of(&rt, alloc, &[], &[], &[])?;
-    assert_eq!(rt; none.edges(), 0);
+    assert!(rt; none.edges() == 0);
     let listing = cycles(alloc, &without(alloc, &none, &[])?)?;
-    assert!(rt; listing.is_empty());
-    Ok(())
-}
-
-#[test]
-fn orders_and_prints_darts(rt: HostRuntime) -> Result<(), Fail> {
-    let alloc = rt.alloc();
-    let rising = [
-        (0, plus(1), "1+"),
-        (0, minus(1), "1-"),
-        (0, plus(10), "10+"),
-        (1, plus(2), "1:2+"),
-        (1, minus(2), "1:2-"),
-        (12, plus(1), "12:1+"),
-    ];
-    let mut last = TileDart {
-        tile: 0,
-        edge: 0,
-        minus: false,
-    };
-    for (tile, dart, text) in rising {
-        let Dart { edge, minus } = dart;
-        let here = TileDart { tile, edge, minus };
-        assert!(rt; last < here);
-        assert_eq!(rt; format!(in alloc; "{here}")?.as_str(), text);
-        assert_eq!(rt; here.flip().flip(), here);
-        if tile == 0 {
-            assert_eq!(rt; TileDart::from(dart), here);
-            assert_eq!(rt; format!(in alloc; "{dart}")?.as_str(), text);
-        }
-        last = here;
-    }
+    same(&rt, listing.is_empty(), true, "no edges");
     Ok(())
 }
 

@@ -1,4 +1,4 @@
-//! Trials of the crates on darts, grids and copies: no function but tests. They stand apart, since a crate
+//! Trials of the crates on darts, copies and the files of the grid: no function but tests. They stand apart, since a crate
 //! with tests is proved once more with them.
 #![tactic(auto)]
 
@@ -7,4 +7,6 @@ mod copies;
 #[cfg(test)]
 mod darts;
 #[cfg(test)]
-mod grids;
+mod grid_files;
+#[cfg(test)]
+mod same;

@@ -7,8 +7,8 @@ use Rattle.vpf_darts.specs.Darts.{tile_dart_code}
 use Rattle.vpf_darts.specs.Listings.{numbers_of}
 use Rattle.vpf_prims.specs.Coverages.{CoverageTables, last_tile}
 use Rattle.vpf_prims.specs.Libraries.{library_of}
-use Rattle.vpf_loading.specs.Loading.{LoadedCoverage, read_coverage}
-use Rattle.vpf_loading.specs.declared.loading.LoadStop.{LoadStop}
+use Rattle.vpf_library_files.specs.Loading.Loading.{LoadedCoverage, read_coverage}
+use Rattle.vpf_library_files.specs.declared.loading.loading.LoadStop.{LoadStop}
 use Rattle.vpf_source.specs.declared.file.File.{File}
 use Rattle.vpf_tile_theorem.specs.Counting.{all_edges}
 use Rattle.vpf_trace.specs.Laws.{LibraryHasTrace, OneTrace}

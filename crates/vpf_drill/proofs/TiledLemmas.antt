@@ -7,11 +7,11 @@ use Rattle.vpf_source.specs.declared.file.File.{File}
 use Rattle.vpf_prims.specs.Coverages.{CoverageTables}
 use Rattle.vpf_prims.specs.Primitives.{Primitives}
 use Rattle.vpf_prims.specs.Reading.{primitives_of}
-use Rattle.vpf_tileref.specs.Laws.{StopsDecide}
-use Rattle.vpf_tileref.specs.Tileref.{IsTileref}
-use Rattle.vpf_loading.specs.Holding.{bytes_in}
-use Rattle.vpf_loading.specs.Laws.{HeldIsRead}
-use Rattle.vpf_loading.specs.Loading.{LoadedCoverage, Read, most_loaded, within}
+use Rattle.vpf_library_files.specs.Tileref.Laws.{StopsDecide}
+use Rattle.vpf_library_files.specs.Tileref.Tileref.{IsTileref}
+use Rattle.vpf_library_files.specs.Loading.Holding.{bytes_in}
+use Rattle.vpf_library_files.specs.Loading.Laws.{HeldIsRead}
+use Rattle.vpf_library_files.specs.Loading.Loading.{LoadedCoverage, Read, most_loaded, within}
 use Rattle.vpf_table_files.specs.Adding.{files_made, first_limit_of}
 use Rattle.vpf_tiler.specs.TileFiles.Tables.{library_tables}
 use Rattle.vpf_replies.specs.declared.verdict.Verdict.TheVariants.{Done, Refused}

@@ -6,7 +6,7 @@ use Rattle.vpf_source.specs.declared.file.File.{File}
 use Rattle.vpf_darts.specs.declared.darts.TileDart.{TileDart}
 use Rattle.vpf_darts.specs.Listings.{numbers_of}
 use Rattle.vpf_prims.specs.Libraries.{library_of}
-use Rattle.vpf_loading.specs.Loading.{LoadedCoverage, read_coverage}
+use Rattle.vpf_library_files.specs.Loading.Loading.{LoadedCoverage, read_coverage}
 use Rattle.vpf_trace.specs.Tracing.{IsTrace}
 use Rattle.vpf_replies.specs.Answer.{Answer, done}
 use Rattle.vpf_tile_theorem.specs.Tile.{tile_answer}

@@ -2,7 +2,7 @@
 use Rattle.std.specs.Prelude.{◌≡◌, ℕ, None, Ok, Some}
 use Rattle.vpf_source.specs.Files.{Files}
 use Rattle.vpf_source.specs.Making.{with_all}
-use Rattle.vpf_loading.specs.Loading.{LoadedCoverage, read_coverage}
+use Rattle.vpf_library_files.specs.Loading.Loading.{LoadedCoverage, read_coverage}
 use Rattle.vpf_prims.specs.Libraries.{library_of}
 use Rattle.vpf_cross.specs.Agreeing.{LibraryAgrees}
 use Rattle.vpf_replies.specs.Answer.{Answer}

@@ -3,7 +3,7 @@ use Rattle.std.specs.Prelude.{ℕ, List, codes, length}
 use Rattle.std.specs.Fmt.{decimal}
 use Rattle.vpf_source.specs.declared.file.File.{File}
 use Rattle.vpf_darts.specs.declared.darts.TileDart.{TileDart}
-use Rattle.vpf_text.specs.Texts.{◌&◌}
+use Rattle.vpf_findings.specs.Text.Texts.{◌&◌}
 use Rattle.vpf_prims.specs.Coverages.{CoverageTables, last_tile}
 use Rattle.vpf_prims.specs.Libraries.{library_of}
 use Rattle.vpf_replies.specs.Listings.{listing_text}

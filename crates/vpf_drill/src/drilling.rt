@@ -5,7 +5,7 @@ ghost use Rattle.vpf_source.specs.Files.{Files};
 ghost use Rattle.vpf_source.specs.Making.{with_all};
 ghost use Rattle.vpf_darts.specs.Listings.{numbers_of};
 ghost use Rattle.vpf_prims.specs.Libraries.{library_of};
-ghost use Rattle.vpf_loading.specs.Loading.{LoadedCoverage, read_coverage};
+ghost use Rattle.vpf_library_files.specs.Loading.Loading.{LoadedCoverage, read_coverage};
 ghost use Rattle.vpf_trace.specs.Tracing.{IsTrace};
 ghost use Rattle.vpf_cross.specs.CrossFinding.{topology_finding};
 ghost use Rattle.vpf_drill.specs.GridCutting.Held.{grid_held};

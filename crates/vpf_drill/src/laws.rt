@@ -5,14 +5,14 @@ ghost use Rattle.vpf_drill.specs.Request.{RequestsCanBeAsked};
 
 use crate::grid_cutting::laws::{grid_is_held, grid_is_read_to_cut, grid_is_unfound, grid_serves};
 use crate::tiled_sizes::laws::grid_is_small;
-use vpf_loading::laws::coverages_are_held;
+use vpf_library_files::loading::laws::coverages_are_held;
+use vpf_library_files::tileref::laws::stops_decide;
 use vpf_table::laws::opened_is_read;
 use vpf_tile_theorem::library_commands::laws::check_decides_agreement;
 use vpf_tile_theorem::tilings::laws::{
     none_is_lacked, requests_have_names, tiles_are_made, tilings_agree,
 };
 use vpf_tiler::tiled_files::laws::names_differ;
-use vpf_tileref::laws::stops_decide;
 use vpf_trace::laws::one_trace;
 use vpf_vectors::laws::tables_say_grid;
 

@@ -7,8 +7,8 @@ use Rattle.vpf_triplet.specs.declared.places.Place.{Place}
 use Rattle.vpf_head.specs.Head.{Col}
 use Rattle.vpf_theme.specs.Entries.{Theme}
 use Rattle.vpf_theme.specs.Reading.{theme_of}
-use Rattle.vpf_loading.specs.Loading.{LoadedTable, read_optional, read_optional_table, within}
-use Rattle.vpf_loading.specs.Loads.{maybe}
+use Rattle.vpf_library_files.specs.Loading.Loading.{LoadedTable, read_optional, read_optional_table, within}
+use Rattle.vpf_library_files.specs.Loading.Loads.{maybe}
 use Rattle.vpf_schema.specs.Items.{own_file}
 use Rattle.vpf_schema.specs.Joins.{feature_items}
 use Rattle.vpf_feature_files.specs.Reading.{index_in, read_feature_tables, read_index, read_indexes, read_named_index, read_named_table, read_schema, read_schema_table, schema_name, theme_graded, with_indexes}

@@ -1,7 +1,7 @@
 -- Two steps of reading, one behind the other, proved: where both come to a value, each does.
 use Rattle.std.proofs.Common.{◌≡◌, ℕ, Ok, Err, refl, ap}
-use Rattle.vpf_loading.specs.Loading.{Read, ◌and_then◌}
-use Rattle.vpf_loading.specs.declared.loading.LoadStop.{LoadStop}
+use Rattle.vpf_library_files.specs.Loading.Loading.{Read, ◌and_then◌}
+use Rattle.vpf_library_files.specs.declared.loading.loading.LoadStop.{LoadStop}
 
 -- what comes of reading so many bytes
 abbrev pub came : {V : Type 0} → V → ℕ → Read V

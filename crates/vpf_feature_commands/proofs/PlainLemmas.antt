@@ -4,8 +4,8 @@ use Rattle.std.specs.Prelude.{Result, Ok, Err}
 use Rattle.std.specs.Option.{option_or}
 use Rattle.vpf_findings.specs.Findings.{Disagreement}
 use Rattle.vpf_numbers.specs.TableLines.{coverage_numbers}
-use Rattle.vpf_loading.specs.Loading.{within}
-use Rattle.vpf_loading.specs.declared.loading.LoadStop.{LoadStop}
+use Rattle.vpf_library_files.specs.Loading.Loading.{within}
+use Rattle.vpf_library_files.specs.declared.loading.loading.LoadStop.{LoadStop}
 use Rattle.vpf_feature_files.specs.Schemas.{FeatureTable, Schema}
 use Rattle.vpf_features.specs.Finding.{Named, feature_table_finding, tables_finding}
 use Rattle.vpf_classes.specs.Serving.{IndexesServe, ServesAsScans, unindexed_schema, unindexed_table}

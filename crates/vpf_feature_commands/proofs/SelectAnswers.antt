@@ -2,10 +2,10 @@
 use Rattle.std.proofs.Common.{◌≡◌, ℕ, ◌<◌, ◌≤◌, List, [], ◌∷◌, length, Option, None, map, refl, arith, rules}
 use Rattle.std.specs.Prelude.{IfOk, Result, Ok, Err}
 use Rattle.vpf_findings.specs.Findings.{Disagreement}
-use Rattle.vpf_loading.specs.Loading.{Read, within}
-use Rattle.vpf_loading.specs.Loads.{ReadsStop}
-use Rattle.vpf_loading.specs.declared.loading.LoadStop.{LoadStop}
-use Rattle.vpf_loading.specs.declared.loading.LoadStop.TheVariants as stops
+use Rattle.vpf_library_files.specs.Loading.Loading.{Read, within}
+use Rattle.vpf_library_files.specs.Loading.Loads.{ReadsStop}
+use Rattle.vpf_library_files.specs.declared.loading.loading.LoadStop.{LoadStop}
+use Rattle.vpf_library_files.specs.declared.loading.loading.LoadStop.TheVariants as stops
 use Rattle.vpf_numbers.specs.TableLines.{coverage_numbers}
 use Rattle.vpf_features.specs.Finding.{tables_finding}
 use Rattle.vpf_replies.specs.declared.halting.Halt.{Halt}

@@ -2,7 +2,7 @@
 use Rattle.std.specs.Prelude.{ℕ, Bool, List, [], length, codes, if◌then◌else◌}
 use Rattle.std.specs.List.{flat_map}
 use Rattle.std.specs.Fmt.{decimal}
-use Rattle.vpf_text.specs.Texts.{◌&◌}
+use Rattle.vpf_findings.specs.Text.Texts.{◌&◌}
 use Rattle.vpf_findings.specs.declared.finding.TableName.{TableName}
 use Rattle.vpf_findings.specs.declared.finding.TableName.TheVariants as tables
 use Rattle.vpf_joins.specs.declared.features.Primitive.{Primitive}

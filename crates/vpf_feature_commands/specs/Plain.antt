@@ -1,7 +1,7 @@
 -- `select` where no thematic index is there: every value is found by a plain scan.
 use Rattle.std.specs.Prelude.{◌≡◌, Result, Ok, Err}
 use Rattle.vpf_source.specs.Files.{Files}
-use Rattle.vpf_loading.specs.declared.loading.LoadStop.{LoadStop}
+use Rattle.vpf_library_files.specs.declared.loading.loading.LoadStop.{LoadStop}
 use Rattle.vpf_classes.specs.Serving.{IndexesServe, unindexed_schema}
 use Rattle.vpf_replies.specs.Answer.{Answer}
 use Rattle.vpf_feature_commands.specs.declared.requesting.SelectRequest.{SelectRequest}

@@ -1,13 +1,13 @@
 -- `select`: the features of a class that have a value in a column, with the primitives that are joined to each (MIL-STD-2407, 5.2.3, feature classes).
 use Rattle.std.specs.Prelude.{◌≡◌, ℕ, Bool, List, [], ◌∷◌, Option, Some, None, Result, Ok, Err}
 use Rattle.vpf_source.specs.Files.{Files}
-use Rattle.vpf_names.specs.Naming.{coverage_name, file_name}
+use Rattle.vpf_source.specs.Names.Naming.{coverage_name, file_name}
 use Rattle.vpf_findings.specs.Findings.{Disagreement}
 use Rattle.vpf_findings.specs.Printing.{disagree_text}
 use Rattle.vpf_prims.specs.Coverages.{CoverageTables}
 use Rattle.vpf_numbers.specs.TableLines.{coverage_numbers}
-use Rattle.vpf_loading.specs.Loading.{within}
-use Rattle.vpf_loading.specs.declared.loading.LoadStop.{LoadStop}
+use Rattle.vpf_library_files.specs.Loading.Loading.{within}
+use Rattle.vpf_library_files.specs.declared.loading.loading.LoadStop.{LoadStop}
 use Rattle.vpf_feature_files.specs.Schemas.{Schema}
 use Rattle.vpf_features.specs.Finding.{Named, tables_finding}
 use Rattle.vpf_featured.specs.Reading.{FeaturedCoverage, read_featured}

@@ -1,11 +1,11 @@
 //! What is asked for where features are selected.
 
 ghost use Rattle.std.specs.Prelude.{◌≡◌, IfOk, map, string_bytes};
-ghost use Rattle.vpf_names.specs.Naming.{coverage_name, file_name};
+ghost use Rattle.vpf_source.specs.Names.Naming.{coverage_name, file_name};
 ghost use Rattle.vpf_feature_commands.specs.Select.{select_request, select_request_of};
 
 use std::alloc::{AllocError, Global};
-use vpf_names::{coverage_name, file_name};
+use vpf_source::names::{coverage_name, file_name};
 use vpf_source::{Bytes, Name};
 
 /// Features of a coverage that are asked for: those of a class that have a value in a column.

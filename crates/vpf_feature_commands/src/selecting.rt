@@ -3,7 +3,7 @@
 ghost use Rattle.std.specs.Prelude.{◌≡◌, IfOk, Some};
 ghost use Rattle.vpf_source.specs.Files.{Files};
 ghost use Rattle.vpf_numbers.specs.TableLines.{coverage_numbers};
-ghost use Rattle.vpf_loading.specs.Loading.{within};
+ghost use Rattle.vpf_library_files.specs.Loading.Loading.{within};
 ghost use Rattle.vpf_feature_files.specs.Held.{AreOfSchema, AreSchemaFiles};
 ghost use Rattle.vpf_feature_files.specs.Schemas.{Schema as SchemaOf};
 ghost use Rattle.vpf_features.specs.Finding.{tables_finding};
@@ -22,8 +22,8 @@ use vpf_feature_files::FeatureFiles;
 use vpf_featured::{FeaturedFiles, load_featured};
 use vpf_features::{FeatureFault, Schema, open_features};
 use vpf_findings::FindError;
+use vpf_library_files::loading::within;
 use vpf_load_replies::{named, stopped};
-use vpf_loading::within;
 use vpf_replies::{Halt, Reply, Stop, disagreement};
 use vpf_source::Tree;
 

@@ -2,9 +2,9 @@
 use Rattle.std.proofs.Common.{◌≡◌, ◌∙◌, ℕ, ◌+◌, ◌<◌, ◌≤◌, List, [], ◌∷◌, ◌++◌, length, drop, get_or, map, Option, None, Some, sym, ap, subst}
 use Rattle.std.proofs.lemmas.List.{append-nil, drop_all, drop_more}
 use Rattle.vpf_source.specs.Files.{Files}
-use Rattle.vpf_loading.specs.declared.loading.LoadStop.{LoadStop}
-use Rattle.vpf_loading.specs.Loading.{◌and_then◌}
-use Rattle.vpf_loading.specs.Loads.{Comes, ReadsStop, maybe}
+use Rattle.vpf_library_files.specs.declared.loading.loading.LoadStop.{LoadStop}
+use Rattle.vpf_library_files.specs.Loading.Loading.{◌and_then◌}
+use Rattle.vpf_library_files.specs.Loading.Loads.{Comes, ReadsStop, maybe}
 use Rattle.vpf_schema.specs.Items.{own_file}
 use Rattle.vpf_schema.specs.Listing.{item_text}
 use Rattle.vpf_schema.specs.declared.items.ItemName.{ItemName}

@@ -8,9 +8,9 @@ use Rattle.vpf_source.specs.declared.file.File.{File}
 use Rattle.vpf_triplet.specs.declared.orders.Order.{Order}
 use Rattle.vpf_head.specs.Head.{Col}
 use Rattle.vpf_theme.specs.Reading.{theme_of}
-use Rattle.vpf_loading.specs.declared.loading.LoadStop.{LoadStop}
-use Rattle.vpf_loading.specs.Loading.{◌and_then◌, read_optional, within}
-use Rattle.vpf_loading.specs.Loads.{Comes, ReadsStop, ReadsValue}
+use Rattle.vpf_library_files.specs.declared.loading.loading.LoadStop.{LoadStop}
+use Rattle.vpf_library_files.specs.Loading.Loading.{◌and_then◌, read_optional, within}
+use Rattle.vpf_library_files.specs.Loading.Loads.{Comes, ReadsStop, ReadsValue}
 use Rattle.vpf_feature_files.specs.Held.{AreIndexFiles, IsIndexFileOption}
 use Rattle.vpf_feature_files.specs.Reading.{read_index, read_indexes, read_named_index, theme_graded}
 use Rattle.vpf_feature_files.specs.Schemas.{Index}

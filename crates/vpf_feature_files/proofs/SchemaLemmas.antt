@@ -5,9 +5,9 @@ use Rattle.vpf_source.specs.Files.{Files}
 use Rattle.vpf_source.specs.declared.file.File.{File}
 use Rattle.vpf_table.specs.Grid.{Grid}
 use Rattle.vpf_table.specs.Reading.{table_of}
-use Rattle.vpf_loading.specs.declared.loading.LoadStop.{LoadStop}
-use Rattle.vpf_loading.specs.Loading.{Read, ◌and_then◌, graded, read_optional}
-use Rattle.vpf_loading.specs.Loads.{Comes, LoadsAs, ReadsAs, ReadsStop, ReadsValue}
+use Rattle.vpf_library_files.specs.declared.loading.loading.LoadStop.{LoadStop}
+use Rattle.vpf_library_files.specs.Loading.Loading.{Read, ◌and_then◌, graded, read_optional}
+use Rattle.vpf_library_files.specs.Loading.Loads.{Comes, LoadsAs, ReadsAs, ReadsStop, ReadsValue}
 use Rattle.vpf_schema.specs.Joins.{feature_items, joins_in}
 use Rattle.vpf_schema.specs.Listing.{item_text}
 use Rattle.vpf_schema.specs.declared.items.ItemName.{ItemName}

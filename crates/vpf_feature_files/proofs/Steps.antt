@@ -3,9 +3,9 @@ use Rattle.std.proofs.Common.{◌≡◌, ◌∙◌, ℕ, List, [], ◌++◌, Opt
 use Rattle.std.specs.Prelude.{IfSome, Result, option_map}
 use Rattle.std.proofs.Common.{Vec, Global}
 use Rattle.vpf_source.specs.Files.{Files}
-use Rattle.vpf_loading.specs.declared.loading.LoadStop.{LoadStop}
-use Rattle.vpf_loading.specs.Loading.{Read, ◌and_then◌, stop_seen}
-use Rattle.vpf_loading.specs.Loads.{LoadsAs, ReadsStop, ReadsValue}
+use Rattle.vpf_library_files.specs.declared.loading.loading.LoadStop.{LoadStop}
+use Rattle.vpf_library_files.specs.Loading.Loading.{Read, ◌and_then◌, stop_seen}
+use Rattle.vpf_library_files.specs.Loading.Loads.{LoadsAs, ReadsStop, ReadsValue}
 
 -- a value and a count
 abbrev pub gives : {V : Type 0} → V → ℕ → Read V

@@ -5,16 +5,16 @@ use Rattle.vpf_source.specs.Files.{Files}
 use Rattle.vpf_source.specs.declared.file.File.{File}
 use Rattle.vpf_triplet.specs.declared.places.Place.{Place}
 use Rattle.vpf_head.specs.Head.{varies_in}
-use Rattle.vpf_names.specs.Indexes.{index_name}
+use Rattle.vpf_source.specs.Names.Indexes.{index_name}
 use Rattle.vpf_table.specs.Grid.{Grid}
 use Rattle.vpf_table.specs.Opening.{opened_of}
 use Rattle.vpf_table.specs.Reading.{table_of}
-use Rattle.vpf_loading.specs.declared.loading.LoadStop.{LoadStop}
-use Rattle.vpf_loading.specs.Holding.{AreFilesOf, AreFilesOfOption}
-use Rattle.vpf_loading.specs.Loading.{LoadedTable, Read, ◌and_then◌, files_in, graded, loaded_file, read_optional, read_optional_table, read_required, read_table, read_table_in, tabled}
-use Rattle.vpf_loading.specs.Loading.{with_its_index, with_own_index, within}
-use Rattle.vpf_loading.specs.Loads.{Comes, LoadsAs, ReadsAs, ReadsStop, ReadsValue}
-use Rattle.vpf_plan.proofs.ReadLemmas.{OpensRead, SpelledOpens, table_is}
+use Rattle.vpf_library_files.specs.declared.loading.loading.LoadStop.{LoadStop}
+use Rattle.vpf_library_files.specs.Loading.Holding.{AreFilesOf, AreFilesOfOption}
+use Rattle.vpf_library_files.specs.Loading.Loading.{LoadedTable, Read, ◌and_then◌, files_in, graded, loaded_file, read_optional, read_optional_table, read_required, read_table, read_table_in, tabled}
+use Rattle.vpf_library_files.specs.Loading.Loading.{with_its_index, with_own_index, within}
+use Rattle.vpf_library_files.specs.Loading.Loads.{Comes, LoadsAs, ReadsAs, ReadsStop, ReadsValue}
+use Rattle.vpf_tiling.proofs.plan.ReadLemmas.{OpensRead, SpelledOpens, table_is}
 use Rattle.vpf_feature_files.specs.declared.files.TableFiles.{TableFiles}
 use Rattle.vpf_feature_files.specs.Held.{AreIndexFiles}
 use Rattle.vpf_feature_files.specs.Loads.{AreTableFilesOption, HasFiles}

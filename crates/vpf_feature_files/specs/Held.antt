@@ -6,8 +6,8 @@ use Rattle.vpf_head.specs.Head.{varies_in}
 use Rattle.vpf_table.specs.Grid.{Grid}
 use Rattle.vpf_table.specs.Reading.{table_of}
 use Rattle.vpf_theme.specs.Reading.{theme_of}
-use Rattle.vpf_loading.specs.Holding.{AreFilesOf}
-use Rattle.vpf_loading.specs.Loading.{within}
+use Rattle.vpf_library_files.specs.Loading.Holding.{AreFilesOf}
+use Rattle.vpf_library_files.specs.Loading.Loading.{within}
 use Rattle.vpf_schema.specs.Joins.{schema_finding}
 use Rattle.vpf_feature_files.specs.declared.files.FeatureFiles.{FeatureFiles}
 use Rattle.vpf_feature_files.specs.declared.files.TableFiles.{TableFiles}

@@ -5,10 +5,10 @@ use Rattle.vpf_head.specs.Head.{varies_in}
 use Rattle.vpf_table.specs.Grid.{Grid}
 use Rattle.vpf_table.specs.Reading.{table_of}
 use Rattle.vpf_triplet.specs.declared.places.Place.{Place}
-use Rattle.vpf_loading.specs.declared.loading.LoadStop.{LoadStop}
-use Rattle.vpf_loading.specs.Holding.{AreFilesOfOption}
-use Rattle.vpf_loading.specs.Loading.{LoadedTable, files_in, graded, grid_in}
-use Rattle.vpf_loading.specs.Loads.{ReadsStop, maybe}
+use Rattle.vpf_library_files.specs.declared.loading.loading.LoadStop.{LoadStop}
+use Rattle.vpf_library_files.specs.Loading.Holding.{AreFilesOfOption}
+use Rattle.vpf_library_files.specs.Loading.Loading.{LoadedTable, files_in, graded, grid_in}
+use Rattle.vpf_library_files.specs.Loading.Loads.{ReadsStop, maybe}
 use Rattle.vpf_schema.specs.Joins.{schema_finding}
 use Rattle.vpf_feature_files.specs.declared.files.TableFiles.{TableFiles}
 use Rattle.vpf_feature_files.specs.Held.{AreTableFiles}

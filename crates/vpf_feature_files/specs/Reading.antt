@@ -9,10 +9,10 @@ use Rattle.vpf_table.specs.Grid.{Grid}
 use Rattle.vpf_table.specs.Reading.{table_of}
 use Rattle.vpf_theme.specs.Entries.{Theme}
 use Rattle.vpf_theme.specs.Reading.{theme_of}
-use Rattle.vpf_loading.specs.declared.loading.LoadStop.TheVariants as stops
-use Rattle.vpf_loading.specs.Loading.{LoadedTable, Read, ◌and_then◌, graded, read_optional, read_optional_table, within}
-use Rattle.vpf_loading.specs.Loads.{maybe}
-use Rattle.vpf_plan.specs.PlanLoads.{unless_found}
+use Rattle.vpf_library_files.specs.declared.loading.loading.LoadStop.TheVariants as stops
+use Rattle.vpf_library_files.specs.Loading.Loading.{LoadedTable, Read, ◌and_then◌, graded, read_optional, read_optional_table, within}
+use Rattle.vpf_library_files.specs.Loading.Loads.{maybe}
+use Rattle.vpf_tiling.specs.Plan.PlanLoads.{unless_found}
 use Rattle.vpf_schema.specs.Items.{own_file}
 use Rattle.vpf_schema.specs.Joins.{feature_items, schema_finding}
 use Rattle.vpf_feature_files.specs.Schemas.{FeatureTable, Index, Schema, joins_of}

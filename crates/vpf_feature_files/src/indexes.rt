@@ -4,16 +4,16 @@ ghost use Rattle.std.specs.Prelude.{◌≡◌, ◌≤◌, ℕ, List, [], ◌∷�
 ghost use Rattle.vpf_source.specs.Causes.{Rose, Stood};
 ghost use Rattle.vpf_head.specs.Views.{col};
 ghost use Rattle.vpf_theme.specs.Reading.{theme_of};
-ghost use Rattle.vpf_loading.specs.Loading.{most_loaded, within};
-ghost use Rattle.vpf_loading.specs.Loads.{LoadsAs, ReadsAs};
+ghost use Rattle.vpf_library_files.specs.Loading.Loading.{most_loaded, within};
+ghost use Rattle.vpf_library_files.specs.Loading.Loads.{LoadsAs, ReadsAs};
 ghost use Rattle.vpf_schema.specs.Items.{own_file};
 ghost use Rattle.vpf_feature_files.specs.Held.{AreIndexFiles, IsIndexFileOption};
 ghost use Rattle.vpf_feature_files.specs.Reading.{read_index, read_indexes, read_named_index, theme_graded};
 
 use std::alloc::{AllocError, Global};
 use vpf_head::{Column, Header};
-use vpf_loading::{LoadStop, optional_file, within};
-use vpf_names::file_beside;
+use vpf_library_files::loading::{LoadStop, optional_file, within};
+use vpf_source::names::file_beside;
 use vpf_source::{Bytes, File, Name, Tree};
 use vpf_theme::ThemeView;
 use vpf_triplet::Order;

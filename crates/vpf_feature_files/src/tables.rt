@@ -3,9 +3,9 @@
 ghost use Rattle.std.specs.Prelude.{◌≡◌, ◌≤◌, ℕ, List, [], ◌∷◌, ◌++◌, IsErrOf, OnOk, Some, map};
 ghost use Rattle.vpf_source.specs.Causes.{Rose, Stood};
 ghost use Rattle.vpf_table.specs.Grid.{Grid};
-ghost use Rattle.vpf_loading.specs.Holding.{AreFilesOf};
-ghost use Rattle.vpf_loading.specs.Loading.{most_loaded, read_optional_table};
-ghost use Rattle.vpf_loading.specs.Loads.{LoadsAs};
+ghost use Rattle.vpf_library_files.specs.Loading.Holding.{AreFilesOf};
+ghost use Rattle.vpf_library_files.specs.Loading.Loading.{most_loaded, read_optional_table};
+ghost use Rattle.vpf_library_files.specs.Loading.Loads.{LoadsAs};
 ghost use Rattle.vpf_schema.specs.Items.{own_file};
 ghost use Rattle.vpf_schema.specs.Listing.{item_text};
 ghost use Rattle.vpf_feature_files.specs.Held.{AreIndexFiles, AreTablesFiles};
@@ -15,7 +15,7 @@ ghost use Rattle.vpf_feature_files.specs.Reading.{read_feature_tables, read_inde
 use crate::files::TableFiles;
 use crate::indexes::load_indexes;
 use std::alloc::{AllocError, Global};
-use vpf_loading::{LoadStop, optional_table, table_in, within};
+use vpf_library_files::loading::{LoadStop, optional_table, table_in, within};
 use vpf_schema::ItemName;
 use vpf_source::{File, Name, Tree};
 use vpf_table::laws::{opened_is_read, spelled_is_opened};

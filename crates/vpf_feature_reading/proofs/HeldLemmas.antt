@@ -4,9 +4,9 @@ use Rattle.std.proofs.lemmas.Bool.{le-leb}
 use Rattle.vpf_base.specs.Limits.{most_bytes}
 use Rattle.vpf_source.specs.Files.{Files}
 use Rattle.vpf_source.specs.declared.file.File.{File}
-use Rattle.vpf_loading.specs.Holding.{AreHeld, bytes_in}
-use Rattle.vpf_loading.specs.Loading.{Read, loaded_file, most_loaded, read_bytes, read_optional}
-use Rattle.vpf_loading.proofs.FileLists.{both_held, bytes_of_both}
+use Rattle.vpf_library_files.specs.Loading.Holding.{AreHeld, bytes_in}
+use Rattle.vpf_library_files.specs.Loading.Loading.{Read, loaded_file, most_loaded, read_bytes, read_optional}
+use Rattle.vpf_library_files.proofs.loading.FileLists.{both_held, bytes_of_both}
 use Rattle.vpf_feature_writing.specs.Making.{Made, made_then}
 
 -- a tree holds some files, and they pass no limit behind so many bytes

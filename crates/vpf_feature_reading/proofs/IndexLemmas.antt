@@ -22,8 +22,8 @@ use Rattle.vpf_theme_build.specs.declared.errors.BuildError.TheVariants as build
 use Rattle.vpf_theme_build.specs.Building.{CanIndex, built_by, index_for, layout_for, within_limit}
 use Rattle.vpf_theme_build.specs.Grouping.{entries_for}
 use Rattle.vpf_theme_build.specs.Text.{index_len, index_text}
-use Rattle.vpf_loading.specs.Holding.{bytes_in}
-use Rattle.vpf_loading.specs.Loading.{loaded_file, within}
+use Rattle.vpf_library_files.specs.Loading.Holding.{bytes_in}
+use Rattle.vpf_library_files.specs.Loading.Loading.{loaded_file, within}
 use Rattle.vpf_feature_files.specs.Reading.{read_index, read_indexes, read_named_index}
 use Rattle.vpf_feature_files.specs.Schemas.{FeatureTable, Index}
 use Rattle.vpf_feature_writing.specs.Making.{index_made, index_made_by, indexes_made}

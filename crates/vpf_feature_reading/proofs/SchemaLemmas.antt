@@ -10,9 +10,9 @@ use Rattle.vpf_head.specs.Head.{varies_in}
 use Rattle.vpf_table.specs.Canonical.{canonical_table}
 use Rattle.vpf_table.specs.Grid.{Grid}
 use Rattle.vpf_table.specs.Reading.{table_of}
-use Rattle.vpf_loading.specs.Holding.{bytes_in}
-use Rattle.vpf_loading.specs.Loading.{read_optional, read_optional_table, within}
-use Rattle.vpf_loading.specs.Loads.{maybe}
+use Rattle.vpf_library_files.specs.Loading.Holding.{bytes_in}
+use Rattle.vpf_library_files.specs.Loading.Loading.{read_optional, read_optional_table, within}
+use Rattle.vpf_library_files.specs.Loading.Loads.{maybe}
 use Rattle.vpf_schema.specs.Items.{own_file}
 use Rattle.vpf_schema.specs.Joins.{feature_items, schema_finding}
 use Rattle.vpf_feature_files.specs.Reading.{read_feature_tables, read_indexes, read_named_table, read_schema, read_schema_table, schema_name}

@@ -8,12 +8,12 @@ use Rattle.vpf_findings.specs.Findings.{Disagreement}
 use Rattle.vpf_findings.specs.Printing.{own_of}
 use Rattle.vpf_table.specs.Grid.{Grid}
 use Rattle.vpf_table.specs.Reading.{table_of}
-use Rattle.vpf_loading.specs.declared.loading.LoadStop.TheVariants as stops
-use Rattle.vpf_loading.specs.Holding.{HoldsBytes}
-use Rattle.vpf_loading.specs.Loading.{LoadedTable, Read, ◌and_then◌, read_optional, read_optional_table, within}
-use Rattle.vpf_loading.specs.Loads.{maybe}
-use Rattle.vpf_loading.proofs.ReadSteps.{gives, graded_is, no_value, steps, stopped, value_is}
-use Rattle.vpf_plan.specs.PlanLoads.{unless_found}
+use Rattle.vpf_library_files.specs.declared.loading.loading.LoadStop.TheVariants as stops
+use Rattle.vpf_library_files.specs.Loading.Holding.{HoldsBytes}
+use Rattle.vpf_library_files.specs.Loading.Loading.{LoadedTable, Read, ◌and_then◌, read_optional, read_optional_table, within}
+use Rattle.vpf_library_files.specs.Loading.Loads.{maybe}
+use Rattle.vpf_library_files.proofs.loading.ReadSteps.{gives, graded_is, no_value, steps, stopped, value_is}
+use Rattle.vpf_tiling.specs.Plan.PlanLoads.{unless_found}
 use Rattle.vpf_schema.specs.Items.{own_file}
 use Rattle.vpf_schema.specs.Joins.{feature_items, schema_finding}
 use Rattle.vpf_feature_files.specs.Reading.{looked_at, read_feature_tables, read_indexes, read_named_table, read_schema_table, schema_in, schema_name}

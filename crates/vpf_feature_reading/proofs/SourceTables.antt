@@ -8,7 +8,7 @@ use Rattle.vpf_source.specs.Files.{Files}
 use Rattle.vpf_triplet.specs.declared.orders.Order.{Order}
 use Rattle.vpf_triplet.specs.declared.places.Place.{Place}
 use Rattle.vpf_head.specs.Head.{Col, varies_in}
-use Rattle.vpf_names.specs.Indexes.{index_name}
+use Rattle.vpf_source.specs.Names.Indexes.{index_name}
 use Rattle.vpf_table.specs.Canonical.{IsWritable, in_order}
 use Rattle.vpf_table.specs.Grid.{Grid}
 use Rattle.vpf_table.specs.Opening.{opened_of}
@@ -16,13 +16,13 @@ use Rattle.vpf_table.specs.Reading.{table_of}
 use Rattle.vpf_table.specs.Spelling.{IsTable}
 use Rattle.vpf_theme.specs.Entries.{Theme}
 use Rattle.vpf_theme.specs.Reading.{theme_of}
-use Rattle.vpf_loading.specs.declared.loading.LoadStop.{LoadStop}
-use Rattle.vpf_loading.specs.declared.loading.LoadStop.TheVariants as stops
-use Rattle.vpf_loading.specs.Holding.{HoldsBytes}
-use Rattle.vpf_loading.specs.Loading.{LoadedTable, ◌and_then◌, loaded_file, most_loaded, read_found, read_optional, read_optional_table, read_required}
-use Rattle.vpf_loading.specs.Loading.{read_table_in, tabled}
-use Rattle.vpf_loading.specs.Loading.{with_its_index, with_own_index, within}
-use Rattle.vpf_loading.proofs.ReadSteps.{gives, graded_is, no_value, steps, stopped, value_is}
+use Rattle.vpf_library_files.specs.declared.loading.loading.LoadStop.{LoadStop}
+use Rattle.vpf_library_files.specs.declared.loading.loading.LoadStop.TheVariants as stops
+use Rattle.vpf_library_files.specs.Loading.Holding.{HoldsBytes}
+use Rattle.vpf_library_files.specs.Loading.Loading.{LoadedTable, ◌and_then◌, loaded_file, most_loaded, read_found, read_optional, read_optional_table, read_required}
+use Rattle.vpf_library_files.specs.Loading.Loading.{read_table_in, tabled}
+use Rattle.vpf_library_files.specs.Loading.Loading.{with_its_index, with_own_index, within}
+use Rattle.vpf_library_files.proofs.loading.ReadSteps.{gives, graded_is, no_value, steps, stopped, value_is}
 use Rattle.vpf_schema.specs.Items.{own_file}
 use Rattle.vpf_feature_files.specs.Reading.{index_in, read_index, read_indexes, read_named_index, theme_graded}
 use Rattle.vpf_feature_files.specs.Schemas.{Index}

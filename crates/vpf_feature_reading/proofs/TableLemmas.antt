@@ -7,7 +7,7 @@ use Rattle.vpf_source.specs.declared.file.File.{File}
 use Rattle.vpf_triplet.specs.declared.places.Part.{Part}
 use Rattle.vpf_head.specs.Canonical.{canonical_text}
 use Rattle.vpf_head.specs.Head.{varies_in}
-use Rattle.vpf_names.specs.Indexes.{index_name}
+use Rattle.vpf_source.specs.Names.Indexes.{index_name}
 use Rattle.vpf_varindex.specs.RowIndex.{row_index}
 use Rattle.vpf_table.specs.declared.limit.Limit.{Limit as Passed}
 use Rattle.vpf_table.specs.Canonical.{IsWritable, canonical_index, canonical_spans, canonical_table}
@@ -16,9 +16,9 @@ use Rattle.vpf_table.specs.Opening.{opened_of}
 use Rattle.vpf_table.specs.Reading.{table_of}
 use Rattle.vpf_findings.specs.Firsts.{◌or◌}
 use Rattle.vpf_write.specs.Writing.{first_limit}
-use Rattle.vpf_made.specs.Files.{index_files, table_files}
-use Rattle.vpf_loading.specs.Holding.{bytes_in}
-use Rattle.vpf_loading.specs.Loading.{loaded_file, read_optional, read_optional_table, within}
+use Rattle.vpf_write.specs.Made.Files.{index_files, table_files}
+use Rattle.vpf_library_files.specs.Loading.Holding.{bytes_in}
+use Rattle.vpf_library_files.specs.Loading.Loading.{loaded_file, read_optional, read_optional_table, within}
 use Rattle.vpf_table_files.specs.Adding.{NamedTable, named_limit, table_within, unless_limited}
 use Rattle.vpf_feature_writing.specs.Making.{table_made}
 use Rattle.vpf_feature_reading.proofs.HeldLemmas.{AreFit, counted_so, file_read, one_read}

@@ -7,8 +7,8 @@ use Rattle.vpf_source.specs.declared.file.File.{File}
 use Rattle.vpf_head.specs.Head.{Col}
 use Rattle.vpf_table.specs.Grid.{Grid}
 use Rattle.vpf_table.specs.Reading.{table_of}
-use Rattle.vpf_loading.specs.Holding.{AreHeld, HoldsBytes, bytes_in}
-use Rattle.vpf_loading.specs.Loading.{most_loaded, within}
+use Rattle.vpf_library_files.specs.Loading.Holding.{AreHeld, HoldsBytes, bytes_in}
+use Rattle.vpf_library_files.specs.Loading.Loading.{most_loaded, within}
 use Rattle.vpf_schema.specs.Items.{own_file}
 use Rattle.vpf_schema.specs.Joins.{feature_items}
 use Rattle.vpf_feature_files.specs.Reading.{read_schema, schema_name}

@@ -1,6 +1,6 @@
 //! The rows of keys, by hand.
 
-use crate::same::same_in;
+use crate::same::same;
 use std::alloc::Global;
 use std::test::Fail;
 use vpf_keys::{KeyIndex, put_keys};
@@ -65,7 +65,7 @@ fn keys_join_rows_over_all_tiles(rt: HostRuntime) -> Result<(), Fail> {
     ] {
         let rows = index.rows(&key).iter();
         let found: Vec<(u32, u32)> = rows.map(|row| (row.at.tile, row.at.row)).collect(alloc)?;
-        same_in(&rt, found.as_slice(), want, key);
+        same(&rt, found.as_slice(), want, key);
     }
     Ok(())
 }

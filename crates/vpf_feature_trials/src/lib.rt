@@ -4,10 +4,6 @@
 #[cfg(test)]
 mod feature_files;
 #[cfg(test)]
-mod feature_tables;
-#[cfg(test)]
 mod keys;
 #[cfg(test)]
 mod same;
-#[cfg(test)]
-mod schemas;

@@ -2,7 +2,7 @@
 
 ghost use Rattle.std.specs.Prelude.{IfOk, List, Result, map, slice_get, ◌≡◌, ℕ};
 ghost use Rattle.std.specs.Option.{option_map};
-ghost use Rattle.vpf_loading.specs.Loading.{within};
+ghost use Rattle.vpf_library_files.specs.Loading.Loading.{within};
 ghost use Rattle.vpf_theme_build.specs.Building.{Builds};
 ghost use Rattle.vpf_theme_build.specs.declared.errors.BuildError.{BuildError};
 ghost use Rattle.vpf_features.specs.Views.{index_seen, table_seen};
@@ -11,7 +11,7 @@ ghost use Rattle.vpf_feature_writing.specs.Making.{index_made, index_made_by, in
 
 use std::alloc::{AllocError, Global};
 use vpf_features::{FeatureView, IndexView};
-use vpf_loading::within;
+use vpf_library_files::loading::within;
 use vpf_source::{Bytes, File, Name};
 use vpf_table::{Bound, Limit};
 use vpf_table_files::AddError;

@@ -4,11 +4,11 @@ use Rattle.std.specs.Prelude.{IsErrOf}
 use Rattle.vpf_base.specs.Results.{Told}
 use Rattle.vpf_source.specs.Files.{Files}
 use Rattle.vpf_source.specs.declared.file.File.{File}
-use Rattle.vpf_loading.specs.declared.loading.LoadStop.{LoadStop}
-use Rattle.vpf_loading.specs.declared.loading.LoadStop.TheVariants as stops
-use Rattle.vpf_loading.specs.Holding.{AreCoverageFiles, AreOfCoverage}
-use Rattle.vpf_loading.specs.Loading.{CountsAs, LoadedCoverage, Read, ◌and_then◌, loaded_read, read_coverage, stop_seen, within}
-use Rattle.vpf_loading.specs.Loads.{ReadsStop, ReadsValue}
+use Rattle.vpf_library_files.specs.declared.loading.loading.LoadStop.{LoadStop}
+use Rattle.vpf_library_files.specs.declared.loading.loading.LoadStop.TheVariants as stops
+use Rattle.vpf_library_files.specs.Loading.Holding.{AreCoverageFiles, AreOfCoverage}
+use Rattle.vpf_library_files.specs.Loading.Loading.{CountsAs, LoadedCoverage, Read, ◌and_then◌, loaded_read, read_coverage, stop_seen, within}
+use Rattle.vpf_library_files.specs.Loading.Loads.{ReadsStop, ReadsValue}
 use Rattle.vpf_feature_files.specs.Held.{AreOfSchema, AreSchemaFiles}
 use Rattle.vpf_feature_files.specs.Reading.{read_schema}
 use Rattle.vpf_feature_files.specs.Schemas.{Schema}

@@ -1,7 +1,7 @@
 -- The files of a coverage and of its features, against what was read.
 use Rattle.std.specs.Prelude.{◌≡◌, ℕ, List}
-use Rattle.vpf_loading.specs.Holding.{AreCoverageFiles}
-use Rattle.vpf_loading.specs.Loading.{within}
+use Rattle.vpf_library_files.specs.Loading.Holding.{AreCoverageFiles}
+use Rattle.vpf_library_files.specs.Loading.Loading.{within}
 use Rattle.vpf_feature_files.specs.Held.{AreSchemaFiles}
 use Rattle.vpf_featured.specs.declared.loading.FeaturedFiles.{FeaturedFiles}
 use Rattle.vpf_featured.specs.Reading.{FeaturedCoverage}

@@ -1,7 +1,7 @@
 -- A coverage with its features, as they are read.
 use Rattle.std.specs.Prelude.{ℕ, List, [], None, Ok}
 use Rattle.vpf_source.specs.Files.{Files}
-use Rattle.vpf_loading.specs.Loading.{LoadedCoverage, Read, ◌and_then◌, read_coverage, within}
+use Rattle.vpf_library_files.specs.Loading.Loading.{LoadedCoverage, Read, ◌and_then◌, read_coverage, within}
 use Rattle.vpf_feature_files.specs.Reading.{read_schema}
 use Rattle.vpf_feature_files.specs.Schemas.{Schema}
 

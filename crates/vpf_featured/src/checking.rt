@@ -4,8 +4,8 @@ ghost use Rattle.std.specs.Prelude.{◌≡◌, IfOk};
 ghost use Rattle.vpf_findings.specs.Findings.{disagreement_of};
 ghost use Rattle.vpf_prims.specs.Coverages.{CoverageTables};
 ghost use Rattle.vpf_numbers.specs.TableLines.{coverage_numbers};
-ghost use Rattle.vpf_loading.specs.Holding.{AreCoverageFiles, AreOfCoverage};
-ghost use Rattle.vpf_loading.specs.Loading.{within};
+ghost use Rattle.vpf_library_files.specs.Loading.Holding.{AreCoverageFiles, AreOfCoverage};
+ghost use Rattle.vpf_library_files.specs.Loading.Loading.{within};
 ghost use Rattle.vpf_cross.specs.CrossFinding.{topology_finding};
 ghost use Rattle.vpf_feature_files.specs.Held.{AreOfSchema, AreSchemaFiles};
 ghost use Rattle.vpf_feature_files.specs.Schemas.{Schema as SchemaOf};
@@ -24,8 +24,8 @@ use vpf_cross::{Checked, check_coverage};
 use vpf_feature_files::FeatureFiles;
 use vpf_features::{FeatureFault, Schema, check_themes, open_features};
 use vpf_findings::{FindError, Finding};
+use vpf_library_files::loading::within;
 use vpf_load_replies::named;
-use vpf_loading::within;
 use vpf_source::{File, Name};
 
 /// A coverage and its features, opened, in whose tables and thematic indexes nothing disagrees. Of the topology that isn't known.

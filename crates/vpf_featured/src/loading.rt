@@ -3,14 +3,14 @@
 ghost use Rattle.std.specs.Prelude.{◌≡◌, ◌≤◌, IfOk, IsErrOf, Some};
 ghost use Rattle.vpf_source.specs.Causes.{Rose, Stood};
 ghost use Rattle.vpf_source.specs.Files.{Files};
-ghost use Rattle.vpf_loading.specs.Loading.{most_loaded};
-ghost use Rattle.vpf_loading.specs.Loads.{ReadsAs};
+ghost use Rattle.vpf_library_files.specs.Loading.Loading.{most_loaded};
+ghost use Rattle.vpf_library_files.specs.Loading.Loads.{ReadsAs};
 ghost use Rattle.vpf_featured.specs.Reading.{read_featured};
 ghost use Rattle.vpf_featured.specs.Held.{AreFeaturedFiles, AreOfFeatured};
 
 use std::alloc::Global;
 use vpf_feature_files::{FeatureFiles, load_features};
-use vpf_loading::{LoadStop, load_coverage, within};
+use vpf_library_files::loading::{LoadStop, load_coverage, within};
 use vpf_source::{File, Tree};
 
 /// What is read: a coverage, and its features.

@@ -6,7 +6,7 @@ use Rattle.vpf_table.specs.Grid.{Grid}
 use Rattle.vpf_findings.specs.Findings.{Disagreement, disagreement_of}
 use Rattle.vpf_findings.specs.Firsts.{◌or◌}
 use Rattle.vpf_theme.specs.Findings.{cells_of, first_finding, of_column}
-use Rattle.vpf_loading.specs.Loading.{within}
+use Rattle.vpf_library_files.specs.Loading.Loading.{within}
 use Rattle.vpf_feature_files.specs.Schemas.{FeatureTable, Index}
 use Rattle.vpf_features.specs.Lines.{feature_finding}
 use Rattle.vpf_features.specs.declared.faults.FeatureFault.{FeatureFault}

@@ -15,7 +15,7 @@ use crate::schema::{FeatureView, IndexView, Schema};
 use crate::themes::named;
 use std::alloc::{AllocError, Global};
 use vpf_feature_files::{FeatureFiles, TableFiles};
-use vpf_loading::table_in;
+use vpf_library_files::loading::table_in;
 use vpf_source::File;
 use vpf_table::{TableFile, TableView};
 use vpf_theme::ThemeView;

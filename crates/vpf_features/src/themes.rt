@@ -2,7 +2,7 @@
 
 ghost use Rattle.std.specs.Prelude.{◌≡◌, IfOk, map};
 ghost use Rattle.std.specs.Option.{option_map};
-ghost use Rattle.vpf_loading.specs.Loading.{within};
+ghost use Rattle.vpf_library_files.specs.Loading.Loading.{within};
 ghost use Rattle.vpf_features.specs.declared.faults.FeatureFault.TheVariants as faults;
 ghost use Rattle.vpf_features.specs.Finding.{TellsNamed, index_finding, indexes_finding, themes_finding};
 ghost use Rattle.vpf_features.specs.Views.{index_seen, table_seen};
@@ -11,7 +11,7 @@ use crate::faults::FeatureFault;
 use crate::schema::{FeatureView, IndexView, Schema};
 use std::alloc::{AllocError, Global};
 use vpf_findings::{FindError, Finding};
-use vpf_loading::within;
+use vpf_library_files::loading::within;
 use vpf_source::Name;
 use vpf_table::TableView;
 use vpf_theme::agrees;

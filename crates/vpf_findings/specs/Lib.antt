@@ -10,3 +10,4 @@ pub use Rattle.vpf_value.specs.Faults
 pub use Rattle.vpf_value.specs.Reading
 pub use Rattle.vpf_value.specs.Spelling
 pub use Rattle.vpf_value.specs.Widths
+pub mod Text

@@ -2,9 +2,9 @@
 use Rattle.std.specs.Prelude.{ℕ, List, codes}
 use Rattle.std.specs.Fmt.{decimal, signed_decimal}
 use Rattle.vpf_triplet.specs.Kinds.{kind_text, count_text}
-use Rattle.vpf_text.specs.Texts.{◌&◌}
-use Rattle.vpf_text.specs.Bytes.{printed}
-use Rattle.vpf_text.specs.Cells.{cell_text}
+use Rattle.vpf_findings.specs.Text.Texts.{◌&◌}
+use Rattle.vpf_findings.specs.Text.Bytes.{printed}
+use Rattle.vpf_findings.specs.Text.Cells.{cell_text}
 use Rattle.vpf_darts.specs.Darts.{tile_dart_text}
 use Rattle.vpf_findings.specs.declared.finding.SeenWord.{SeenWord}
 use Rattle.vpf_findings.specs.declared.finding.SeenWord.TheVariants as words

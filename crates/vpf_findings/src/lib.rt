@@ -6,6 +6,7 @@ mod finding;
 mod own;
 mod places;
 mod printing;
+pub mod text;
 
 pub use errors::FindError;
 pub use finding::{ColumnAt, Finding, Seen, SeenWord, TableName};

@@ -5,9 +5,9 @@ ghost use Rattle.vpf_findings.specs.Findings.{disagreement_of};
 ghost use Rattle.vpf_findings.specs.Printing.{disagree_text, where_text};
 
 use crate::finding::{ColumnAt, Finding, Seen, SeenWord};
+use crate::text::{CellText, Printed};
 use std::alloc::AllocError;
 use std::fmt;
-use vpf_text::{CellText, Printed};
 
 impl fmt::Display for SeenWord {
     ghost use Rattle.std.specs.Prelude.{Some};
@@ -37,7 +37,7 @@ impl fmt::Display for SeenWord {
 /// The name with its plain bytes as themselves, and each other byte as a backslash and its two digits of base 16.
 impl fmt::Display for ColumnAt<'_> {
     ghost use Rattle.std.specs.Prelude.{Some};
-    ghost use Rattle.vpf_text.specs.Bytes.{printed};
+    ghost use Rattle.vpf_findings.specs.Text.Bytes.{printed};
     ghost use Rattle.vpf_findings.specs.Findings.{column_name};
 
     ghost output = { λ c. Some (printed (column_name c)) };

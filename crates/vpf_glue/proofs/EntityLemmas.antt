@@ -10,7 +10,7 @@ use Rattle.vpf_head.specs.Head.{Col}
 use Rattle.vpf_head.specs.Soundness.{IsSound}
 use Rattle.vpf_table.specs.Grid.{Grid, Row}
 use Rattle.vpf_write.specs.Tallies.{Tally, Holds}
-use Rattle.vpf_revise.specs.Revising.{revised}
+use Rattle.vpf_write.specs.Revise.Revising.{revised}
 use Rattle.vpf_prims.specs.Coverages.{CoverageTables, last_tile, tile_at}
 use Rattle.vpf_prims.specs.Libraries.{library_of, primitives_in}
 use Rattle.vpf_prims.specs.Lists.{kth}
@@ -22,7 +22,7 @@ use Rattle.vpf_prims.specs.Tables.{TileTables, table_named}
 use Rattle.vpf_tiling.specs.Ranks.{numbered, numbered_from}
 use Rattle.vpf_renumbering.specs.TilingLawsWhole.{WholeEntity, face_here, tiles_in, whole_entities}
 use Rattle.vpf_renumbering.specs.Glued.{face_number}
-use Rattle.vpf_table_forms.specs.Forms.{pair_values}
+use Rattle.vpf_primitive_tables.specs.TableForms.Forms.{pair_values}
 use Rattle.vpf_renumbering.specs.GluedFaces.Faces.{entity_face}
 use Rattle.vpf_glue.specs.GluedTables.Grids.{EntitySource, entity_source, entity_sources, glued_entity_row, sources_in_table, whole_in}
 use Rattle.vpf_glue.specs.GluedTables.Laws.{AreOfTiles}

@@ -4,7 +4,7 @@ use Rattle.std.specs.Option.{option_map}
 use Rattle.vpf_triplet.specs.declared.kinds.Kind.TheVariants.{I}
 use Rattle.vpf_prims.specs.Coverages.{CoverageTables}
 use Rattle.vpf_prims.specs.Reading.{PrimitiveTables}
-use Rattle.vpf_table_forms.specs.Models.{PairsLike}
+use Rattle.vpf_primitive_tables.specs.TableForms.Models.{PairsLike}
 use Rattle.vpf_glue.specs.declared.glued_tables.forms.GluedForms.{GluedForms}
 use Rattle.vpf_glue.specs.GluedTables.Grids.{glued_edge_grid, glued_entity_grid, glued_face_grid, glued_node_grid, glued_ring_grid}
 use Rattle.vpf_glue.specs.Sources.{IsOfTile}

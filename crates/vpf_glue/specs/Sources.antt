@@ -15,9 +15,9 @@ use Rattle.vpf_prims.specs.Primitives.{Library, face_count, has_tables}
 use Rattle.vpf_prims.specs.Reading.{PrimitiveTables}
 use Rattle.vpf_prims.specs.Tables.{TileTables, table_named}
 use Rattle.vpf_numbers.specs.Matching.{HaveColumns}
-use Rattle.vpf_revise.specs.Revising.{FitsElsewhere, with_kinds}
+use Rattle.vpf_write.specs.Revise.Revising.{FitsElsewhere, with_kinds}
 use Rattle.vpf_wing.specs.Links.{Beyond}
-use Rattle.vpf_table_forms.specs.Forms.{EdgeValues, edge_kinds_of, edge_values_of, pair_kinds, pair_values}
+use Rattle.vpf_primitive_tables.specs.TableForms.Forms.{EdgeValues, edge_kinds_of, edge_values_of, pair_kinds, pair_values}
 use Rattle.vpf_glue.specs.GluedTables.Grids.{EntitySource, sources_in_table}
 
 -- the tiles of a coverage are those of a library, all tables have their columns, and rows are numbered

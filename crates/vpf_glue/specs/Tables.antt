@@ -6,7 +6,7 @@ use Rattle.vpf_prims.specs.Coverages.{CoverageTables}
 use Rattle.vpf_prims.specs.Reading.{PrimitiveTables}
 use Rattle.vpf_table_files.specs.declared.errors.AddError.{AddError}
 use Rattle.vpf_table_files.specs.Adding.{NamedTable, made_of_tables, table_within}
-use Rattle.vpf_tile_tables.specs.Grids.{tiles_made}
+use Rattle.vpf_primitive_tables.specs.TileTables.Grids.{tiles_made}
 use Rattle.vpf_glue.specs.GluedTables.Grids.{first_tables, glued_tables, plan_grid}
 
 -- the table of tiles of the library

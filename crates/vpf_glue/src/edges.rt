@@ -10,7 +10,7 @@ ghost use Rattle.vpf_prims.specs.Libraries.{library_of};
 ghost use Rattle.vpf_wing.specs.Links.{links_of};
 ghost use Rattle.vpf_follow.specs.Following.{is_home};
 ghost use Rattle.vpf_renumbering.specs.Glued.{face_number, glued_edge};
-ghost use Rattle.vpf_table_forms.specs.Forms.{edge_kinds_of, head_like};
+ghost use Rattle.vpf_primitive_tables.specs.TableForms.Forms.{edge_kinds_of, head_like};
 ghost use Rattle.vpf_glue.specs.GluedTables.Grids.{glued_edge_grid, glued_edge_row, row_in, whole_in};
 ghost use Rattle.vpf_glue.specs.GluedTables.Numbers.{AreSmall, numbers_of};
 ghost use Rattle.vpf_glue.specs.Sources.{FitsEdges, IsFaceThere, IsOfTile};
@@ -22,11 +22,11 @@ use std::alloc::{AllocError, Global};
 use vpf_cross::Checked;
 use vpf_darts::TileDart;
 use vpf_findings::TableName;
+use vpf_primitive_tables::table_forms::EdgeForm;
 use vpf_renumbering::glued_edges::{GluedEdges, TileFace};
 use vpf_renumbering::glued_faces::GluedFaces;
-use vpf_revise::RevisedTable;
 use vpf_table::RowView;
-use vpf_table_forms::EdgeForm;
+use vpf_write::revise::RevisedTable;
 use vpf_write::{WriteError, Written};
 
 /// The universe, in each tile and in the glued coverage.

@@ -8,7 +8,7 @@ ghost use Rattle.vpf_table.specs.Grid.{Row};
 ghost use Rattle.vpf_write.specs.Tallies.{Holds};
 ghost use Rattle.vpf_write.specs.Writing.{Writes};
 ghost use Rattle.vpf_tiling.specs.Ranks.{numbered, numbered_from};
-ghost use Rattle.vpf_table_forms.specs.Forms.{head_like, pair_kinds};
+ghost use Rattle.vpf_primitive_tables.specs.TableForms.Forms.{head_like, pair_kinds};
 ghost use Rattle.vpf_glue.specs.GluedTables.Grids.{entity_source, entity_sources, glued_entity_grid, glued_entity_row};
 ghost use Rattle.vpf_glue.specs.Forms.{IsEndForm};
 ghost use Rattle.vpf_glue.specs.Sources.{sources_of, table_in};
@@ -16,10 +16,10 @@ ghost use Rattle.vpf_glue.specs.Sources.{sources_of, table_in};
 use crate::glued_tables::laws::rows_of_tiles_fit;
 use crate::sources::{end_of, is_right};
 use std::alloc::{AllocError, Global};
+use vpf_primitive_tables::table_forms::{PairForm, row_of};
 use vpf_renumbering::glued_faces::GluedFaces;
-use vpf_revise::RevisedTable;
 use vpf_table::TableView;
-use vpf_table_forms::{PairForm, row_of};
+use vpf_write::revise::RevisedTable;
 use vpf_write::{WriteError, Written};
 
 /// Appends the rows of a tile's table of entity nodes behind so many others.

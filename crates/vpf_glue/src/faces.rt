@@ -12,9 +12,9 @@ use crate::glued_tables::laws::rows_of_tiles_fit;
 use crate::sources::{is_right, row_in_tile};
 use std::alloc::Global;
 use vpf_findings::TableName;
+use vpf_primitive_tables::table_forms::{PairForm, row_of};
 use vpf_renumbering::glued_faces::GluedFaces;
 use vpf_table::{RowView, TableView};
-use vpf_table_forms::{PairForm, row_of};
 use vpf_write::{WriteError, Written};
 
 /// The row of the universe, in a tile's table.

@@ -8,9 +8,9 @@ ghost use Rattle.vpf_prims.specs.Coverages.{tile_at};
 ghost use Rattle.vpf_prims.specs.Libraries.{library_of};
 ghost use Rattle.vpf_prims.specs.Tables.{table_named};
 ghost use Rattle.vpf_write.specs.Writing.{Writes};
-ghost use Rattle.vpf_tileref.specs.Tileref.{IsTileref};
+ghost use Rattle.vpf_library_files.specs.Tileref.Tileref.{IsTileref};
 ghost use Rattle.vpf_cross.specs.CarriedLines.{first_tile};
-ghost use Rattle.vpf_table_forms.specs.Models.{PairsLike};
+ghost use Rattle.vpf_primitive_tables.specs.TableForms.Models.{PairsLike};
 ghost use Rattle.vpf_table_files.specs.Adding.{Adds, error_seen};
 ghost use Rattle.vpf_glue.specs.GluedTables.Grids.{glued_entity_grid, glued_tables, plan_grid};
 ghost use Rattle.vpf_glue.specs.Forms.{AreForms, IsEndForm, tables_by};
@@ -28,14 +28,14 @@ use std::alloc::{AllocError, Global};
 use vpf_base::limits::MOST_ROWS;
 use vpf_cross::Checked;
 use vpf_findings::TableName;
+use vpf_primitive_tables::table_forms::PairForm;
+use vpf_primitive_tables::tile_tables::write_tiles;
 use vpf_prims::Tile;
 use vpf_renumbering::glued_edges::{GluedEdges, edge_count};
 use vpf_renumbering::glued_faces::{GluedFaces, entity_count};
 use vpf_source::File;
 use vpf_table::TableView;
 use vpf_table_files::{AddError, add_table};
-use vpf_table_forms::PairForm;
-use vpf_tile_tables::write_tiles;
 use vpf_write::{WriteError, Written};
 
 /// What is so of each table of a tile: its header is sound.

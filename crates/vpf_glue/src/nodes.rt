@@ -19,10 +19,10 @@ use vpf_coverage::Coverage;
 use vpf_cross::Checked;
 use vpf_darts::TileDart;
 use vpf_findings::TableName;
+use vpf_primitive_tables::table_forms::PairForm;
 use vpf_prims::{EdgeRow, id_of};
 use vpf_renumbering::glued_edges::GluedEdges;
 use vpf_table::RowView;
-use vpf_table_forms::PairForm;
 use vpf_write::{WriteError, Written};
 
 /// The number in its tile of the node where the `+` or `-` dart of a row begins.

@@ -9,9 +9,9 @@ ghost use Rattle.vpf_glue.specs.GluedTables.Grids.{glued_ring_grid, whole_in};
 
 use crate::sources::are_few;
 use std::alloc::Global;
+use vpf_primitive_tables::table_forms::RingForm;
 use vpf_renumbering::glued_edges::GluedEdges;
 use vpf_renumbering::glued_faces::GluedRing;
-use vpf_table_forms::RingForm;
 use vpf_write::{WriteError, Written};
 
 /// The table of rings, which are given in their order.

@@ -17,10 +17,10 @@ use vpf_coverage::Coverage;
 use vpf_cross::{Checked, first_tile};
 use vpf_findings::TableName;
 use vpf_numbers::laws::numbers_decide;
+use vpf_primitive_tables::table_forms::row_of;
 use vpf_prims::Tile;
 use vpf_renumbering::glued_edges::GluedEdges;
 use vpf_table::{RowView, TableView};
-use vpf_table_forms::row_of;
 
 /// What is so of each checked coverage: the tables of its tiles have the same columns, and their rows are numbered and name what is there.
 pub(crate) fn is_right(checked: &Checked<'_, '_>)

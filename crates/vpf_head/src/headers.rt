@@ -7,8 +7,8 @@ ghost use Rattle.vpf_base.specs.Limits.{longest_text};
 ghost use Rattle.vpf_triplet.specs.Places.{Gives, Answers};
 ghost use Rattle.vpf_head.specs.Canonical.{canonical_header, canonical_text};
 ghost use Rattle.vpf_head.specs.Head.{is_data, is_triplet, is_star, with_kind};
-ghost use Rattle.vpf_head.specs.Making.{new_of};
-ghost use Rattle.vpf_head.specs.Reading.{end_at, after_mark, order_of, head_at, header_of};
+ghost use Rattle.vpf_head.specs.Making.{new_of, read_as_given};
+ghost use Rattle.vpf_head.specs.Reading.{end_at, close_at, after_mark, order_of, head_at, header_of};
 ghost use Rattle.vpf_head.specs.Texts.{is_blank};
 ghost use Rattle.vpf_head.specs.Views.{col, head_given, AreNamed};
 
@@ -114,8 +114,21 @@ fn order_of(bytes: &[u8]) -> Order
     }
 }
 
+/// The end of the text after these columns, whose `;` stands here.
+#[tactic(auto, using(crate::proofs::Entries::any_data))]
+fn close_at(columns: &Columns<'_>, text: &[u8], at: usize) -> Result<usize, Place>
+    requires { at < length text.now }
+    ensures exact { Gives (λ r. r) result (close_at (map col (values columns.now)) text.now at) }
+    ensures inside { IfOk result (λ r. r ≤ length text.now) }
+{
+    if !holds_data(columns) {
+        return Err(Place::in_table(at, Code::NoData));
+    }
+    end_at(text, at + 1)
+}
+
 /// The header whose text begins after the length number and ends with the bytes.
-#[tactic(auto, using(crate::proofs::Entries::any_data), unfolding(crate::specs::Reading::head_at))]
+#[tactic(auto, unfolding(crate::specs::Reading::head_at))]
 fn head_at<'a>(
     alloc: Global,
     order: Order,
@@ -129,10 +142,7 @@ fn head_at<'a>(
     let description = text_at(Form::Heading, text, after_mark(text))?;
     let narrative = name_at(Form::Heading, text, description.past)?;
     let (columns, at) = columns_at(alloc, text, narrative.past)?;
-    if !holds_data(&columns) {
-        return Err(Place::in_table(at, Code::NoData).into());
-    }
-    let end = end_at(text, at + 1)?;
+    let end = close_at(&columns, text, at)?;
     let header = Header {
         order,
         description: description.text,
@@ -183,13 +193,12 @@ fn varies(columns: &Columns<'_>) -> bool
         .any(|column| is_triplet(column.kind) || is_star(column.count))
 }
 
-/// Refuses parts whose canonical text is refused, or read as other parts.
-#[tactic(auto, unfolding(crate::specs::Making::new_of, crate::specs::Making::read_as_given))]
-fn check_parts(alloc: Global, parts: &Parts<'_, '_>) -> Result<(), PlaceError>
-    ensures { Answers (λ _. head_given parts.now) result (new_of (head_given parts.now)) }
+/// Refuses parts that were read as others.
+#[tactic(auto, unfolding(crate::specs::Making::read_as_given))]
+fn check_read(parts: &Parts<'_, '_>, read: &Header<'_>) -> Result<(), PlaceError>
+    requires { length (canonical_text (head_given parts.now)) ≤ longest_text }
+    ensures { Answers (λ _. head_given parts.now) result (read_as_given (head_given parts.now) read.now) }
 {
-    let file = file_of(alloc, parts)?;
-    let (read, _) = header_at(alloc, &file)?;
     let narrative = next_after_text(
         NUMBER_BYTES + MARK_BYTES,
         parts.description,
@@ -200,17 +209,35 @@ fn check_parts(alloc: Global, parts: &Parts<'_, '_>) -> Result<(), PlaceError>
     Ok(())
 }
 
-/// Appends the length number and the canonical text; after an error some of it may stand behind what stood there.
+/// Refuses parts whose canonical text is refused, or read as other parts.
+#[tactic(auto, unfolding(crate::specs::Making::new_of))]
+fn check_parts(alloc: Global, parts: &Parts<'_, '_>) -> Result<(), PlaceError>
+    ensures { Answers (λ _. head_given parts.now) result (new_of (head_given parts.now)) }
+{
+    let file = file_of(alloc, parts)?;
+    let (read, _) = header_at(alloc, &file)?;
+    check_read(parts, &read)
+}
+
+/// Appends the canonical text; after an error some of it may stand behind what stood there.
 #[tactic(auto, unfolding(crate::specs::Canonical::canonical_text))]
+fn put_text(header: &Header<'_>, out: &mut Vec<u8>) -> Result<(), AllocError>
+    ensures ok { OnOk result (out.new.items ≡ out.old.items ++ canonical_text header.now) }
+    ensures kept { take (vec_len out.old) out.new.items ≡ out.old.items }
+{
+    put_start(header.order, header.description, header.narrative, out)?;
+    put_columns(&header.columns, out)?;
+    put_item(b"", b";", out)
+}
+
+/// Appends the length number and the canonical text; after an error some of it may stand behind what stood there.
 fn put_header(header: &Header<'_>, out: &mut Vec<u8>) -> Result<(), AllocError>
     requires { length (canonical_text header.now) ≤ longest_text }
     ensures ok { OnOk result (out.new.items ≡ out.old.items ++ canonical_header header.now) }
     ensures kept { take (vec_len out.old) out.new.items ≡ out.old.items }
 {
     header.order.put_u32(header.text_len() as u32, out)?;
-    put_start(header.order, header.description, header.narrative, out)?;
-    put_columns(&header.columns, out)?;
-    put_item(b"", b";", out)
+    put_text(header, out)
 }
 
 fn set_kind(columns: &mut Columns<'_>, c: usize, kind: Kind)

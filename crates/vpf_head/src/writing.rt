@@ -6,7 +6,7 @@ ghost use Rattle.std.specs.Option.{option_copied};
 ghost use Rattle.indexmap.specs.IndexMap.{values, index_map_len};
 ghost use Rattle.vpf_base.specs.Limits.{most_columns};
 ghost use Rattle.vpf_triplet.specs.Kinds.{kind_text, count_text};
-ghost use Rattle.vpf_head.specs.Bytes.{semicolon, comma};
+ghost use Rattle.vpf_head.specs.Bytes.{semicolon, comma, colon};
 ghost use Rattle.vpf_head.specs.Canonical.{name_text, column_text, columns_text};
 ghost use Rattle.vpf_head.specs.Fields.{key_text};
 ghost use Rattle.vpf_head.specs.Soundness.{IsSpelled};
@@ -72,6 +72,18 @@ fn put_key(key: Key, out: &mut Vec<u8>) -> Result<(), AllocError>
     }
 }
 
+/// Appends the description of a column and its names that may be absent.
+fn put_names(column: &Column<'_>, out: &mut Vec<u8>) -> Result<(), AllocError>
+    ensures ok { OnOk result (out.new.items ≡ out.old.items ++ (column.now.description.now ++ comma ∷ (name_text (option_copied column.now.values)
+        ++ comma ∷ (name_text (option_copied column.now.theme) ++ comma ∷ (name_text (option_copied column.now.narrative) ++ comma ∷ colon ∷ []))))) }
+    ensures kept { take (vec_len out.old) out.new.items ≡ out.old.items }
+{
+    put_item(column.description, b",", out)?;
+    put_name(column.values, b",", out)?;
+    put_name(column.theme, b",", out)?;
+    put_name(column.narrative, b",:", out)
+}
+
 /// Appends the definition of a column.
 #[tactic(auto, unfolding(crate::specs::Canonical::column_text))]
 fn put_column(column: &Column<'_>, out: &mut Vec<u8>) -> Result<(), AllocError>
@@ -82,11 +94,7 @@ fn put_column(column: &Column<'_>, out: &mut Vec<u8>) -> Result<(), AllocError>
     put_item(kind_item(column.kind), b",", out)?;
     put_count(column.count, out)?;
     put_key(column.key, out)?;
-    put_item(column.description, b",", out)?;
-    put_name(column.values, b",", out)?;
-    put_name(column.theme, b",", out)?;
-    put_name(column.narrative, b",:", out)?;
-    Ok(())
+    put_names(column, out)
 }
 
 /// Appends the definitions of these columns.

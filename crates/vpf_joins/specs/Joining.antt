@@ -5,7 +5,7 @@ use Rattle.std.specs.List.{flat_map, list_any, range_with_len}
 use Rattle.std.specs.Option.{option_and_then}
 use Rattle.vpf_value.specs.Values.{Value}
 use Rattle.vpf_head.specs.Head.{Col, place_of}
-use Rattle.vpf_names.specs.Items.{trimmed}
+use Rattle.vpf_source.specs.Names.Items.{trimmed}
 use Rattle.vpf_table.specs.Grid.{Row, Grid}
 use Rattle.vpf_findings.specs.declared.finding.TableName.{TableName}
 use Rattle.vpf_theme.specs.Findings.{cells_of}

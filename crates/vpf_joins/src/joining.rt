@@ -16,8 +16,8 @@ use vpf_coverage::Coverage;
 use vpf_findings::TableName;
 use vpf_head::Header;
 use vpf_keys::KeyIndex;
-use vpf_names::trimmed;
 use vpf_schema::SchemaRow;
+use vpf_source::names::trimmed;
 use vpf_table::RowView;
 use vpf_value::Cell;
 

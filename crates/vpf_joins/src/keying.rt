@@ -8,7 +8,7 @@ use std::alloc::{AllocError, Global};
 use vpf_coverage::Coverage;
 use vpf_findings::TableName;
 use vpf_keys::{KeyedRow, put_keys};
-use vpf_names::trimmed;
+use vpf_source::names::trimmed;
 use vpf_table::TableView;
 
 /// Puts the cells of the column that `key` names behind the keys that are there. A table without the column has none.

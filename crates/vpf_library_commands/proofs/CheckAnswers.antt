@@ -3,16 +3,16 @@ use Rattle.std.proofs.Common.{◌≡◌, ℕ, Option, None, List, refl, sym, ap,
 use Rattle.std.specs.Prelude.{Result, Ok, Err}
 use Rattle.vpf_source.specs.declared.file.File.{File}
 use Rattle.vpf_prims.specs.Coverages.{CoverageTables}
-use Rattle.vpf_loading.specs.Loading.{Read}
-use Rattle.vpf_loading.specs.declared.loading.LoadStop.{LoadStop}
-use Rattle.vpf_loading.specs.declared.loading.LoadStop.TheVariants as stops
+use Rattle.vpf_library_files.specs.Loading.Loading.{Read}
+use Rattle.vpf_library_files.specs.declared.loading.loading.LoadStop.{LoadStop}
+use Rattle.vpf_library_files.specs.declared.loading.loading.LoadStop.TheVariants as stops
 use Rattle.vpf_cross.specs.CrossFinding.{topology_finding}
 use Rattle.vpf_replies.specs.declared.halting.Halt.{Halt}
 use Rattle.vpf_replies.specs.declared.halting.Halt.TheVariants as halts
 use Rattle.vpf_replies.specs.Answer.{Answer, done}
 use Rattle.vpf_replies.specs.Halting.{ComesTo}
 use Rattle.vpf_load_replies.specs.Stopping.{IsStopAnswer, stop_answer}
-use Rattle.vpf_loading.specs.Loads.{ReadsStop}
+use Rattle.vpf_library_files.specs.Loading.Loads.{ReadsStop}
 use Rattle.vpf_features.specs.Finding.{Named}
 use Rattle.vpf_featured.specs.Finding.{featured_finding, placed_finding, tables_or_features_finding}
 use Rattle.vpf_featured.specs.Reading.{FeaturedCoverage}

@@ -13,11 +13,11 @@ use Rattle.vpf_prims.specs.Libraries.{library_of}
 use Rattle.vpf_numbers.specs.Laws.{CoverageNumbersDecide}
 use Rattle.vpf_numbers.specs.Matching.{HaveColumns}
 use Rattle.vpf_numbers.specs.TableLines.{coverage_numbers}
-use Rattle.vpf_loading.specs.Holding.{AreCoverageFiles, HoldsBytes, bytes_in}
-use Rattle.vpf_loading.specs.Laws.{FilesAreLibraries, FilesAreWhole, HeldIsRead, ReadIsHeld}
-use Rattle.vpf_loading.specs.Loading.{Read, read_coverage, within}
-use Rattle.vpf_loading.specs.declared.loading.LoadStop.{LoadStop}
-use Rattle.vpf_loading.specs.declared.loading.LoadStop.TheVariants as stops
+use Rattle.vpf_library_files.specs.Loading.Holding.{AreCoverageFiles, HoldsBytes, bytes_in}
+use Rattle.vpf_library_files.specs.Loading.Laws.{FilesAreLibraries, FilesAreWhole, HeldIsRead, ReadIsHeld}
+use Rattle.vpf_library_files.specs.Loading.Loading.{Read, read_coverage, within}
+use Rattle.vpf_library_files.specs.declared.loading.loading.LoadStop.{LoadStop}
+use Rattle.vpf_library_files.specs.declared.loading.loading.LoadStop.TheVariants as stops
 use Rattle.vpf_cross.specs.Agreeing.{LibraryAgrees}
 use Rattle.vpf_cross.specs.CrossFinding.{topology_finding}
 use Rattle.vpf_cross.specs.Laws.{AgreementDecides, LikeAreWhole}

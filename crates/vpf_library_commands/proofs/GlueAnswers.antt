@@ -8,11 +8,11 @@ use Rattle.vpf_table.specs.Opening.{opened_of}
 use Rattle.vpf_table.specs.Reading.{table_of}
 use Rattle.vpf_table.specs.Spans.{IsOpened}
 use Rattle.vpf_prims.specs.Coverages.{CoverageTables}
-use Rattle.vpf_tileref.specs.Stops.{path_texts}
-use Rattle.vpf_loading.specs.Holding.{AreCoverageFiles, AreFilesOf, AreTiledFiles, AreTilesFiles}
-use Rattle.vpf_loading.specs.Loading.{LoadedCoverage, Read, ◌and_then◌, has_some, read_coverage}
-use Rattle.vpf_loading.specs.Loading.{read_tiled, read_tileref, read_tiles, tileref_name, within}
-use Rattle.vpf_loading.specs.declared.loading.LoadStop.{LoadStop}
+use Rattle.vpf_library_files.specs.Tileref.Stops.{path_texts}
+use Rattle.vpf_library_files.specs.Loading.Holding.{AreCoverageFiles, AreFilesOf, AreTiledFiles, AreTilesFiles}
+use Rattle.vpf_library_files.specs.Loading.Loading.{LoadedCoverage, Read, ◌and_then◌, has_some, read_coverage}
+use Rattle.vpf_library_files.specs.Loading.Loading.{read_tiled, read_tileref, read_tiles, tileref_name, within}
+use Rattle.vpf_library_files.specs.declared.loading.loading.LoadStop.{LoadStop}
 use Rattle.vpf_glue.specs.Tables.{glued_made}
 use Rattle.vpf_replies.specs.Answer.{Answer}
 use Rattle.vpf_features.specs.Finding.{Named}

@@ -4,7 +4,7 @@ use Rattle.std.specs.Prelude.{IfOk, OnOk, Result, Ok, Err}
 use Rattle.vpf_source.specs.declared.file.File.{File}
 use Rattle.vpf_table.specs.Grid.{Grid}
 use Rattle.vpf_table.specs.declared.limit.Limit.{Limit as Passed}
-use Rattle.vpf_tileable.specs.declared.refusals.Refusal.{Refusal}
+use Rattle.vpf_tiling.specs.declared.tileable.refusals.Refusal.{Refusal}
 use Rattle.vpf_table_files.specs.declared.errors.AddError.TheVariants as adds
 use Rattle.vpf_feature_files.specs.Schemas.{Schema, joins_of}
 use Rattle.vpf_features.specs.Finding.{Named}
@@ -15,15 +15,15 @@ use Rattle.vpf_findings.specs.Printing.{disagree_text}
 use Rattle.vpf_prims.specs.Coverages.{CoverageTables, tile_at}
 use Rattle.vpf_prims.specs.Reading.{PrimitiveTables}
 use Rattle.vpf_prims.specs.Tables.{TileTables}
-use Rattle.vpf_text.specs.Texts.{◌&◌}
-use Rattle.vpf_loading.specs.Holding.{AreUntiledFiles}
+use Rattle.vpf_findings.specs.Text.Texts.{◌&◌}
+use Rattle.vpf_library_files.specs.Loading.Holding.{AreUntiledFiles}
 use Rattle.vpf_tiler.specs.declared.errors.TileError.{TileError}
 use Rattle.vpf_tiler.specs.declared.errors.TileError.TheVariants as errors
 use Rattle.vpf_tiler.specs.Making.{tiled}
-use Rattle.vpf_loading.specs.Loading.{Read}
-use Rattle.vpf_loading.specs.Loads.{ReadsStop}
-use Rattle.vpf_loading.specs.declared.loading.LoadStop.{LoadStop}
-use Rattle.vpf_loading.specs.declared.loading.LoadStop.TheVariants as stops
+use Rattle.vpf_library_files.specs.Loading.Loading.{Read}
+use Rattle.vpf_library_files.specs.Loading.Loads.{ReadsStop}
+use Rattle.vpf_library_files.specs.declared.loading.loading.LoadStop.{LoadStop}
+use Rattle.vpf_library_files.specs.declared.loading.loading.LoadStop.TheVariants as stops
 use Rattle.vpf_replies.specs.declared.halting.Halt.{Halt}
 use Rattle.vpf_replies.specs.declared.halting.Halt.TheVariants as halts
 use Rattle.vpf_replies.specs.Answer.{Answer, refused}

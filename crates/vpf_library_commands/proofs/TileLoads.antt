@@ -4,13 +4,13 @@ use Rattle.std.specs.Prelude.{IsErrOf}
 use Rattle.vpf_base.specs.Results.{Told}
 use Rattle.vpf_source.specs.Files.{Files}
 use Rattle.vpf_source.specs.declared.file.File.{File}
-use Rattle.vpf_loading.specs.declared.loading.LoadStop.{LoadStop}
-use Rattle.vpf_loading.specs.declared.loading.LoadStop.TheVariants as stops
-use Rattle.vpf_loading.specs.Holding.{AreUntiledFiles}
-use Rattle.vpf_loading.specs.Loading.{CountsAs, LoadedCoverage, LoadedTable, Read, ◌and_then◌, loaded_read, read_tileref, stop_seen, tileref_name, within}
-use Rattle.vpf_loading.specs.Loads.{LoadsTileref, ReadsStop, ReadsValue}
-use Rattle.vpf_plan.specs.PlanLoads.{AreOfPlan, ArePlanFiles, read_plan}
-use Rattle.vpf_plan.specs.Untiled.{AreOfUntiled, read_untiled}
+use Rattle.vpf_library_files.specs.declared.loading.loading.LoadStop.{LoadStop}
+use Rattle.vpf_library_files.specs.declared.loading.loading.LoadStop.TheVariants as stops
+use Rattle.vpf_library_files.specs.Loading.Holding.{AreUntiledFiles}
+use Rattle.vpf_library_files.specs.Loading.Loading.{CountsAs, LoadedCoverage, LoadedTable, Read, ◌and_then◌, loaded_read, read_tileref, stop_seen, tileref_name, within}
+use Rattle.vpf_library_files.specs.Loading.Loads.{LoadsTileref, ReadsStop, ReadsValue}
+use Rattle.vpf_tiling.specs.Plan.PlanLoads.{AreOfPlan, ArePlanFiles, read_plan}
+use Rattle.vpf_tiling.specs.Plan.Untiled.{AreOfUntiled, read_untiled}
 use Rattle.vpf_feature_files.specs.Held.{AreOfSchema, AreSchemaFiles}
 use Rattle.vpf_feature_files.specs.Reading.{read_schema}
 use Rattle.vpf_feature_files.specs.Schemas.{Schema}

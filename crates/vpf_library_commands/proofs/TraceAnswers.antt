@@ -7,12 +7,12 @@ use Rattle.vpf_darts.specs.Listings.{numbers_of}
 use Rattle.vpf_darts.specs.Darts.{tile_dart_code, tile_dart_text}
 use Rattle.vpf_findings.specs.Printing.{disagree_text}
 use Rattle.vpf_wing.specs.DartLaws.{code-minus}
-use Rattle.vpf_text.specs.Texts.{◌&◌}
+use Rattle.vpf_findings.specs.Text.Texts.{◌&◌}
 use Rattle.vpf_cross.specs.Agreeing.{LibraryAgrees}
 use Rattle.vpf_prims.specs.Coverages.{CoverageTables}
 use Rattle.vpf_prims.specs.Libraries.{library_of}
-use Rattle.vpf_loading.specs.Loading.{Read}
-use Rattle.vpf_loading.specs.declared.loading.LoadStop.{LoadStop}
+use Rattle.vpf_library_files.specs.Loading.Loading.{Read}
+use Rattle.vpf_library_files.specs.declared.loading.loading.LoadStop.{LoadStop}
 use Rattle.vpf_trace.specs.Laws.{LibraryHasTrace, OneTrace}
 use Rattle.vpf_trace.specs.Tracing.{IsTrace}
 use Rattle.vpf_replies.specs.Answer.{Answer, done, refused}

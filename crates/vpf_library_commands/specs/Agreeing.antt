@@ -3,8 +3,8 @@ use Rattle.std.specs.Prelude.{◌≡◌, ◌↔◌, ℕ, List, None, Ok}
 use Rattle.vpf_source.specs.Files.{Files}
 use Rattle.vpf_prims.specs.Libraries.{library_of}
 use Rattle.vpf_numbers.specs.Matching.{HaveColumns}
-use Rattle.vpf_loading.specs.Loading.{LoadedCoverage, read_coverage, within}
-use Rattle.vpf_loading.specs.Holding.{HoldsBytes, HoldsCoverage, bytes_in}
+use Rattle.vpf_library_files.specs.Loading.Loading.{LoadedCoverage, read_coverage, within}
+use Rattle.vpf_library_files.specs.Loading.Holding.{HoldsBytes, HoldsCoverage, bytes_in}
 use Rattle.vpf_feature_files.specs.Reading.{read_schema}
 use Rattle.vpf_feature_agreement.specs.Agreeing.{FeaturesAgree}
 use Rattle.vpf_featured.specs.Reading.{FeaturedCoverage, read_featured}

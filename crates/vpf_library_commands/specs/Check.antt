@@ -2,15 +2,15 @@
 use Rattle.std.specs.Prelude.{ℕ, List, [], ◌∷◌, Option, None, Some, Result, Ok, Err, codes, if◌then◌else◌}
 use Rattle.std.specs.Fmt.{decimal}
 use Rattle.vpf_source.specs.Files.{Files}
-use Rattle.vpf_names.specs.Naming.{coverage_name, file_name}
+use Rattle.vpf_source.specs.Names.Naming.{coverage_name, file_name}
 use Rattle.vpf_findings.specs.Findings.{Disagreement}
 use Rattle.vpf_findings.specs.Firsts.{◌or◌}
 use Rattle.vpf_findings.specs.Printing.{disagree_text}
-use Rattle.vpf_text.specs.Texts.{◌&◌}
+use Rattle.vpf_findings.specs.Text.Texts.{◌&◌}
 use Rattle.vpf_prims.specs.Coverages.{CoverageTables, last_tile}
 use Rattle.vpf_numbers.specs.TableLines.{coverage_numbers}
-use Rattle.vpf_loading.specs.Loading.{within}
-use Rattle.vpf_loading.specs.declared.loading.LoadStop.{LoadStop}
+use Rattle.vpf_library_files.specs.Loading.Loading.{within}
+use Rattle.vpf_library_files.specs.declared.loading.loading.LoadStop.{LoadStop}
 use Rattle.vpf_cross.specs.CrossFinding.{topology_finding}
 use Rattle.vpf_replies.specs.Answer.{Answer, done, refused}
 use Rattle.vpf_load_replies.specs.Stopping.{stop_answer}

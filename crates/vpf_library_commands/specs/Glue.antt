@@ -6,8 +6,8 @@ use Rattle.vpf_triplet.specs.declared.places.Place.{Place}
 use Rattle.vpf_findings.specs.Printing.{disagree_text}
 use Rattle.vpf_table.specs.Grid.{Grid}
 use Rattle.vpf_table.specs.Reading.{table_of}
-use Rattle.vpf_loading.specs.Loading.{within}
-use Rattle.vpf_loading.specs.declared.loading.LoadStop.{LoadStop}
+use Rattle.vpf_library_files.specs.Loading.Loading.{within}
+use Rattle.vpf_library_files.specs.declared.loading.loading.LoadStop.{LoadStop}
 use Rattle.vpf_glue.specs.Tables.{glued_made}
 use Rattle.vpf_replies.specs.Answer.{Answer, refused}
 use Rattle.vpf_replies.specs.Refusals.{UntiledCoverage, refusal_answer}

@@ -2,8 +2,8 @@
 -- one (MIL-STD-2407, 5.2.3, feature classes).
 use Rattle.std.specs.Prelude.{ℕ, Bool, ◌&&◌, ◌||◌, List, find, Option, codes, is_some}
 use Rattle.std.specs.Option.{option_map}
-use Rattle.vpf_text.specs.Bytes.{printed}
-use Rattle.vpf_text.specs.Texts.{◌&◌}
+use Rattle.vpf_findings.specs.Text.Bytes.{printed}
+use Rattle.vpf_findings.specs.Text.Texts.{◌&◌}
 use Rattle.vpf_schema.specs.Items.{is_feature_table, name_in, primitive_named, same_item}
 use Rattle.vpf_schema.specs.Joins.{SchemaJoin}
 

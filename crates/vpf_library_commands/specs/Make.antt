@@ -1,7 +1,7 @@
 -- What is asked for where a library is made of another.
 use Rattle.std.specs.Prelude.{ℕ, ◌||◌, ◌&&◌, ◌==◌, Bool, List, [], ◌∷◌, length, nat_eq, nat_le, slice_index_or, if◌then◌else◌, Option, Some, None}
 use Rattle.std.specs.List.{ends_with, starts_with}
-use Rattle.vpf_names.specs.Naming.{coverage_name, file_name, slash}
+use Rattle.vpf_source.specs.Names.Naming.{coverage_name, file_name, slash}
 use Rattle.vpf_library_commands.specs.declared.requesting.MakeRequest.{MakeRequest}
 
 -- the parts of the name of a folder are the first parts of this name: it begins with that of the folder, and ends there or goes on behind a slash

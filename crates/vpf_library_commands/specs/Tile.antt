@@ -5,15 +5,15 @@ use Rattle.vpf_source.specs.Files.{Files}
 use Rattle.vpf_source.specs.declared.file.File.{File}
 use Rattle.vpf_findings.specs.Printing.{disagree_text}
 use Rattle.vpf_table.specs.Grid.{Grid}
-use Rattle.vpf_text.specs.Texts.{◌&◌}
+use Rattle.vpf_findings.specs.Text.Texts.{◌&◌}
 use Rattle.vpf_prims.specs.Coverages.{tile_at}
 use Rattle.vpf_prims.specs.Tables.{TileTables}
-use Rattle.vpf_loading.specs.Loading.{LoadedCoverage, LoadedTable, Read, ◌and_then◌, read_tileref, within}
-use Rattle.vpf_loading.specs.declared.loading.LoadStop.{LoadStop}
-use Rattle.vpf_plan.specs.PlanLoads.{read_plan}
-use Rattle.vpf_plan.specs.Untiled.{read_untiled}
-use Rattle.vpf_tileable.specs.declared.refusals.Refusal.{Refusal}
-use Rattle.vpf_tileable.specs.declared.refusals.Refusal.TheVariants as refusals
+use Rattle.vpf_library_files.specs.Loading.Loading.{LoadedCoverage, LoadedTable, Read, ◌and_then◌, read_tileref, within}
+use Rattle.vpf_library_files.specs.declared.loading.loading.LoadStop.{LoadStop}
+use Rattle.vpf_tiling.specs.Plan.PlanLoads.{read_plan}
+use Rattle.vpf_tiling.specs.Plan.Untiled.{read_untiled}
+use Rattle.vpf_tiling.specs.declared.tileable.refusals.Refusal.{Refusal}
+use Rattle.vpf_tiling.specs.declared.tileable.refusals.Refusal.TheVariants as refusals
 use Rattle.vpf_table_files.specs.declared.errors.AddError.TheVariants as adds
 use Rattle.vpf_feature_files.specs.Reading.{read_schema}
 use Rattle.vpf_feature_files.specs.Schemas.{Schema, joins_of}

@@ -1,9 +1,9 @@
 -- The files that `tile` reads, against what was read.
 use Rattle.std.specs.Prelude.{◌≡◌, ℕ, List, None}
-use Rattle.vpf_loading.specs.Holding.{AreFilesOf, AreUntiledFiles}
-use Rattle.vpf_loading.specs.Loading.{tileref_name}
-use Rattle.vpf_tileref.specs.Stops.{tileref_stop}
-use Rattle.vpf_plan.specs.PlanLoads.{ArePlanFiles}
+use Rattle.vpf_library_files.specs.Loading.Holding.{AreFilesOf, AreUntiledFiles}
+use Rattle.vpf_library_files.specs.Loading.Loading.{tileref_name}
+use Rattle.vpf_library_files.specs.Tileref.Stops.{tileref_stop}
+use Rattle.vpf_tiling.specs.Plan.PlanLoads.{ArePlanFiles}
 use Rattle.vpf_library_commands.specs.declared.tiling.TileFiles.{TileFiles}
 use Rattle.vpf_featured.specs.Held.{AreFeaturedFiles}
 use Rattle.vpf_featured.specs.Reading.{FeaturedCoverage}

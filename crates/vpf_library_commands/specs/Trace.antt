@@ -6,8 +6,8 @@ use Rattle.vpf_darts.specs.Listings.{numbers_of}
 use Rattle.vpf_findings.specs.Printing.{disagree_text}
 use Rattle.vpf_prims.specs.Coverages.{CoverageTables}
 use Rattle.vpf_prims.specs.Libraries.{library_of}
-use Rattle.vpf_loading.specs.Holding.{HoldsBytes}
-use Rattle.vpf_loading.specs.declared.loading.LoadStop.{LoadStop}
+use Rattle.vpf_library_files.specs.Loading.Holding.{HoldsBytes}
+use Rattle.vpf_library_files.specs.declared.loading.loading.LoadStop.{LoadStop}
 use Rattle.vpf_trace.specs.Tracing.{IsTrace}
 use Rattle.vpf_replies.specs.declared.verdict.Verdict.TheVariants.{Done}
 use Rattle.vpf_replies.specs.Answer.{Answer, done, refused}

@@ -14,8 +14,8 @@ use vpf_coverage::Coverage;
 use vpf_featured::{FeaturedFiles, load_featured, open_agreeing};
 use vpf_features::FeatureFault;
 use vpf_load_replies::stopped;
-use vpf_names::{coverage_name, file_name};
 use vpf_replies::{Halt, Reply, Stop, Verdict, disagreement};
+use vpf_source::names::{coverage_name, file_name};
 use vpf_source::{Name, Tree};
 
 /// A coverage of a library that is checked, by `check` and before `trace`.

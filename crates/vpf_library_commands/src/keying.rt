@@ -9,9 +9,9 @@ ghost use Rattle.vpf_library_commands.specs.Keys.{by_number, joins_by_number, ke
 
 use std::alloc::{AllocError, Global};
 use vpf_features::Schema;
+use vpf_findings::text::put_printed;
 use vpf_replies::{Reply, Verdict};
 use vpf_schema::{ItemName, SchemaRow};
-use vpf_text::put_printed;
 
 /// Whether the first item names a table of features and the second one of primitives, whose key is their number.
 fn is_by_number(features: &ItemName<'_>, primitives: &ItemName<'_>, key: &ItemName<'_>) -> bool

@@ -6,7 +6,7 @@ ghost use Rattle.vpf_library_commands.specs.Example.{ExampleIsFound, ExampleIsWe
 
 use vpf_cross::laws::{agreement_decides, like_tiles_are_whole};
 use vpf_feature_agreement::laws::features_decide;
-use vpf_loading::laws::{coverages_are_held, files_are_libraries};
+use vpf_library_files::loading::laws::{coverages_are_held, files_are_libraries};
 use vpf_numbers::laws::numbers_decide;
 use vpf_trace::laws::one_trace;
 use vpf_wing::laws::{cycles_decide, loops_decide};

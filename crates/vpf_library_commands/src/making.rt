@@ -9,7 +9,7 @@ ghost use Rattle.vpf_library_commands.specs.Made.{IsUnmadeAnswer, file_within, f
 use std::alloc::{AllocError, Global};
 use vpf_feature_writing::feature_files;
 use vpf_features::Schema;
-use vpf_loading::within;
+use vpf_library_files::loading::within;
 use vpf_replies::{Reply, limit, makes};
 use vpf_source::{File, Name};
 use vpf_table_files::AddError;

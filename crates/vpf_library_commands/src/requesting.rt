@@ -1,12 +1,12 @@
 //! What is asked for where a library is made of another.
 
 ghost use Rattle.std.specs.Prelude.{◌≡◌, IfOk, map, string_bytes};
-ghost use Rattle.vpf_names.specs.Naming.{coverage_name, file_name};
+ghost use Rattle.vpf_source.specs.Names.Naming.{coverage_name, file_name};
 ghost use Rattle.vpf_library_commands.specs.Make.{is_inside, make_request, make_request_of};
 
 use std::alloc::{AllocError, Global};
-use vpf_names::{coverage_name, file_name};
 use vpf_source::Name;
+use vpf_source::names::{coverage_name, file_name};
 
 /// A coverage of a library of which another library is made, by `tile` and by `glue`.
 #[derive(Debug, Drop)]

@@ -6,10 +6,10 @@ ghost use Rattle.vpf_base.specs.Results.{Meets};
 ghost use Rattle.vpf_source.specs.Causes.{Rose, Stood};
 ghost use Rattle.vpf_source.specs.Files.{Files};
 ghost use Rattle.vpf_source.specs.declared.file.File.{File as FileOf};
-ghost use Rattle.vpf_text.specs.Texts.{◌&◌};
+ghost use Rattle.vpf_findings.specs.Text.Texts.{◌&◌};
 ghost use Rattle.vpf_prims.specs.Coverages.{tile_at};
-ghost use Rattle.vpf_loading.specs.Loading.{most_loaded, within};
-ghost use Rattle.vpf_loading.specs.Loads.{ReadsAs};
+ghost use Rattle.vpf_library_files.specs.Loading.Loading.{most_loaded, within};
+ghost use Rattle.vpf_library_files.specs.Loading.Loads.{ReadsAs};
 ghost use Rattle.vpf_cross.specs.CrossFinding.{topology_finding};
 ghost use Rattle.vpf_tiler.specs.declared.errors.TileError.{TileError};
 ghost use Rattle.vpf_tiler.specs.Making.{tile_error_seen};
@@ -33,15 +33,15 @@ use vpf_cross::Checked;
 use vpf_feature_files::load_features;
 use vpf_featured::{Featured, FeaturedFiles, check_topology, open_featured};
 use vpf_features::{FeatureFault, Schema};
+use vpf_library_files::loading::{LoadStop, load_tileref, table_in, within};
+use vpf_library_files::tileref::laws::stops_decide;
 use vpf_load_replies::stopped;
-use vpf_loading::{LoadStop, load_tileref, table_in, within};
-use vpf_plan::{load_plan, load_untiled, open_plan};
 use vpf_replies::{Halt, Reply, Stop, Verdict, disagreement};
 use vpf_source::{File, Tree};
 use vpf_table_files::AddError;
-use vpf_tileable::Refusal;
 use vpf_tiler::TileError;
-use vpf_tileref::laws::stops_decide;
+use vpf_tiling::plan::{load_plan, load_untiled, open_plan};
+use vpf_tiling::tileable::Refusal;
 
 /// What is read: an untiled coverage and its features, the table of tiles of its library, and its plan.
 #[derive(Drop)]

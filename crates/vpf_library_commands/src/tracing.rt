@@ -4,7 +4,7 @@ ghost use Rattle.std.specs.Prelude.{◌≡◌, IfOk, Some};
 ghost use Rattle.vpf_source.specs.Files.{Files};
 ghost use Rattle.vpf_darts.specs.Listings.{numbers_of};
 ghost use Rattle.vpf_prims.specs.Libraries.{library_of};
-ghost use Rattle.vpf_loading.specs.Loading.{within};
+ghost use Rattle.vpf_library_files.specs.Loading.Loading.{within};
 ghost use Rattle.vpf_trace.specs.Tracing.{IsTrace};
 ghost use Rattle.vpf_features.specs.Finding.{TellsNamed};
 ghost use Rattle.vpf_replies.specs.Halting.{ComesTo, TellsFault};

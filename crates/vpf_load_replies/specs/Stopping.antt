@@ -2,8 +2,8 @@
 use Rattle.std.specs.Prelude.{◌≡◌, []}
 use Rattle.vpf_table.specs.Limits.{bound_text}
 use Rattle.vpf_findings.specs.Printing.{own_text}
-use Rattle.vpf_loading.specs.declared.loading.LoadStop.{LoadStop}
-use Rattle.vpf_loading.specs.declared.loading.LoadStop.TheVariants as stops
+use Rattle.vpf_library_files.specs.declared.loading.loading.LoadStop.{LoadStop}
+use Rattle.vpf_library_files.specs.declared.loading.loading.LoadStop.TheVariants as stops
 use Rattle.vpf_replies.specs.Answer.{Answer, limited, refused}
 use Rattle.vpf_replies.specs.Found.{missing_answer}
 use Rattle.vpf_replies.specs.Refusals.{VaryingRows, refusal_answer}

@@ -5,7 +5,7 @@ ghost use Rattle.vpf_replies.specs.Halting.{ComesTo};
 ghost use Rattle.vpf_load_replies.specs.Stopping.{IsStopAnswer};
 
 use std::alloc::Global;
-use vpf_loading::LoadStop;
+use vpf_library_files::loading::LoadStop;
 use vpf_replies::{Halt, Refusal, Reply, Stop, fault, kept_disagreement, limit, refuse};
 
 /// The reply to the file that stops a load, or what stops the run: a fault of the tree, or want of memory.

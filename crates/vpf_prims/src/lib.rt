@@ -12,8 +12,6 @@ mod reading;
 mod roles;
 mod rows;
 mod seeking;
-#[cfg(test)]
-mod tests;
 mod tile;
 mod views;
 

@@ -4,7 +4,7 @@ use Rattle.std.specs.List.{flat_map}
 use Rattle.std.specs.Fmt.{decimal}
 use Rattle.vpf_darts.specs.declared.darts.TileDart.{TileDart}
 use Rattle.vpf_darts.specs.Darts.{edge_in, sign_in, tile_dart_code, tile_dart_text, tile_in}
-use Rattle.vpf_text.specs.Texts.{◌&◌}
+use Rattle.vpf_findings.specs.Text.Texts.{◌&◌}
 
 -- the dart of a number
 abbrev pub dart_of : ℕ → TileDart

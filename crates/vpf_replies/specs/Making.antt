@@ -3,8 +3,8 @@ use Rattle.std.specs.Prelude.{ℕ, List, length, codes}
 use Rattle.std.specs.List.{flat_map}
 use Rattle.std.specs.Fmt.{decimal}
 use Rattle.vpf_source.specs.declared.file.File.{File}
-use Rattle.vpf_text.specs.Texts.{◌&◌}
-use Rattle.vpf_text.specs.Bytes.{printed}
+use Rattle.vpf_findings.specs.Text.Texts.{◌&◌}
+use Rattle.vpf_findings.specs.Text.Bytes.{printed}
 use Rattle.vpf_replies.specs.Answer.{Answer, making}
 
 -- the line of a file that is made, with its number of bytes

@@ -1,7 +1,7 @@
 -- What is refused, and its line.
 use Rattle.std.specs.Prelude.{ℕ, List, codes}
-use Rattle.vpf_text.specs.Texts.{◌&◌}
-use Rattle.vpf_text.specs.Bytes.{printed}
+use Rattle.vpf_findings.specs.Text.Texts.{◌&◌}
+use Rattle.vpf_findings.specs.Text.Bytes.{printed}
 use Rattle.vpf_replies.specs.declared.refusing.Refusal.{Refusal}
 use Rattle.vpf_replies.specs.declared.refusing.Refusal.TheVariants.{Missing, Variable, Untiled, NoClass, NoTable, NoColumn, NoIndex, BadValue}
 use Rattle.vpf_replies.specs.Answer.{Answer, refused}

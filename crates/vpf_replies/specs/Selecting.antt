@@ -3,9 +3,9 @@ use Rattle.std.specs.Prelude.{ℕ, List, codes}
 use Rattle.std.specs.Fmt.{decimal}
 use Rattle.vpf_triplet.specs.declared.kinds.Kind.{Kind}
 use Rattle.vpf_value.specs.Values.{Value}
-use Rattle.vpf_text.specs.Texts.{◌&◌}
-use Rattle.vpf_text.specs.Bytes.{printed}
-use Rattle.vpf_text.specs.Cells.{cell_text}
+use Rattle.vpf_findings.specs.Text.Texts.{◌&◌}
+use Rattle.vpf_findings.specs.Text.Bytes.{printed}
+use Rattle.vpf_findings.specs.Text.Cells.{cell_text}
 
 -- where an index lists a row for a value that it hasn't: the index's file and the row
 abbrev pub wrong_place_text : List ℕ → ℕ → List ℕ

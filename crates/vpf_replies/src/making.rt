@@ -5,8 +5,8 @@ ghost use Rattle.vpf_replies.specs.Making.{made_answer, made_line, made_lines};
 
 use crate::reply::Reply;
 use std::alloc::{AllocError, Global};
+use vpf_findings::text::put_printed;
 use vpf_source::{Bytes, File, Name};
-use vpf_text::put_printed;
 
 fn put_made(text: &mut String, file: &File) -> Result<(), AllocError>
     ensures { OnOk result (string_bytes text.new ≡ string_bytes text.old ++ made_line file.now) }

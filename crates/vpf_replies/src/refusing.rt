@@ -6,7 +6,7 @@ ghost use Rattle.vpf_replies.specs.Refusals.{reason_of, reason_text, refusal_ans
 use crate::reply::Reply;
 use crate::verdict::Verdict;
 use std::alloc::{AllocError, Global};
-use vpf_text::put_printed;
+use vpf_findings::text::put_printed;
 
 /// Why a file or a word isn't taken, with what its line names.
 #[derive(Clone, Copy, Debug)]

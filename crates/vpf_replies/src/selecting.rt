@@ -8,7 +8,7 @@ ghost use Rattle.vpf_replies.specs.Selecting.{both_text, wrong_place_text, wrong
 use crate::reply::Reply;
 use crate::verdict::Verdict;
 use std::alloc::{AllocError, Global};
-use vpf_text::{put_cell, put_printed};
+use vpf_findings::text::{put_cell, put_printed};
 use vpf_triplet::Kind;
 use vpf_value::Cell;
 

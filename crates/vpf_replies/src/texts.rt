@@ -9,8 +9,8 @@ ghost use Rattle.vpf_replies.specs.Tables.{fault_answer};
 use crate::reply::Reply;
 use crate::verdict::Verdict;
 use std::alloc::{AllocError, Global};
+use vpf_findings::text::put_printed;
 use vpf_table::Bound;
-use vpf_text::put_printed;
 use vpf_triplet::{Code, Place};
 
 /// The reply to words that are no command.

@@ -12,9 +12,9 @@ use Rattle.vpf_source.specs.declared.file.File.{File}
 use Rattle.vpf_table.specs.declared.limit.Limit.{Limit as Passed}
 use Rattle.vpf_prims.specs.Coverages.{tile_at}
 use Rattle.vpf_prims.specs.Tables.{TileTables}
-use Rattle.vpf_loading.specs.Holding.{HoldsBytes}
-use Rattle.vpf_loading.specs.declared.loading.LoadStop.{LoadStop}
-use Rattle.vpf_tileable.specs.declared.refusals.Refusal.{Refusal}
+use Rattle.vpf_library_files.specs.Loading.Holding.{HoldsBytes}
+use Rattle.vpf_library_files.specs.declared.loading.loading.LoadStop.{LoadStop}
+use Rattle.vpf_tiling.specs.declared.tileable.refusals.Refusal.{Refusal}
 use Rattle.vpf_table_files.specs.Adding.{NamedTable, files_made, first_limit_of}
 use Rattle.vpf_table_files.specs.declared.errors.AddError.TheVariants as adds
 use Rattle.vpf_feature_files.specs.Schemas.{Schema, joins_of}

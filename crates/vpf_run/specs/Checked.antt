@@ -4,7 +4,7 @@ use Rattle.vpf_source.specs.Files.{Files}
 use Rattle.vpf_darts.specs.declared.darts.TileDart.{TileDart}
 use Rattle.vpf_darts.specs.Listings.{numbers_of}
 use Rattle.vpf_prims.specs.Libraries.{library_of}
-use Rattle.vpf_loading.specs.Holding.{HoldsBytes}
+use Rattle.vpf_library_files.specs.Loading.Holding.{HoldsBytes}
 use Rattle.vpf_featured.specs.Reading.{FeaturedCoverage}
 use Rattle.vpf_replies.specs.declared.verdict.Verdict.TheVariants.{Done}
 use Rattle.vpf_replies.specs.Answer.{Answer, done}

@@ -12,7 +12,7 @@ ghost use Rattle.vpf_table.specs.Spelling.{IsTable};
 ghost use Rattle.vpf_replies.specs.Answer.{Answer, done};
 ghost use Rattle.vpf_replies.specs.Tables.{fault_answer};
 ghost use Rattle.vpf_replies.specs.Halting.{ComesTo, TellsFault};
-ghost use Rattle.vpf_loading.specs.Holding.{HoldsBytes};
+ghost use Rattle.vpf_library_files.specs.Loading.Holding.{HoldsBytes};
 ghost use Rattle.vpf_featured.specs.Reading.{FeaturedCoverage};
 ghost use Rattle.vpf_library_commands.specs.declared.checking.CheckRequest.{CheckRequest};
 ghost use Rattle.vpf_library_commands.specs.declared.requesting.MakeRequest.{MakeRequest};

@@ -4,7 +4,8 @@ use crate::bytes::{
     CND, EDG, FAC, LIST, NINE, PLAIN, PLAN, RNG, TEXT, TEXT_BIG, TEXT_INDEX, TILES, VARYING,
     VARYING_INDEX,
 };
-use crate::testing::{answer, check_answer, check_file, same, sink, tree};
+use crate::same::same;
+use crate::testing::{answer, check_answer, check_file, sink, tree};
 use std::alloc::Global;
 use std::process::Abort;
 use std::test::Fail;

@@ -1,7 +1,8 @@
 //! Some megabytes take no more room than there is.
 
-use crate::bytes::EDG;
-use crate::testing::{answer, same, sink, tree};
+use crate::bytes::{EDG, TEXT};
+use crate::same::same;
+use crate::testing::{answer, check_answer, sink, tree};
 use std::alloc::{AllocError, Global};
 use std::test::Fail;
 use vpf_run::Status;
@@ -41,4 +42,27 @@ fn lists_cycles_of_some_megabytes(rt: HostRuntime) -> Result<(), Fail> {
     same(&rt, status, Status::Done, "cycles");
     assert!(rt; out.bytes().ends_with(b"cycles 120000\n"));
     Ok(())
+}
+
+#[test]
+fn swaps_a_million_texts(rt: HostRuntime) -> Result<(), Fail> {
+    let mut table = TEXT[..28].to_vec(rt.alloc())?;
+    table.resize(28 + 4_000_000, 0)?;
+    let mut tree = tree(rt.alloc(), 4096, 0, &[("t.tab", &table)])?;
+    let words = ["swap", "t.tab", "u.tab"];
+    let text = "made u.tab 4000028\nmade u.tax 8000008\nfiles 2\n";
+    check_answer(&rt, rt.alloc(), &mut tree, &words, text, Status::Done)
+}
+
+/// Each number stands in a list of its own.
+#[test]
+fn indexes_thirty_thousand_numbers(rt: HostRuntime) -> Result<(), Fail> {
+    let mut table = b"\x18\0\0\0L;T;-;n=S,1,N,d,-,-,-,:;".to_vec(rt.alloc())?;
+    for number in 0..30_000_i16 {
+        table.extend_from_slice(&number.to_le_bytes())?;
+    }
+    let mut tree = tree(rt.alloc(), 4096, 0, &[("t.tab", &table)])?;
+    let words = ["index", "t.tab", "n", "list", "i.lti"];
+    let text = "made i.lti 300060\nfiles 1\n";
+    check_answer(&rt, rt.alloc(), &mut tree, &words, text, Status::Done)
 }

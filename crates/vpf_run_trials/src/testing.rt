@@ -1,7 +1,7 @@
-//! What the trials share: what the program answers, and sinks in memory.
+//! What the trials share: what the program answers, and trees and sinks in memory.
 
+use crate::same::same;
 use std::alloc::{AllocError, Global};
-use std::fmt::Debug;
 use std::process::Abort;
 use std::test::Fail;
 use vpf_run::{Status, run};
@@ -25,17 +25,6 @@ pub fn answer(
 ) -> Result<Status, AllocError> {
     let words = words_of(alloc, words)?;
     Ok(run(alloc, &words, tree, out))
-}
-
-/// Ends the test unless both are the same, and tells them with the case. A test that calls it is proved in a fraction of the time that it takes
-/// with `assert_eq!` in its place.
-pub fn same<T: PartialEq + Debug + Drop, C: Debug + Drop>(
-    rt: &impl Abort,
-    got: T,
-    want: T,
-    case: C,
-) {
-    assert_eq!(rt; got, want, "{case:?}");
 }
 
 /// These words print this text and end with this status.

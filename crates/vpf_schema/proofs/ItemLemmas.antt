@@ -3,7 +3,7 @@ use Rattle.std.proofs.Common.{◌≡◌, ◌∙◌, ◌-◌, ℕ, List, drop, ta
 use Rattle.std.proofs.Math.Seq.{take-length}
 use Rattle.std.proofs.lemmas.List.{drop-map, length-drop, length-map}
 use Rattle.std.specs.Char.{to_ascii_lowercase}
-use Rattle.vpf_names.specs.Items.{small}
+use Rattle.vpf_source.specs.Names.Items.{small}
 use Rattle.vpf_schema.specs.Items.{last_bytes}
 
 -- the end of a name in small letters is its end, in small letters

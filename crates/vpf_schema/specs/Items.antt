@@ -5,7 +5,7 @@ use Rattle.std.specs.Ordering.{on}
 use Rattle.std.specs.Str.{bytes_eq}
 use Rattle.vpf_findings.specs.declared.finding.TableName.{TableName}
 use Rattle.vpf_findings.specs.declared.finding.TableName.TheVariants as tables
-use Rattle.vpf_names.specs.Items.{file_beside, small, trimmed}
+use Rattle.vpf_source.specs.Names.Items.{file_beside, small, trimmed}
 
 -- a name as it is read: without padding around it, in small letters
 abbrev pub name_in : List ℕ → List ℕ

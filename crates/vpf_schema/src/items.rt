@@ -2,7 +2,7 @@
 
 ghost use Rattle.std.specs.Prelude.{◌≡◌, fold};
 ghost use Rattle.std.specs.Str.{bytes_eq};
-ghost use Rattle.vpf_names.specs.Items.{small};
+ghost use Rattle.vpf_source.specs.Names.Items.{small};
 ghost use Rattle.std.proofs.Common.{rules};
 ghost use Rattle.std.specs.Cmp.Rules.{comparing, hashing};
 ghost use Rattle.std.specs.Hash as fed;
@@ -11,8 +11,8 @@ ghost use Rattle.vpf_schema.specs.Items.{is_feature_end, name_in, same_item};
 use std::alloc::{AllocError, Global};
 use std::hash::{Hash, Hasher};
 use vpf_findings::TableName;
-use vpf_names::{file_beside, trimmed};
 use vpf_source::Name;
+use vpf_source::names::{file_beside, trimmed};
 
 /// How many bytes the end of a name has that tells a table of features.
 const END_BYTES: usize = 4;

@@ -7,3 +7,4 @@ pub mod Loading
 pub mod Making
 pub mod Sure
 pub mod Writing
+pub mod Names

@@ -9,6 +9,7 @@ mod loading;
 mod making;
 mod memory_sink;
 mod memory_tree;
+pub mod names;
 mod sink;
 mod steps;
 mod sure_tree;

@@ -3,7 +3,7 @@ use Rattle.std.proofs.Common.{◌≡◌, ℕ, Bool, true, false, List, [], ◌�
 use Rattle.std.specs.Prelude.{if◌then◌else◌}
 use Rattle.std.specs.Str.{bytes_eq}
 use Rattle.vpf_theme.specs.declared.layout.Form.{Form}
-use Rattle.vpf_names.specs.Naming.{file_name}
+use Rattle.vpf_source.specs.Names.Naming.{file_name}
 use Rattle.vpf_table_commands.specs.declared.indexing.IndexRequest.{IndexRequest}
 use Rattle.vpf_table_commands.specs.Index.{IndexesElsewhere, IsElsewhere, form_of, index_request_of}
 

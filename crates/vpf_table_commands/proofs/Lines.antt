@@ -5,7 +5,7 @@ use Rattle.vpf_base.proofs.Lists.{next_item}
 use Rattle.vpf_value.specs.Values.{Value}
 use Rattle.vpf_head.specs.Head.{Col}
 use Rattle.vpf_table.specs.Grid.{Row}
-use Rattle.vpf_text.specs.Cells.{cell_text}
+use Rattle.vpf_findings.specs.Text.Cells.{cell_text}
 use Rattle.vpf_table_commands.specs.Show.{column_line, column_lines, cells_text, row_line, row_lines}
 
 pub column_put : (text : List ℕ) (cs : List Col) (i : ℕ) (c : Col) → slice_get cs i ≡ Some c → (text ++ column_line (i + 1) c) ++ column_lines (i + 1) (drop (i + 1) cs) ≡ text ++ column_lines i (drop i cs)

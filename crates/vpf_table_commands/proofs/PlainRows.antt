@@ -12,7 +12,7 @@ use Rattle.vpf_table.specs.Opening.{opened_of}
 use Rattle.vpf_theme.specs.Agreeing.{AgreesAt}
 use Rattle.vpf_theme.specs.Entries.{Theme}
 use Rattle.vpf_theme.specs.Reading.{theme_of}
-use Rattle.vpf_names.specs.Indexes.{index_name}
+use Rattle.vpf_source.specs.Names.Indexes.{index_name}
 use Rattle.vpf_replies.specs.Answer.{Answer}
 use Rattle.vpf_replies.specs.Columns.{on_found, on_place}
 use Rattle.vpf_replies.specs.Found.{missing_answer, on_loaded}

@@ -15,7 +15,7 @@ use Rattle.vpf_replies.specs.declared.verdict.Verdict.TheVariants.{Done}
 use Rattle.vpf_replies.specs.Answer.{Answer}
 use Rattle.vpf_table_commands.specs.Swap.{SwappedTwiceIsCanonical}
 use Rattle.vpf_replies.specs.Making.{made_answer}
-use Rattle.vpf_made.specs.Files.{index_files, table_files}
+use Rattle.vpf_write.specs.Made.Files.{index_files, table_files}
 use Rattle.vpf_table_commands.specs.Swap.{other_order, turned, written_answer, written_by}
 use Rattle.vpf_replies.specs.Tables.{on_table}
 

@@ -4,7 +4,7 @@ use Rattle.std.specs.Fmt.{decimal}
 use Rattle.vpf_source.specs.Files.{Files}
 use Rattle.vpf_table.specs.Grid.{Grid}
 use Rattle.vpf_table.specs.Reading.{table_of}
-use Rattle.vpf_text.specs.Texts.{◌&◌}
+use Rattle.vpf_findings.specs.Text.Texts.{◌&◌}
 use Rattle.vpf_replies.specs.Answer.{Answer, done}
 use Rattle.vpf_replies.specs.Found.{on_required_file}
 use Rattle.vpf_replies.specs.Tables.{on_table}

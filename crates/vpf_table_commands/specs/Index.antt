@@ -14,8 +14,8 @@ use Rattle.vpf_theme.specs.Findings.{cells_of}
 use Rattle.vpf_theme_build.specs.declared.errors.BuildError.{BuildError}
 use Rattle.vpf_theme_build.specs.declared.errors.BuildError.TheVariants as errors
 use Rattle.vpf_theme_build.specs.Building.{built_by}
-use Rattle.vpf_names.specs.Folders.{last_part}
-use Rattle.vpf_names.specs.Naming.{file_name}
+use Rattle.vpf_source.specs.Names.Folders.{last_part}
+use Rattle.vpf_source.specs.Names.Naming.{file_name}
 use Rattle.vpf_table_commands.specs.declared.indexing.IndexRequest.{IndexRequest}
 use Rattle.vpf_replies.specs.declared.verdict.Verdict.TheVariants.{Done}
 use Rattle.vpf_replies.specs.Answer.{Answer, limited}

@@ -20,10 +20,10 @@ use Rattle.vpf_theme.specs.Findings.{cell_of, cells_of, fits_line}
 use Rattle.vpf_theme.specs.Reading.{theme_of}
 use Rattle.vpf_select.specs.Selecting.{selected}
 use Rattle.vpf_select.specs.Words.{value_in}
-use Rattle.vpf_text.specs.Texts.{◌&◌}
-use Rattle.vpf_names.specs.Indexes.{index_name}
-use Rattle.vpf_names.specs.Items.{file_beside}
-use Rattle.vpf_names.specs.Naming.{file_name}
+use Rattle.vpf_findings.specs.Text.Texts.{◌&◌}
+use Rattle.vpf_source.specs.Names.Indexes.{index_name}
+use Rattle.vpf_source.specs.Names.Items.{file_beside}
+use Rattle.vpf_source.specs.Names.Naming.{file_name}
 use Rattle.vpf_replies.specs.Answer.{Answer, done, refused}
 use Rattle.vpf_replies.specs.Columns.{on_column}
 use Rattle.vpf_replies.specs.Found.{on_optional_file, on_required_file}

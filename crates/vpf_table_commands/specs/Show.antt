@@ -8,9 +8,9 @@ use Rattle.vpf_head.specs.Fields.{key_text}
 use Rattle.vpf_source.specs.Files.{Files}
 use Rattle.vpf_table.specs.Grid.{Row, Grid}
 use Rattle.vpf_table.specs.Reading.{table_of}
-use Rattle.vpf_text.specs.Texts.{◌&◌}
-use Rattle.vpf_text.specs.Bytes.{printed}
-use Rattle.vpf_text.specs.Cells.{cell_text}
+use Rattle.vpf_findings.specs.Text.Texts.{◌&◌}
+use Rattle.vpf_findings.specs.Text.Bytes.{printed}
+use Rattle.vpf_findings.specs.Text.Cells.{cell_text}
 use Rattle.vpf_replies.specs.Answer.{Answer, done}
 use Rattle.vpf_replies.specs.Found.{on_required_file}
 use Rattle.vpf_replies.specs.Tables.{on_table}

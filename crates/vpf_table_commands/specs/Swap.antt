@@ -15,9 +15,9 @@ use Rattle.vpf_table.specs.Reading.{table_of}
 use Rattle.vpf_write.specs.declared.in_place.Turning.{Turning as TableTurning}
 use Rattle.vpf_write.specs.InPlace.{HasRoom, turned_file}
 use Rattle.vpf_write.specs.Writing.{first_limit}
-use Rattle.vpf_names.specs.Indexes.{ends_in_x}
-use Rattle.vpf_made.specs.Files.{part_name, table_files}
-use Rattle.vpf_names.specs.Naming.{file_name}
+use Rattle.vpf_source.specs.Names.Indexes.{ends_in_x}
+use Rattle.vpf_write.specs.Made.Files.{part_name, table_files}
+use Rattle.vpf_source.specs.Names.Naming.{file_name}
 use Rattle.vpf_replies.specs.declared.verdict.Verdict.TheVariants.{Done}
 use Rattle.vpf_replies.specs.Answer.{Answer, limited}
 use Rattle.vpf_replies.specs.Found.{on_required_file}

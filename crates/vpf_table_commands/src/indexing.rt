@@ -3,17 +3,17 @@
 ghost use Rattle.std.specs.Prelude.{◌≡◌, ◌<◌, ◌∷◌, [], IfOk, Some, length, map, slice_get, string_bytes};
 ghost use Rattle.vpf_source.specs.Files.{Files};
 ghost use Rattle.vpf_head.specs.Head.{Col};
-ghost use Rattle.vpf_names.specs.Naming.{file_name};
+ghost use Rattle.vpf_source.specs.Names.Naming.{file_name};
 ghost use Rattle.vpf_replies.specs.Halting.{ComesTo, TellsFault};
 ghost use Rattle.vpf_replies.specs.Making.{made_answer};
 ghost use Rattle.vpf_table_commands.specs.Index.{built_answer, form_of, grid_index_answer, index_request_of, index_request, index_bytes_answer, index_answer};
 
 use crate::words::{Word, word_of};
 use std::alloc::{AllocError, Global};
-use vpf_names::{file_name, last_part};
 use vpf_replies::{
     Halt, Refusal, Reply, Stop, fault, file_of, limit, makes, place_of, refuse, required_file,
 };
+use vpf_source::names::{file_name, last_part};
 use vpf_source::{Bytes, Name, Tree};
 use vpf_table::{Bound, TableView};
 use vpf_theme::Form;

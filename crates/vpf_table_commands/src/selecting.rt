@@ -4,8 +4,8 @@ ghost use Rattle.std.specs.Prelude.{◌≡◌, ◌<◌, IfOk, Some, length, map,
 ghost use Rattle.vpf_source.specs.Files.{Files};
 ghost use Rattle.vpf_head.specs.Head.{Col};
 ghost use Rattle.vpf_head.specs.Views.{col};
-ghost use Rattle.vpf_names.specs.Indexes.{index_name};
-ghost use Rattle.vpf_names.specs.Naming.{file_name};
+ghost use Rattle.vpf_source.specs.Names.Indexes.{index_name};
+ghost use Rattle.vpf_source.specs.Names.Naming.{file_name};
 ghost use Rattle.vpf_replies.specs.Halting.{ComesTo, TellsFault};
 ghost use Rattle.vpf_table_commands.specs.Rows.{by_theme, column_answer, grid_rows_answer, rows_answer, rows_bytes_answer, rows_request_of};
 ghost use Rattle.vpf_table_commands.specs.Rows.{rows_request, theme_file, varying_answer, with_index};
@@ -18,10 +18,10 @@ use listing::rows_by_index;
 use scanning::rows_by_scan;
 use std::alloc::{AllocError, Global};
 use vpf_head::Column;
-use vpf_names::{file_beside, file_name, index_name};
 use vpf_replies::{
     Halt, Refusal, Reply, Stop, fault, optional_file, place_of, refuse, required_file,
 };
+use vpf_source::names::{file_beside, file_name, index_name};
 use vpf_source::{Name, Tree};
 use vpf_table::{TableFile, TableView};
 use vpf_triplet::PlaceError;

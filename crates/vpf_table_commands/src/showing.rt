@@ -11,11 +11,11 @@ ghost use Rattle.vpf_table_commands.specs.Show.{show_bytes_answer, show_answer};
 
 use crate::words::one_file;
 use std::alloc::{AllocError, Global};
+use vpf_findings::text::{put_cell, put_printed};
 use vpf_head::{Column, Header};
 use vpf_replies::{Halt, Reply, Stop, Verdict, fault, required_file};
 use vpf_source::{Name, Tree};
 use vpf_table::{Cells, RowView, TableView};
-use vpf_text::{put_cell, put_printed};
 use vpf_triplet::PlaceError;
 
 /// A table to be shown.

@@ -3,23 +3,23 @@
 ghost use Rattle.std.specs.Prelude.{◌≡◌, ◌∷◌, IfOk, Some, map, string_bytes};
 ghost use Rattle.vpf_source.specs.Files.{Files};
 ghost use Rattle.vpf_write.specs.InPlace.{HasRoom};
-ghost use Rattle.vpf_names.specs.Naming.{file_name};
+ghost use Rattle.vpf_source.specs.Names.Naming.{file_name};
 ghost use Rattle.vpf_table.specs.Limits.{bound_text};
 ghost use Rattle.vpf_table.specs.Spelling.{IsTable};
 ghost use Rattle.vpf_replies.specs.Answer.{limited};
 ghost use Rattle.vpf_replies.specs.Halting.{ComesTo, TellsFault};
 ghost use Rattle.vpf_replies.specs.Texts.{limit_text};
-ghost use Rattle.vpf_made.specs.Files.{part_name};
+ghost use Rattle.vpf_write.specs.Made.Files.{part_name};
 ghost use Rattle.vpf_table_commands.specs.Swap.{clashes, written_answer, other_order, turned, turned_answer, IsPlan};
 ghost use Rattle.vpf_table_commands.specs.Swap.{swap_request_of, swap_request, swap_bytes_answer, swap_answer};
 
 use std::alloc::{AllocError, Global};
-use vpf_made::{files_of, part_name};
-use vpf_names::{ends_in_x, file_name};
 use vpf_replies::{Halt, Reply, Stop, fault, limit, makes, required_file};
+use vpf_source::names::{ends_in_x, file_name};
 use vpf_source::{Name, Tree};
 use vpf_table::{Limit, TableView};
 use vpf_triplet::{Order, Part, PlaceError};
+use vpf_write::made::{files_of, part_name};
 use vpf_write::{Turning, WriteError, Written, write_in};
 
 /// A table to be written in the other byte order.

@@ -5,8 +5,8 @@ ghost use Rattle.vpf_table_commands.specs.Words.{one_file};
 
 use std::alloc::{AllocError, Global};
 use std::marker::Model;
-use vpf_names::file_name;
 use vpf_source::Name;
+use vpf_source::names::file_name;
 
 /// A word that names no file. Contracts see it as the bytes of its text.
 #[derive(Debug, Drop)]

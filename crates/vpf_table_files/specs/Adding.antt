@@ -6,8 +6,8 @@ use Rattle.vpf_table.specs.declared.limit.Limit.{Limit as Passed}
 use Rattle.vpf_table.specs.Grid.{Grid}
 use Rattle.vpf_findings.specs.Firsts.{◌or◌}
 use Rattle.vpf_write.specs.Writing.{first_limit}
-use Rattle.vpf_made.specs.Files.{part_name, table_files}
-use Rattle.vpf_loading.specs.Loading.{within}
+use Rattle.vpf_write.specs.Made.Files.{part_name, table_files}
+use Rattle.vpf_library_files.specs.Loading.Loading.{within}
 use Rattle.vpf_table_files.specs.declared.errors.AddError.{AddError}
 use Rattle.vpf_table_files.specs.declared.errors.AddError.TheVariants as errors
 

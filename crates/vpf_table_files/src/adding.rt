@@ -7,9 +7,9 @@ ghost use Rattle.vpf_table_files.specs.Adding.{Adds, named_table, table_within};
 
 use crate::errors::AddError;
 use std::alloc::Global;
-use vpf_loading::within;
-use vpf_made::{files_of, part_name};
+use vpf_library_files::loading::within;
 use vpf_source::File;
+use vpf_write::made::{files_of, part_name};
 use vpf_write::{WriteError, Written};
 
 /// Adds the files of a table that is written under a name behind others.

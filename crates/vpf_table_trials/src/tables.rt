@@ -1,11 +1,14 @@
 ghost use Rattle.std.specs.Prelude.{◌≡◌, ◌<◌};
 
+use crate::same::same;
 use std::alloc::Global;
 use std::marker::Brand;
 use std::sync::ledger::{Blank, Ledger};
 use std::test::Fail;
 use vpf_source::Steps;
 use vpf_table::{Bound, ColumnAt, Limit, TableFile, TableView};
+use vpf_theme::Form;
+use vpf_theme_build::build;
 use vpf_triplet::{Code, Place, PlaceError};
 use vpf_value::Cell;
 
@@ -19,10 +22,6 @@ const VARYING: &[u8] = b"\x18\0\0\0L;T;-;a=T,*,N,d,-,-,-,:;\x03\0\0\0abc\0\0\0\0
 /// A text of any length, and a row, with the most significant byte first.
 const BIG: &[u8] = b"\0\0\0\x18M;T;-;a=T,*,N,d,-,-,-,:;\0\0\0\x03abc";
 
-/// Edges whose references are triplet ids, in rows of 22 and of 24 bytes.
-const EDGES: &[u8] =
-    b"\xe6\0\0\0L;Edges;-;id=I,1,P,Id,-,-,-,:start_node=K,1,N,Start,-,-,-,:end_node=K,1,N,End,-,-,-,:right_face=K,1,N,Right,-,-,-,:left_face=K,1,N,Left,-,-,-,:right_edge=K,1,N,Right,-,-,-,:left_edge=K,1,N,Left,-,-,-,:tile_line=S,1,N,Line,-,-,-,:;\x01\0\0\0\x54\x01\x02\x01\x40\x02\x40\x02\x40\x01\x40\x02\x54\x02\x02\x01\0\0\x02\0\0\0\x40\x01\x54\x02\x02\x02\x54\x01\x02\x02\x40\x02\x54\x01\x02\x01\x40\x01\x01\0";
-
 /// The index of `FIXED`.
 const FIXED_INDEX: &[u8] =
     b"\x03\0\0\0\x2a\0\0\0\x2e\0\0\0\x06\0\0\0\x34\0\0\0\x06\0\0\0\x3a\0\0\0\x06\0\0\0";
@@ -31,29 +30,9 @@ const FIXED_INDEX: &[u8] =
 const VARYING_INDEX: &[u8] =
     b"\x03\0\0\0\x18\0\0\0\x1c\0\0\0\x07\0\0\0\x23\0\0\0\x04\0\0\0\x27\0\0\0\x05\0\0\0";
 
-/// The index of `BIG`.
-const BIG_INDEX: &[u8] = b"\0\0\0\x01\0\0\0\x18\0\0\0\x1c\0\0\0\x07";
-
-/// The index of `EDGES`.
-const EDGES_INDEX: &[u8] = b"\x02\0\0\0\xe6\0\0\0\xea\0\0\0\x16\0\0\0\0\x01\0\0\x18\0\0\0";
-
-/// The first two entries of `VARYING_INDEX`, and their number.
-const TWO_ENTRIES: &[u8] = b"\x02\0\0\0\x18\0\0\0\x1c\0\0\0\x07\0\0\0\x23\0\0\0\x04\0\0\0";
-
-/// `VARYING_INDEX` with another length in its first entry.
-const OTHER_LENGTH: &[u8] =
-    b"\x03\0\0\0\x18\0\0\0\x1c\0\0\0\x06\0\0\0\x23\0\0\0\x04\0\0\0\x27\0\0\0\x05\0\0\0";
-
-/// `VARYING_INDEX` with another offset in its second entry.
-const OTHER_OFFSET: &[u8] =
-    b"\x03\0\0\0\x18\0\0\0\x1c\0\0\0\x07\0\0\0\x22\0\0\0\x04\0\0\0\x27\0\0\0\x05\0\0\0";
-
 /// `FIXED_INDEX` with another length in its last entry.
 const OTHER_WIDTH: &[u8] =
     b"\x03\0\0\0\x2a\0\0\0\x2e\0\0\0\x06\0\0\0\x34\0\0\0\x06\0\0\0\x3a\0\0\0\x05\0\0\0";
-
-/// `BIG_INDEX` and a byte more.
-const LONG_INDEX: &[u8] = b"\0\0\0\x01\0\0\0\x18\0\0\0\x1c\0\0\0\x07\0";
 
 /// The rows of a table, or where it or its index is refused first.
 fn rows_in(alloc: Global, bytes: &[u8], index: Option<&[u8]>) -> Result<u32, Place> {
@@ -81,34 +60,19 @@ fn index_in(alloc: Global, bytes: &[u8], index: &[u8]) -> Result<(), Place> {
     }
 }
 
+/// The index of a table whose rows have one width, which no command reads.
 #[test]
 fn opens_with_an_index(rt: HostRuntime) -> Result<(), Fail> {
     let alloc = rt.alloc();
-    for (bytes, index, want) in [
-        (FIXED, FIXED_INDEX, Ok(3)),
-        (VARYING, VARYING_INDEX, Ok(3)),
-        (BIG, BIG_INDEX, Ok(1)),
-        (EDGES, EDGES_INDEX, Ok(2)),
-        (EDGES, &EDGES_INDEX[..0], Err((0, Code::IndexCut))),
-        (EDGES, &EDGES_INDEX[..23], Err((16, Code::IndexCut))),
-        (BIG, EDGES_INDEX, Err((24, Code::IndexCut))),
-        (BIG, LONG_INDEX, Err((16, Code::IndexExtra))),
-        (EDGES, VARYING_INDEX, Err((0, Code::IndexCount))),
-        (VARYING, TWO_ENTRIES, Err((0, Code::IndexCount))),
-        (VARYING, OTHER_LENGTH, Err((8, Code::IndexRow))),
-        (VARYING, OTHER_OFFSET, Err((16, Code::IndexRow))),
-        (FIXED, OTHER_WIDTH, Err((24, Code::IndexRow))),
+    for (index, want) in [
+        (FIXED_INDEX, Ok(3)),
+        (OTHER_WIDTH, Err(Place::in_index(24, Code::IndexRow))),
     ] {
-        let want = want.map_err(|fault| Place::in_index(fault.0, fault.1));
-        assert_eq!(rt; rows_in(alloc, bytes, Some(index)), want, "{index:?}");
-        assert_eq!(rt;
-            index_in(alloc, bytes, index),
-            want.map(|_| ()),
-            "{index:?}"
-        );
+        let found = rows_in(alloc, FIXED, Some(index));
+        same(&rt, found, want, index);
+        let found = index_in(alloc, FIXED, index);
+        same(&rt, found, want.map(|_| ()), index);
     }
-    let cut = Place::in_table(39, Code::CellCut);
-    assert_eq!(rt; rows_in(alloc, &VARYING[..43], Some(b"")), Err(cut));
     Ok(())
 }
 
@@ -128,16 +92,9 @@ fn reads_like_another_table(rt: HostRuntime) -> Result<(), Fail> {
         (VARYING, BIG, Ok(1)),
     ] {
         let own = TableView::open(alloc, own, None)?;
-        assert_eq!(rt; rows_like(alloc, &own, bytes), want, "{bytes:?}");
+        same(&rt, rows_like(alloc, &own, bytes), want, bytes);
     }
     Ok(())
-}
-
-fn number_in(cell: Cell<'_>) -> i32 {
-    match cell {
-        Cell::Long(n) => n,
-        _ => 0,
-    }
 }
 
 fn text_in(cell: Cell<'_>) -> &[u8] {
@@ -189,32 +146,12 @@ fn finds_rows_and_cells(rt: HostRuntime) -> Result<(), Fail> {
     ] {
         let table = TableView::open(alloc, bytes, index)?;
         assert!(rt; !table.is_empty());
-        assert_eq!(rt; table.finds_rows_directly(), direct);
+        same(&rt, table.finds_rows_directly(), direct, bytes);
         for (i, want) in texts.iter().enumerate() {
             let k = i as u32 + 1;
             assert!(rt; has_row(&table, k, want), "row {k}");
         }
-        let mut walked = Vec::new(alloc);
-        for row in table.rows() {
-            for cell in row.cells() {
-                walked.push(text_in(cell))?;
-            }
-        }
-        assert_eq!(rt; walked.last().copied(), Some(texts[2]));
     }
-    Ok(())
-}
-
-#[test]
-fn reads_the_cells_of_a_row(rt: HostRuntime) -> Result<(), Fail> {
-    let table = TableView::open(rt.alloc(), FIXED, None)?;
-    let mut numbers = Vec::new(rt.alloc());
-    for row in table.rows() {
-        for cell in row.cells().take(1) {
-            numbers.push(number_in(cell))?;
-        }
-    }
-    assert_eq!(rt; numbers.as_slice(), [1, 2, -1].as_slice());
     Ok(())
 }
 
@@ -228,7 +165,28 @@ fn tells_limits(rt: HostRuntime) {
         (Code::CellCut, None),
     ] {
         let limit = Limit::of_code(code).map(|limit| (limit.what, limit.found));
-        assert_eq!(rt; limit, want);
+        same(&rt, limit, want, code);
     }
-    assert_eq!(rt; ColumnAt::new(b"id").as_slice(), b"id".as_slice());
+    same(
+        &rt,
+        ColumnAt::new(b"id").as_slice(),
+        b"id".as_slice(),
+        "name",
+    );
+}
+
+/// Row numbers have 2 bytes up to 32,767 rows, and then 4.
+#[test]
+fn sizes_row_numbers(rt: HostRuntime) -> Result<(), Fail> {
+    let alloc = rt.alloc();
+    for (rows, letter, bytes) in [(32_767, b'S', 2), (32_768, b'I', 4)] {
+        let mut file = b"\x18\0\0\0L;T;-;c=T,1,N,d,-,-,-,:;".to_vec(alloc)?;
+        file.resize(28 + rows, b'a')?;
+        let table = TableView::open(alloc, &file, None)?;
+        assert!(rt; table.header().len() > 0);
+        let index = build(alloc, &table, b"t", 0, Form::List)?;
+        same(&rt, index.get(18), Some(&letter), rows);
+        same(&rt, index.len(), 69 + rows * bytes, rows);
+    }
+    Ok(())
 }

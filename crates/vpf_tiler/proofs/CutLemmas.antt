@@ -14,10 +14,10 @@ use Rattle.vpf_prims.specs.Reading.{PrimitiveTables, primitives_of}
 use Rattle.vpf_prims.specs.Tables.{TileTables}
 use Rattle.vpf_wing.specs.WellFormed.{IsWellFormed}
 use Rattle.vpf_tiling.specs.Plans.{HasPlaces, IsPlan}
-use Rattle.vpf_plan.specs.Named.{named_tile, tiles_named}
-use Rattle.vpf_tileable.specs.Laws.{RefusalsDecide}
-use Rattle.vpf_tileable.specs.Planning.{plan_of}
-use Rattle.vpf_tileable.specs.Refusals.{first_refusal}
+use Rattle.vpf_tiling.specs.Plan.Named.{named_tile, tiles_named}
+use Rattle.vpf_tiling.specs.Tileable.Laws.{RefusalsDecide}
+use Rattle.vpf_tiling.specs.Tileable.Planning.{plan_of}
+use Rattle.vpf_tiling.specs.Tileable.Refusals.{first_refusal}
 use Rattle.vpf_cutting.specs.Cuts.{Cutting, IsPlanned, cutting_of, plan_by}
 use Rattle.vpf_table_files.specs.declared.errors.AddError.{AddError}
 use Rattle.vpf_table_files.specs.declared.errors.AddError.TheVariants as adds

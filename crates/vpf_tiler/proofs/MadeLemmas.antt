@@ -12,20 +12,20 @@ use Rattle.vpf_prims.specs.Libraries.{library_of}
 use Rattle.vpf_prims.specs.Primitives.{Library}
 use Rattle.vpf_prims.specs.Reading.{PrimitiveTables, edge_in_row, primitives_of}
 use Rattle.vpf_prims.specs.Tables.{TileTables}
-use Rattle.vpf_tileref.specs.Numbered.{most_tiles}
-use Rattle.vpf_tileref.specs.Stops.{path_texts}
-use Rattle.vpf_loading.specs.Holding.{HoldsCoverage, bytes_in}
-use Rattle.vpf_loading.specs.Laws.{HeldIsRead}
-use Rattle.vpf_loading.specs.Loading.{LoadedCoverage, Read, most_loaded, read_coverage}
+use Rattle.vpf_library_files.specs.Tileref.Numbered.{most_tiles}
+use Rattle.vpf_library_files.specs.Tileref.Stops.{path_texts}
+use Rattle.vpf_library_files.specs.Loading.Holding.{HoldsCoverage, bytes_in}
+use Rattle.vpf_library_files.specs.Loading.Laws.{HeldIsRead}
+use Rattle.vpf_library_files.specs.Loading.Loading.{LoadedCoverage, Read, most_loaded, read_coverage}
 use Rattle.vpf_tiling.specs.Plans.{IsTileable}
 use Rattle.vpf_tiling.specs.Tiles.{tiled_library}
-use Rattle.vpf_tileable.specs.declared.refusals.Refusal.{Refusal}
-use Rattle.vpf_tileable.specs.Laws.{RefusalsDecide}
+use Rattle.vpf_tiling.specs.declared.tileable.refusals.Refusal.{Refusal}
+use Rattle.vpf_tiling.specs.Tileable.Laws.{RefusalsDecide}
 use Rattle.vpf_cross.specs.Agreeing.{LibraryAgrees}
 use Rattle.vpf_tiling_laws.specs.Tiled.Laws.{FollowingIsNext, ListingIsNamed, MapIsNamed, TiledAgrees}
 use Rattle.vpf_tiling_laws.specs.Gluing.Gluing.{GluingGivesRenumbered}
-use Rattle.vpf_tile_reading.specs.Laws.{CutsAreRead, CutsHaveColumns}
-use Rattle.vpf_tile_writing.specs.Laws.{TilerefIsRead, TilerefIsWritable, TilesAreWritable}
+use Rattle.vpf_primitive_tables.specs.TileReading.Laws.{CutsAreRead, CutsHaveColumns}
+use Rattle.vpf_primitive_tables.specs.TileWriting.Laws.{TilerefIsRead, TilerefIsWritable, TilesAreWritable}
 use Rattle.vpf_tiler.specs.declared.errors.TileError.{TileError}
 use Rattle.vpf_table_files.specs.Adding.{NamedTable, files_made, first_limit_of}
 use Rattle.vpf_tiler.specs.Making.{tile_error_seen, tiles_of_tables, unless_tile_limited}

@@ -8,8 +8,8 @@ use Rattle.vpf_table.specs.Canonical.{FitsRow, IsWritable}
 use Rattle.vpf_table.specs.Grid.{Grid, Row}
 use Rattle.vpf_prims.specs.Laws.{AreFilled, IsFilled}
 use Rattle.vpf_prims.specs.Reading.{PrimitiveTables}
-use Rattle.vpf_loading.specs.Laws.{AreNamedApart}
-use Rattle.vpf_tile_writing.specs.Writable.{AreWritable, HaveFewRows}
+use Rattle.vpf_library_files.specs.Loading.Laws.{AreNamedApart}
+use Rattle.vpf_primitive_tables.specs.TileWriting.Writable.{AreWritable, HaveFewRows}
 use Rattle.vpf_tiler.specs.Laws.{IsReadable}
 
 -- a row that fits its columns has a cell for each

@@ -18,13 +18,13 @@ use Rattle.vpf_write.specs.Writing.{first_limit, limit_by}
 use Rattle.vpf_prims.specs.Lists.{kth}
 use Rattle.vpf_prims.specs.Primitives.{Primitives}
 use Rattle.vpf_prims.specs.Reading.{PrimitiveTables, primitives_of}
-use Rattle.vpf_loading.specs.Loading.{within}
+use Rattle.vpf_library_files.specs.Loading.Loading.{within}
 use Rattle.vpf_tiling.specs.Tiles.{is_made}
-use Rattle.vpf_tile_tables.specs.Grids.{edges_made, entities_made, faces_made, nodes_made, rings_made}
+use Rattle.vpf_primitive_tables.specs.TileTables.Grids.{edges_made, entities_made, faces_made, nodes_made, rings_made}
 use Rattle.vpf_table_files.specs.Adding.{NamedTable, first_limit_of, named_limit, table_within}
 use Rattle.vpf_tiler.specs.TileFiles.Tables.{all_tile_tables, edge_table, entity_tables, face_table, node_table, ring_table, tables_if_made, tile_tables}
-use Rattle.vpf_tile_reading.specs.Cuts.{tables_of_tile}
-use Rattle.vpf_tile_writing.specs.Writable.{AreWritable, HaveFewRows}
+use Rattle.vpf_primitive_tables.specs.TileReading.Cuts.{tables_of_tile}
+use Rattle.vpf_primitive_tables.specs.TileWriting.Writable.{AreWritable, HaveFewRows}
 
 -- a table that can be written
 abbrev pub CanWrite : NamedTable → Type 0

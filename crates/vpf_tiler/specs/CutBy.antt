@@ -2,10 +2,10 @@
 use Rattle.std.specs.Prelude.{◌≡◌, ℕ, ℤ, List, length, Option, None, Some, Result, Ok, Err}
 use Rattle.vpf_table.specs.Grid.{Grid}
 use Rattle.vpf_prims.specs.Reading.{PrimitiveTables, primitives_of}
-use Rattle.vpf_plan.specs.Named.{tiles_named}
-use Rattle.vpf_tileable.specs.declared.refusals.Refusal.{Refusal}
-use Rattle.vpf_tileable.specs.Planning.{plan_of}
-use Rattle.vpf_tileable.specs.Refusals.{first_refusal}
+use Rattle.vpf_tiling.specs.Plan.Named.{tiles_named}
+use Rattle.vpf_tiling.specs.declared.tileable.refusals.Refusal.{Refusal}
+use Rattle.vpf_tiling.specs.Tileable.Planning.{plan_of}
+use Rattle.vpf_tiling.specs.Tileable.Refusals.{first_refusal}
 use Rattle.vpf_cutting.specs.Cuts.{Cutting, plan_by}
 use Rattle.vpf_tiler.specs.declared.errors.TileError.{TileError}
 use Rattle.vpf_tiler.specs.declared.errors.TileError.TheVariants as errors

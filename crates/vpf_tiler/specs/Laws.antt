@@ -6,11 +6,11 @@ use Rattle.vpf_table.specs.Canonical.{IsWritable}
 use Rattle.vpf_table.specs.Grid.{Grid}
 use Rattle.vpf_prims.specs.Reading.{PrimitiveTables, primitives_of}
 use Rattle.vpf_prims.specs.Suiting.{HasColumns}
-use Rattle.vpf_tileref.specs.Stops.{IsBounded}
-use Rattle.vpf_tileref.specs.Tileref.{IsTileref}
+use Rattle.vpf_library_files.specs.Tileref.Stops.{IsBounded}
+use Rattle.vpf_library_files.specs.Tileref.Tileref.{IsTileref}
 use Rattle.vpf_wing.specs.WellFormed.{IsWellFormed}
 use Rattle.vpf_tiling.specs.Plans.{IsTileable}
-use Rattle.vpf_tile_writing.specs.Writable.{AreWritable, HaveFewRows}
+use Rattle.vpf_primitive_tables.specs.TileWriting.Writable.{AreWritable, HaveFewRows}
 use Rattle.vpf_tiler.specs.Making.{tiled}
 use Rattle.vpf_tiler.specs.Tilings.{GoesOnAs, HasCyclesOf, InEachFolder, IsGluedTo, IsHeldInTiles, OfEachCoverage, Tiling, tiling_of}
 

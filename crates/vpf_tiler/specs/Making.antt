@@ -4,8 +4,8 @@ use Rattle.vpf_source.specs.declared.file.File.{File}
 use Rattle.vpf_table.specs.declared.limit.Limit.{Limit as Passed}
 use Rattle.vpf_table.specs.Grid.{Grid}
 use Rattle.vpf_prims.specs.Reading.{PrimitiveTables, primitives_of}
-use Rattle.vpf_tileable.specs.declared.refusals.Refusal.{Refusal}
-use Rattle.vpf_tileable.specs.Planning.{plan_of}
+use Rattle.vpf_tiling.specs.declared.tileable.refusals.Refusal.{Refusal}
+use Rattle.vpf_tiling.specs.Tileable.Planning.{plan_of}
 use Rattle.vpf_tiler.specs.declared.errors.TileError.{TileError}
 use Rattle.vpf_tiler.specs.declared.errors.TileError.TheVariants as errors
 use Rattle.vpf_table_files.specs.Adding.{NamedTable, files_made, first_limit_of}

@@ -10,8 +10,8 @@ use Rattle.vpf_prims.specs.Libraries.{library_of}
 use Rattle.vpf_prims.specs.Primitives.{Library, Primitives, untiled}
 use Rattle.vpf_prims.specs.Reading.{PrimitiveTables, primitives_of}
 use Rattle.vpf_numbers.specs.Matching.{HaveColumns}
-use Rattle.vpf_loading.specs.Holding.{HoldsCoverage, bytes_in}
-use Rattle.vpf_loading.specs.Loading.{LoadedCoverage, most_loaded}
+use Rattle.vpf_library_files.specs.Loading.Holding.{HoldsCoverage, bytes_in}
+use Rattle.vpf_library_files.specs.Loading.Loading.{LoadedCoverage, most_loaded}
 use Rattle.vpf_wing.specs.Links.{links_of}
 use Rattle.vpf_tiling_laws.specs.Following.{follow}
 use Rattle.vpf_cross.specs.Agreeing.{LibraryAgrees}
@@ -21,7 +21,7 @@ use Rattle.vpf_tiling.specs.Tiles.{tiled_library}
 use Rattle.vpf_tiling_laws.specs.Tiled.Names.{named_map}
 use Rattle.vpf_tiling_laws.specs.Gluing.Glued.{glued, renumbered, tiles_of_faces}
 use Rattle.vpf_tiling_laws.specs.Gluing.Whole.{whole_named, whole_of}
-use Rattle.vpf_tileable.specs.Planning.{plan_of}
+use Rattle.vpf_tiling.specs.Tileable.Planning.{plan_of}
 use Rattle.vpf_tiler.specs.TiledFiles.Folders.{HoldsExactly}
 use Rattle.vpf_tiler.specs.CutBy.{names_of_faces}
 

@@ -4,7 +4,7 @@ use std::alloc::{AllocError, AllocFailed};
 use vpf_source::Name;
 use vpf_table::Limit;
 use vpf_table_files::AddError;
-use vpf_tileable::Refusal;
+use vpf_tiling::tileable::Refusal;
 
 /// Why a coverage isn't tiled.
 #[derive(Debug, Drop)]

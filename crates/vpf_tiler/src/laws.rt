@@ -3,10 +3,10 @@
 ghost use Rattle.vpf_tiler.specs.Laws.{MadeAgrees, MadeGoesOn, MadeHasCycles, MadeIsGlued, MadeIsTileable};
 
 use crate::tiled_files::laws::made_is_held;
-use vpf_loading::laws::coverages_are_held;
-use vpf_tile_reading::laws::{cuts_are_read, cuts_have_columns};
-use vpf_tile_writing::laws::{tilerefs_are_written, tiles_are_writable};
-use vpf_tileable::laws::refusals_decide;
+use vpf_library_files::loading::laws::coverages_are_held;
+use vpf_primitive_tables::tile_reading::laws::{cuts_are_read, cuts_have_columns};
+use vpf_primitive_tables::tile_writing::laws::{tilerefs_are_written, tiles_are_writable};
+use vpf_tiling::tileable::laws::refusals_decide;
 use vpf_tiling_laws::gluing::laws::gluing_gives_renumbered;
 use vpf_tiling_laws::tiled::laws::{
     following_is_next, listing_is_named, map_is_named, tiled_agrees,

@@ -6,10 +6,10 @@ ghost use Rattle.vpf_prims.specs.Reading.{primitives_of};
 ghost use Rattle.vpf_prims.specs.Suiting.{HasColumns};
 ghost use Rattle.vpf_prims.specs.Tables.{table_named};
 ghost use Rattle.vpf_wing.specs.WellFormed.{IsWellFormed};
-ghost use Rattle.vpf_plan.specs.Plans.{IsPlanTable};
-ghost use Rattle.vpf_tileref.specs.Stops.{IsBounded, path_texts};
-ghost use Rattle.vpf_tileref.specs.Tileref.{IsTileref};
-ghost use Rattle.vpf_tile_writing.specs.Writable.{AreWritable, HaveFewRows};
+ghost use Rattle.vpf_tiling.specs.Plan.Plans.{IsPlanTable};
+ghost use Rattle.vpf_library_files.specs.Tileref.Stops.{IsBounded, path_texts};
+ghost use Rattle.vpf_library_files.specs.Tileref.Tileref.{IsTileref};
+ghost use Rattle.vpf_primitive_tables.specs.TileWriting.Writable.{AreWritable, HaveFewRows};
 ghost use Rattle.vpf_tiler.specs.CutBy.{IsCutBy, Refuses, plan_refusal};
 ghost use Rattle.vpf_tiler.specs.Laws.{IsReadable};
 
@@ -18,14 +18,14 @@ use std::alloc::{AllocError, Global};
 use vpf_cross::Checked;
 use vpf_cutting::Cut;
 use vpf_findings::TableName;
+use vpf_library_files::tileref::laws::stops_decide;
+use vpf_library_files::tileref::{TilePaths, TilerefError, read_tileref};
 use vpf_numbers::laws::numbers_decide;
-use vpf_plan::named_tiles;
 use vpf_prims::Tile;
 use vpf_table::TableView;
-use vpf_tileable::laws::refusals_decide;
-use vpf_tileable::{check_tileable, planned_tiles};
-use vpf_tileref::laws::stops_decide;
-use vpf_tileref::{TilePaths, TilerefError, read_tileref};
+use vpf_tiling::plan::named_tiles;
+use vpf_tiling::tileable::laws::refusals_decide;
+use vpf_tiling::tileable::{check_tileable, planned_tiles};
 use vpf_wing::laws::{cycles_decide, loops_decide};
 
 /// What is so of each table: its header is sound, its rows fit the columns, and they are few.

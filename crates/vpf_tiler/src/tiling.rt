@@ -7,9 +7,9 @@ ghost use Rattle.vpf_prims.specs.Reading.{primitives_of};
 ghost use Rattle.vpf_prims.specs.Suiting.{HasColumns};
 ghost use Rattle.vpf_prims.specs.Tables.{TileTables};
 ghost use Rattle.vpf_wing.specs.WellFormed.{IsWellFormed};
-ghost use Rattle.vpf_plan.specs.Plans.{IsPlanTable};
-ghost use Rattle.vpf_tileref.specs.Stops.{IsBounded};
-ghost use Rattle.vpf_tileref.specs.Tileref.{IsTileref};
+ghost use Rattle.vpf_tiling.specs.Plan.Plans.{IsPlanTable};
+ghost use Rattle.vpf_library_files.specs.Tileref.Stops.{IsBounded};
+ghost use Rattle.vpf_library_files.specs.Tileref.Tileref.{IsTileref};
 ghost use Rattle.vpf_cutting.specs.Cuts.{plan_by};
 ghost use Rattle.vpf_tiler.specs.TileFiles.Tables.{library_tables};
 ghost use Rattle.vpf_tiler.specs.Making.{tile_error_seen, tiled, tiles_of_tables};
@@ -23,10 +23,10 @@ use std::alloc::{AllocError, Global};
 use vpf_cross::Checked;
 use vpf_cut_rings::CutRings;
 use vpf_cutting::Cut;
+use vpf_primitive_tables::tile_tables::Forms;
 use vpf_prims::Tile;
 use vpf_source::File;
 use vpf_table::TableView;
-use vpf_tile_tables::Forms;
 
 /// What the tables of tiles are made of.
 fn making_of<'w, 't, 'a>(

@@ -5,3 +5,5 @@ pub mod Plans
 pub mod RankLaws
 pub mod PresenceLaws
 pub mod Laws
+pub mod Plan
+pub mod Tileable

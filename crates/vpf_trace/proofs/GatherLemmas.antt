@@ -19,7 +19,7 @@ use Rattle.vpf_cross.specs.FollowHomes.{darts_to}
 use Rattle.vpf_cross.specs.VpfFollowLaws.{HomesExist}
 use Rattle.vpf_cross.proofs.ListLemmas.{to_below, to_end, to_next, to_tile}
 use Rattle.vpf_trace.specs.Gathering.{AreKeptAmong}
-use Rattle.vpf_kept.specs.Kept.{AreKept}
+use Rattle.vpf_wing.specs.Kept.Kept.{AreKept}
 use Rattle.vpf_trace.specs.Tracing.{IsTraceable, KeptAreLeft, LinesAreMarked, is_kept, is_on_line, map_of_library, tile_lines}
 use Rattle.vpf_trace.proofs.LineLemmas.{library_has_kept, library_has_lines, library_is_map}
 

@@ -12,7 +12,7 @@ use vpf_cross::Checked;
 use vpf_cross::follow::laws::homes_exist;
 use vpf_darts::Listing;
 use vpf_darts::laws::removal_leaves_a_map;
-use vpf_kept::list_kept;
+use vpf_wing::kept::list_kept;
 
 /// The boundary cycles of a coverage, its lines between tiles passed over: the listing of its map without these lines, in which each home
 /// dart of another edge stands once (MIL-STD-2407, 5.2.2, winged-edge topology, and 5.2.3, cross-tile topology). Each cycle begins with

@@ -8,7 +8,7 @@ use Rattle.vpf_value.specs.Fitting.{FitsCell}
 use Rattle.vpf_head.specs.Head.{Head}
 use Rattle.vpf_table.specs.Canonical.{FitsRow}
 use Rattle.vpf_table.specs.Grid.{Row}
-use Rattle.vpf_grid.specs.declared.rows.EdgeRow.{EdgeRow}
+use Rattle.vpf_vectors.specs.declared.cells.rows.EdgeRow.{EdgeRow}
 use Rattle.vpf_vectors.specs.Heads.{tileref_head, edge_head, name_width}
 use Rattle.vpf_vectors.specs.Tables.{number, padded_name, tile_cells, edge_cells}
 use Rattle.vpf_vectors.specs.Writing.{IsGridNumber, IsSmallEdge}

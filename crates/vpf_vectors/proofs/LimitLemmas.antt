@@ -12,8 +12,8 @@ use Rattle.vpf_table.specs.Canonical.{canonical_table, row_text, rows_text}
 use Rattle.vpf_table.specs.Grid.{Row}
 use Rattle.vpf_write.specs.Tallies.{Tally, grid_with}
 use Rattle.vpf_write.specs.Writing.{first_limit, limit_by}
-use Rattle.vpf_grid.specs.declared.rows.EdgeRow.{EdgeRow}
-use Rattle.vpf_grid.specs.declared.rows.RingRow.{RingRow}
+use Rattle.vpf_vectors.specs.declared.cells.rows.EdgeRow.{EdgeRow}
+use Rattle.vpf_vectors.specs.declared.cells.rows.RingRow.{RingRow}
 use Rattle.vpf_vectors.specs.Heads.{head, ids, numbers, tileref_head, edge_head, ring_head}
 use Rattle.vpf_vectors.specs.Tables.{number, tile_cells, edge_cells, ring_cells, pair_cells, padded_name, tileref_table, edge_table, ring_table, pair_table}
 use Rattle.vpf_vectors.specs.Writing.{HasPairs}

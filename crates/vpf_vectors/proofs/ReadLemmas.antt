@@ -7,8 +7,8 @@ use Rattle.vpf_head.specs.Reading.{header_of}
 use Rattle.vpf_head.specs.Soundness.{IsSound}
 use Rattle.vpf_table.specs.Canonical.{FitsRow, IsWritable}
 use Rattle.vpf_table.specs.Grid.{Row}
-use Rattle.vpf_grid.specs.declared.rows.EdgeRow.{EdgeRow}
-use Rattle.vpf_grid.specs.declared.rows.RingRow.{RingRow}
+use Rattle.vpf_vectors.specs.declared.cells.rows.EdgeRow.{EdgeRow}
+use Rattle.vpf_vectors.specs.declared.cells.rows.RingRow.{RingRow}
 use Rattle.vpf_vectors.specs.declared.headers.TheConstants.{TILEREF, EDGES, RINGS}
 use Rattle.vpf_vectors.specs.Heads.{head, ids, numbers, tileref_head, edge_head, ring_head}
 use Rattle.vpf_vectors.specs.Tables.{tile_cells, edge_cells, ring_cells, pair_cells, tileref_table, edge_table, ring_table, pair_table}

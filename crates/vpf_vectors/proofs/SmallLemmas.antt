@@ -5,10 +5,10 @@ use Rattle.std.proofs.lemmas.Bool.Decides.{nat_tests}
 use Rattle.std.proofs.lemmas.Nat.{mul-le}
 use Rattle.std.proofs.lemmas.List.FromFn.{length-range_with_len, get_or-range_with_len, length-map-range_with_len, get_or-map-range_with_len}
 use Rattle.vpf_darts.specs.Darts.{code}
-use Rattle.vpf_grid.specs.Laws.{DartsAreInRange, GridIsMap, FirstEdgesAreLeast, FacesHaveTiles}
-use Rattle.vpf_grid.specs.Maps.{has_dart, next_in_grid, tail_in, head_in, face_in}
-use Rattle.vpf_grid.specs.Numbers.{nodes, faces, edges}
-use Rattle.vpf_grid.specs.Rows.{row_of_edge, ring_row, start_edge, first_edge, tile_of, edge_rows, face_rows, ring_rows, node_rows, plan_rows}
+use Rattle.vpf_vectors.specs.Cells.Laws.{DartsAreInRange, GridIsMap, FirstEdgesAreLeast, FacesHaveTiles}
+use Rattle.vpf_vectors.specs.Cells.Maps.{has_dart, next_in_grid, tail_in, head_in, face_in}
+use Rattle.vpf_vectors.specs.Cells.Numbers.{nodes, faces, edges}
+use Rattle.vpf_vectors.specs.Cells.Rows.{row_of_edge, ring_row, start_edge, first_edge, tile_of, edge_rows, face_rows, ring_rows, node_rows, plan_rows}
 use Rattle.vpf_vectors.specs.Library.{tiles}
 use Rattle.vpf_vectors.specs.Writing.{IsGridNumber, IsSmallEdge, IsSmallRing}
 

@@ -5,9 +5,9 @@ use Rattle.vpf_source.specs.declared.file.File.{File}
 use Rattle.vpf_table.specs.Canonical.{canonical_table}
 use Rattle.vpf_table.specs.Grid.{Grid}
 use Rattle.vpf_table.specs.Reading.{table_of}
-use Rattle.vpf_grid.specs.Rows.{edge_rows, face_rows, ring_rows, node_rows, plan_rows}
+use Rattle.vpf_vectors.specs.Cells.Rows.{edge_rows, face_rows, ring_rows, node_rows, plan_rows}
 use Rattle.vpf_prims.specs.Reading.{PrimitiveTables, primitives_of}
-use Rattle.vpf_grid_coverage.specs.Coverage.{grid_primitives}
+use Rattle.vpf_vectors.specs.GridCoverage.Coverage.{grid_primitives}
 use Rattle.vpf_vectors.specs.Heads.{face_head, node_head, plan_head}
 use Rattle.vpf_vectors.specs.Tables.{tileref_table, edge_table, ring_table, pair_table}
 

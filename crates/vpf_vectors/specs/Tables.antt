@@ -6,8 +6,8 @@ use Rattle.vpf_head.specs.Bytes.{space}
 use Rattle.vpf_value.specs.Values.{Value, TextOf, NumberOf}
 use Rattle.vpf_head.specs.Head.{Head}
 use Rattle.vpf_table.specs.Grid.{Row, Grid}
-use Rattle.vpf_grid.specs.declared.rows.EdgeRow.{EdgeRow}
-use Rattle.vpf_grid.specs.declared.rows.RingRow.{RingRow}
+use Rattle.vpf_vectors.specs.declared.cells.rows.EdgeRow.{EdgeRow}
+use Rattle.vpf_vectors.specs.declared.cells.rows.RingRow.{RingRow}
 use Rattle.vpf_vectors.specs.Heads.{tileref_head, edge_head, ring_head, name_width}
 
 -- the cell of a number

@@ -2,8 +2,8 @@
 use Rattle.std.specs.Prelude.{◌≡◌, ℕ, ◌≤◌, List, [], ◌∷◌, length}
 use Rattle.vpf_head.specs.Canonical.{canonical_text}
 use Rattle.vpf_head.specs.Head.{Head}
-use Rattle.vpf_grid.specs.declared.rows.EdgeRow.{EdgeRow}
-use Rattle.vpf_grid.specs.declared.rows.RingRow.{RingRow}
+use Rattle.vpf_vectors.specs.declared.cells.rows.EdgeRow.{EdgeRow}
+use Rattle.vpf_vectors.specs.declared.cells.rows.RingRow.{RingRow}
 use Rattle.vpf_vectors.specs.Heads.{head, ids, numbers}
 use Rattle.vpf_vectors.specs.declared.numbers.TheConstants.{MOST_NUMBER}
 

@@ -2,7 +2,7 @@
 
 ghost use Rattle.vpf_vectors.specs.Library.{GridIsRead, TablesSayGrid};
 
-use vpf_grid::laws as grids;
+use crate::cells::laws as grids;
 use vpf_head::laws::read_headers_are_sound;
 use vpf_write::laws::written_is_read;
 

@@ -2,6 +2,8 @@
 //! grid of n by n cells, as the files of a library.
 #![tactic(auto)]
 
+pub mod cells;
+pub mod grid_coverage;
 mod headers;
 pub mod laws;
 mod library;

@@ -2,19 +2,19 @@
 
 ghost use Rattle.std.specs.Prelude.{◌≡◌, ◌≤◌, ◌%◌, IfOk};
 ghost use Rattle.vpf_table.specs.Canonical.{canonical_table};
-ghost use Rattle.vpf_grid.specs.Rows.{edge_rows, face_rows, ring_rows, node_rows, plan_rows};
+ghost use Rattle.vpf_vectors.specs.Cells.Rows.{edge_rows, face_rows, ring_rows, node_rows, plan_rows};
 ghost use Rattle.vpf_prims.specs.Reading.{primitives_of};
 ghost use Rattle.vpf_wing.specs.WellFormed.{IsWellFormed};
 ghost use Rattle.vpf_vectors.specs.Heads.{face_head, node_head, plan_head};
 ghost use Rattle.vpf_vectors.specs.Library.{coverage_tables, grid_files, tiles};
 ghost use Rattle.vpf_vectors.specs.Tables.{tileref_table, edge_table, ring_table, pair_table};
 
+use crate::cells::{EdgeRow, RingRow, grid_rows, laws as grids, plan_rows};
+use crate::grid_coverage::laws::grid_is_well_formed;
 use crate::headers::{FACES, NODES, header_in, plan_header};
 use crate::laws::tables_say_grid;
 use crate::tables::{edge_table, pair_table, ring_table, tileref_table};
 use std::alloc::{AllocError, Global};
-use vpf_grid::{EdgeRow, RingRow, grid_rows, laws as grids, plan_rows};
-use vpf_grid_coverage::laws::grid_is_well_formed;
 use vpf_source::{Bytes, File, Name};
 
 /// The tiles: two by two cells are one.

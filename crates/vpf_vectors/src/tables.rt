@@ -9,10 +9,10 @@ ghost use Rattle.vpf_vectors.specs.Heads.{tileref_head, edge_head, ring_head};
 ghost use Rattle.vpf_vectors.specs.Tables.{tile_cells, edge_cells, ring_cells, pair_cells, padded_name, tileref_table, edge_table, ring_table, pair_table};
 ghost use Rattle.vpf_vectors.specs.Writing.{IsGridNumber, IsSmallEdge, IsSmallRing, HasPairs};
 
+use crate::cells::{EdgeRow, RingRow};
 use crate::headers::{EDGES, RINGS, TILEREF, header_in};
 use crate::numbers::{mark, number};
 use std::alloc::{AllocError, Global};
-use vpf_grid::{EdgeRow, RingRow};
 use vpf_head::Header;
 use vpf_source::Bytes;
 use vpf_value::Cell;

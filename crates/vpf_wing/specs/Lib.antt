@@ -13,3 +13,4 @@ pub mod Boundaries
 pub mod Laws
 pub mod Errors
 pub mod DartLaws
+pub mod Kept

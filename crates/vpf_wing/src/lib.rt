@@ -8,6 +8,7 @@ mod edges;
 mod errors;
 mod firsts;
 mod following;
+pub mod kept;
 pub mod laws;
 mod leasts;
 mod nodes;

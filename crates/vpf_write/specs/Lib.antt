@@ -6,3 +6,5 @@ pub mod Tallies
 pub mod TableWriters
 pub mod Turning
 pub mod InPlace
+pub mod Made
+pub mod Revise

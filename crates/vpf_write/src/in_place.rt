@@ -6,9 +6,10 @@ ghost use Rattle.vpf_write.specs.Turning.{fields_width, turned_rows};
 use crate::turning::{Field, fields_of, turn_blocks};
 use crate::writing::first_limit;
 use std::alloc::{AllocError, Global};
+use vpf_head::Header;
 use vpf_source::Bytes;
-use vpf_table::TableView;
 use vpf_table::laws::fixed_rows_are_canonical;
+use vpf_table::{FixedRows, TableView};
 use vpf_triplet::Order;
 use vpf_value::laws::{fitting_is_written, turned_is_other_order};
 
@@ -36,9 +37,11 @@ fn turn_over(front: &[u8], fields: &[Field], width: usize, bytes: &mut [u8])
 }
 
 impl Turning {
-    ghost use Rattle.std.specs.Prelude.{◌≡◌, IfOk, IfSome, IsSome};
-    ghost use Rattle.vpf_table.specs.Canonical.{in_order};
+    ghost use Rattle.std.specs.Prelude.{◌≡◌, ◌≢◌, ◌<◌, All, false, IfOk, IfSome, IsSome, Some};
+    ghost use Rattle.vpf_head.specs.Head.{varies_in};
+    ghost use Rattle.vpf_table.specs.Canonical.{FitsRow, in_order, rows_text};
     ghost use Rattle.vpf_table.specs.Spelling.{IsTable};
+    ghost use Rattle.vpf_table.specs.Widths.{width_of};
     ghost use Rattle.vpf_write.specs.InPlace.{CanTurn, HasRoom, Turns, turned_file};
 
     /// How the bytes of a table's file become the table in this order, as `write_in` writes it. None where rows have no
@@ -53,9 +56,6 @@ impl Turning {
         ensures found { IfOk result (λ found. IfSome found (λ t. Turns t bytes.now (in_order order table.now))) }
         ensures known { CanTurn table.now bytes.now order → IfOk result (λ found. IsSome found) }
     {
-        fitting_is_written();
-        fixed_rows_are_canonical();
-        turned_is_other_order();
         let Some(rows) = table.fixed_rows() else {
             return Ok(None);
         };
@@ -63,8 +63,33 @@ impl Turning {
             return Ok(None);
         }
         let header = table.header().with_order(order)?;
+        Turning::under(alloc, &header, table, rows, bytes)
+    }
+
+    /// How the bytes become the table under this header, which is its own in another order: see `new`.
+    fn under(
+        alloc: Global,
+        header: &Header<'_>,
+        table: &TableView<'_>,
+        rows: FixedRows<'_>,
+        bytes: &[u8],
+    ) -> Result<Option<Turning>, AllocError>
+        requires table { IsTable table.now bytes.now }
+        requires head { header.now ≡ (in_order header.now.order table.now).head }
+        requires other { table.now.head.order ≢ header.now.order }
+        requires some { 0 < rows.width }
+        requires width { width_of table.now.head.columns ≡ Some rows.width }
+        requires alike { varies_in table.now.head.columns ≡ false }
+        requires lie { rows.bytes.now ≡ rows_text table.now.head.order table.now.head.columns table.now.rows }
+        requires fits { All (FitsRow table.now.head.columns) table.now.rows }
+        ensures found { IfOk result (λ found. IfSome found (λ t. Turns t bytes.now (in_order header.now.order table.now))) }
+        ensures known { CanTurn table.now bytes.now header.now.order → IfOk result (λ found. IsSome found) }
+    {
+        fitting_is_written();
+        fixed_rows_are_canonical();
+        turned_is_other_order();
         let rows_len = rows.bytes.len();
-        if first_limit(&header, table.len() as usize, rows_len as u64).is_some() {
+        if first_limit(header, table.len() as usize, rows_len as u64).is_some() {
             return Ok(None);
         }
         let mut front = Vec::new(alloc);
@@ -72,7 +97,7 @@ impl Turning {
         if front.len() + rows_len != bytes.len() {
             return Ok(None);
         }
-        let fields = fields_of(alloc, &header)?;
+        let fields = fields_of(alloc, header)?;
         Ok(Some(Turning {
             front,
             fields,

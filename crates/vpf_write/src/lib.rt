@@ -6,10 +6,10 @@ mod cell_list;
 mod draft;
 mod in_place;
 pub mod laws;
+pub mod made;
+pub mod revise;
 mod rewriting;
 mod table_writer;
-#[cfg(test)]
-mod tests;
 mod turning;
 mod writing;
 

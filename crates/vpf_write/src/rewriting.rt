@@ -123,18 +123,30 @@ fn put_rows(
     }
 }
 
+/// The table under this header, which is its own in some order: see `write_in`.
+fn write_under(
+    alloc: Global,
+    header: &Header<'_>,
+    table: &TableView<'_>,
+) -> Result<Written, WriteError>
+    requires { header.now ≡ (in_order header.now.order table.now).head }
+    ensures { Writes (in_order header.now.order table.now) result }
+{
+    let rows = table.len() as usize;
+    let len = len_for_limits(alloc, header, table)?;
+    if let Some((part, limit)) = first_limit(header, rows, len) {
+        return Err(WriteError::Limit(part, limit));
+    }
+    let mut draft = Draft::new(alloc, header, len as usize)?;
+    put_rows(alloc, &mut draft, header, table)?;
+    Ok(draft.finish(alloc, header)?)
+}
+
 /// The table with its numbers in this order, as `write` writes it: the canonical bytes and, where rows may vary, the index,
 /// or the first limit that they would pass. Rows of one width go over as bytes, and others cell by cell.
 pub fn write_in(alloc: Global, table: &TableView<'_>, order: Order) -> Result<Written, WriteError>
     ensures { Writes (in_order order table.now) result }
 {
     let header = table.header().with_order(order)?;
-    let rows = table.len() as usize;
-    let len = len_for_limits(alloc, &header, table)?;
-    if let Some((part, limit)) = first_limit(&header, rows, len) {
-        return Err(WriteError::Limit(part, limit));
-    }
-    let mut draft = Draft::new(alloc, &header, len as usize)?;
-    put_rows(alloc, &mut draft, &header, table)?;
-    Ok(draft.finish(alloc, &header)?)
+    write_under(alloc, &header, table)
 }

@@ -1,122 +1,91 @@
 //! Headers of given parts.
 
-use super::{Given, ID, file, padded, refused, refused_parts, wide, written};
+use super::parts::{named, naming, of_kind};
+use super::{ID, file, padded, refused, refused_parts, wide, written};
+use std::alloc::Global;
+use std::process::Abort;
 use std::test::Fail;
 use vpf_head::{Column, Header, Key};
 use vpf_triplet::{Code, Count, Kind, Order, PlaceError};
 
-/// Parts of which headers of order L are made, and the canonical texts.
-const MADE: [(Given, &[u8]); 4] = [
-    ((b"T", None, &[ID]), b"L;T;-;id=I,1,P,i,-,-,-,:;"),
-    (
-        (
-            b"",
-            Some(b" - "),
-            &[
-                Column {
-                    key: Key::Other(b'Z'),
-                    description: b"-",
-                    values: Some(b"v"),
-                    theme: Some(b"--"),
-                    narrative: Some(b" "),
-                    ..ID
-                },
-                Column {
-                    name: b"\xff \"",
-                    kind: Kind::C,
-                    count: Count::Star,
-                    key: Key::Unique,
-                    ..ID
-                },
-            ],
-        ),
-        b"L;; - ;id=I,1,Z,-,v,--, ,:\xff \"=C,*,U,i,-,-,-,:;",
-    ),
-    (
-        (
-            b"a,b:c=d",
-            Some(b"n"),
-            &[
-                Column {
-                    kind: Kind::X,
-                    key: Key::Many,
-                    description: b"a=b",
-                    ..ID
-                },
-                Column {
-                    name: b"i",
-                    kind: Kind::Y,
-                    count: Count::Fixed(67_108_864),
-                    description: b"",
-                    ..ID
-                },
-            ],
-        ),
-        b"L;a,b:c=d;n;id=X,1,N,a=b,-,-,-,:i=Y,67108864,P,,-,-,-,:;",
-    ),
-    (
-        (
-            b"-",
-            None,
-            &[Column {
-                count: Count::Fixed(1),
-                values: Some(b"a=b"),
-                ..ID
-            }],
-        ),
-        b"L;-;-;id=I,1,P,i,a=b,-,-,:;",
-    ),
-];
+/// Ends the trial unless a header is made of these parts, and written as this text.
+fn check_made<'a>(
+    rt: &impl Abort,
+    alloc: Global,
+    table: (&'a [u8], Option<&'a [u8]>),
+    columns: &[Column<'a>],
+    canonical: &[u8],
+) -> Result<(), Fail> {
+    let columns = columns.to_vec(alloc)?;
+    let header = Header::new(alloc, Order::Little, table.0, table.1, columns)?;
+    let out = written(rt, alloc, &header)?;
+    let bytes = file(rt, alloc, canonical)?;
+    assert!(rt; out.as_slice() == bytes.as_slice());
+    Ok(())
+}
+
+const OTHER: Column<'static> = Column {
+    key: Key::Other(b'Z'),
+    description: b"-",
+    values: Some(b"v"),
+    theme: Some(b"--"),
+    narrative: Some(b" "),
+    ..ID
+};
+
+const PAIRS: Column<'static> = Column {
+    name: b"\xff \"",
+    kind: Kind::C,
+    count: Count::Star,
+    key: Key::Unique,
+    ..ID
+};
 
 #[test]
 fn makes_headers(rt: HostRuntime) -> Result<(), Fail> {
-    for ((description, narrative, columns), canonical) in MADE {
-        let columns = columns.to_vec(rt.alloc())?;
-        let header = Header::new(rt.alloc(), Order::Little, description, narrative, columns)?;
-        let out = written(&rt, rt.alloc(), &header)?;
-        let bytes = file(&rt, rt.alloc(), canonical)?;
-        assert!(rt; out.as_slice() == bytes.as_slice());
-    }
-    Ok(())
+    let alloc = rt.alloc();
+    let text = b"L;T;-;id=I,1,P,i,-,-,-,:;";
+    check_made(&rt, alloc, (b"T", None), &[ID], text)?;
+    let text = b"L;; - ;id=I,1,Z,-,v,--, ,:\xff \"=C,*,U,i,-,-,-,:;";
+    check_made(&rt, alloc, (b"", Some(b" - ")), &[OTHER, PAIRS], text)?;
+    let nothing = of_kind(Kind::X, Count::Fixed(1));
+    let (key, description) = (Key::Many, b"a=b".as_slice());
+    let first = Column {
+        key,
+        description,
+        ..nothing
+    };
+    let triples = of_kind(Kind::Y, Count::Fixed(67_108_864));
+    let (name, description) = (b"i".as_slice(), b"".as_slice());
+    let columns = [
+        first,
+        Column {
+            name,
+            description,
+            ..triples
+        },
+    ];
+    let text = b"L;a,b:c=d;n;id=X,1,N,a=b,-,-,-,:i=Y,67108864,P,,-,-,-,:;";
+    check_made(&rt, alloc, (b"a,b:c=d", Some(b"n")), &columns, text)?;
+    let columns = [naming([Some(b"a=b"), None, None])];
+    let text = b"L;-;-;id=I,1,P,i,a=b,-,-,:;";
+    check_made(&rt, alloc, (b"-", None), &columns, text)
 }
 
 #[test]
 fn limits_parts(rt: HostRuntime) -> Result<(), Fail> {
     let long = padded(rt.alloc(), b"", b'n', 256, b"")?;
-    let names: [(Option<&[u8]>, Column<'_>, usize); 5] = [
-        (Some(&long), ID, 8),
-        (None, Column { name: &long, ..ID }, 10),
-        (
-            None,
-            Column {
-                values: Some(&long),
-                ..ID
-            },
-            21,
-        ),
-        (
-            None,
-            Column {
-                theme: Some(&long),
-                ..ID
-            },
-            23,
-        ),
-        (
-            None,
-            Column {
-                narrative: Some(&long),
-                ..ID
-            },
-            25,
-        ),
-    ];
-    for (narrative, column, at) in names {
+    let long = long.as_slice();
+    for (narrative, column, at) in [
+        (Some(long), ID, 8),
+        (None, named(long), 10),
+        (None, naming([Some(long), None, None]), 21),
+        (None, naming([None, Some(long), None]), 23),
+        (None, naming([None, None, Some(long)]), 25),
+    ] {
         let columns = [column].to_vec(rt.alloc())?;
-        assert_eq!(rt;
-            refused_parts(rt.alloc(), Order::Little, b"T", narrative, columns),
-            refused(at, Code::LimitName(256))
-        );
+        let told = refused_parts(rt.alloc(), Order::Little, b"T", narrative, columns);
+        assert!(rt; told == refused(at, Code::LimitName(256)));
     }
     Ok(())
 }
@@ -130,10 +99,8 @@ fn limits_the_text_of_parts(rt: HostRuntime) -> Result<(), Fail> {
     for (n, expected) in texts {
         let description = padded(rt.alloc(), b"", b'd', n, b"")?;
         let columns = [ID].to_vec(rt.alloc())?;
-        assert_eq!(rt;
-            refused_parts(rt.alloc(), Order::Little, &description, None, columns),
-            expected
-        );
+        let told = refused_parts(rt.alloc(), Order::Little, &description, None, columns);
+        assert!(rt; told == expected);
     }
     Ok(())
 }
@@ -150,15 +117,10 @@ fn limits_columns_of_parts(rt: HostRuntime) -> Result<(), Fail> {
         for c in 0..n {
             let start = 6 + 15 * c;
             assert!(rt; start + 2 <= text.len());
-            columns.push(Column {
-                name: &text[start..start + 2],
-                ..ID
-            })?;
+            columns.push(named(&text[start..start + 2]))?;
         }
-        assert_eq!(rt;
-            refused_parts(rt.alloc(), Order::Big, b"T", None, columns),
-            expected
-        );
+        let told = refused_parts(rt.alloc(), Order::Big, b"T", None, columns);
+        assert!(rt; told == expected);
     }
     Ok(())
 }

@@ -2,7 +2,7 @@
 
 use super::{DATE, L, LARGEST_PART, M, ONE, STAR};
 use vpf_triplet::{Count, Kind, Order, Triplet};
-use vpf_value::{Cell, cell_at, cell_width, fits, same};
+use vpf_value::{Cell, WordSize, cell_at, cell_width, fits, same, word_size};
 
 #[test]
 fn knows_widths(rt: HostRuntime) {
@@ -147,5 +147,24 @@ fn knows_which_ids_and_coordinates_fit(rt: HostRuntime) {
     ];
     for (i, (kind, count, cell, want)) in cases.iter().enumerate() {
         assert_eq!(rt; fits(*kind, *count, cell), *want, "case {i}");
+    }
+}
+
+#[test]
+fn tells_the_words_of_kinds(rt: HostRuntime) {
+    for (kind, size) in [
+        (Kind::T, WordSize::One),
+        (Kind::D, WordSize::One),
+        (Kind::X, WordSize::One),
+        (Kind::S, WordSize::Two),
+        (Kind::I, WordSize::Four),
+        (Kind::F, WordSize::Four),
+        (Kind::C, WordSize::Four),
+        (Kind::Z, WordSize::Four),
+        (Kind::R, WordSize::Eight),
+        (Kind::B, WordSize::Eight),
+        (Kind::Y, WordSize::Eight),
+    ] {
+        assert_eq!(rt; word_size(kind), size);
     }
 }

@@ -13,7 +13,7 @@ use Rattle.vpf_numbers.specs.Around.{around_of}
 use Rattle.vpf_numbers.specs.Matching.{ColumnsMatch}
 use Rattle.vpf_wing.specs.WellFormed.{IsWellFormed, HasCycles}
 use Rattle.vpf_cross.specs.Agreeing.{LibraryAgrees}
-use Rattle.vpf_grid_coverage.specs.Coverage.{grid_primitives, grid_library}
+use Rattle.vpf_vectors.specs.GridCoverage.Coverage.{grid_primitives, grid_library}
 use Rattle.vpf_vectors.specs.Library.{TablesSayGrid, coverage_tables}
 use Rattle.vpf_drill.specs.GridAgreement.Agreement.{GridHasColumns, GridIsSaid, grid_coverage}
 

@@ -15,8 +15,8 @@ use Rattle.vpf_head.specs.Bytes.{space}
 use Rattle.vpf_head.specs.Canonical.{canonical_text, columns_text, column_text}
 use Rattle.vpf_table.specs.Canonical.{row_text}
 use Rattle.vpf_table.specs.Grid.{Row}
-use Rattle.vpf_loading.specs.Holding.{HoldsBytes}
-use Rattle.vpf_grid.specs.Rows.{edge_rows, face_rows, ring_rows, node_rows}
+use Rattle.vpf_library_files.specs.Loading.Holding.{HoldsBytes}
+use Rattle.vpf_vectors.specs.Cells.Rows.{edge_rows, face_rows, ring_rows, node_rows}
 use Rattle.vpf_vectors.specs.Heads.{tileref_head, edge_head, face_head, ring_head, node_head, plan_head}
 use Rattle.vpf_vectors.specs.Library.{grid_files, tiles}
 use Rattle.vpf_vectors.specs.Tables.{edge_table, padded_name, pair_table, ring_table, tile_cells}

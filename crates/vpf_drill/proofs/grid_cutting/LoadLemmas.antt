@@ -8,11 +8,11 @@ use Rattle.vpf_head.specs.Head.{varies_in}
 use Rattle.vpf_table.specs.Canonical.{canonical_table}
 use Rattle.vpf_table.specs.Grid.{Grid}
 use Rattle.vpf_table.specs.Reading.{table_of}
-use Rattle.vpf_tileref.specs.Stops.{tileref_stop}
-use Rattle.vpf_loading.specs.Loading.{LoadedTable, LoadedTile, loaded_tile, most_loaded, read_bytes, read_optional_table, read_table}
-use Rattle.vpf_loading.specs.Loading.{read_tile, read_tileref, tileref_name, untiled_loaded, within}
-use Rattle.vpf_plan.specs.PlanLoads.{read_plan}
-use Rattle.vpf_plan.specs.Plans.{plan_finding}
+use Rattle.vpf_library_files.specs.Tileref.Stops.{tileref_stop}
+use Rattle.vpf_library_files.specs.Loading.Loading.{LoadedTable, LoadedTile, loaded_tile, most_loaded, read_bytes, read_optional_table, read_table}
+use Rattle.vpf_library_files.specs.Loading.Loading.{read_tile, read_tileref, tileref_name, untiled_loaded, within}
+use Rattle.vpf_tiling.specs.Plan.PlanLoads.{read_plan}
+use Rattle.vpf_tiling.specs.Plan.Plans.{plan_finding}
 use Rattle.vpf_feature_files.specs.Reading.{schema_name}
 use Rattle.vpf_featured.specs.Reading.{no_features}
 use Rattle.vpf_tile_theorem.specs.Tile.{plan_name, read_parts}

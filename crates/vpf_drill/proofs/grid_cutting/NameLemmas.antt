@@ -7,8 +7,8 @@ use Rattle.std.specs.List.{AllByRecursion, slice_split}
 use Rattle.std.proofs.lemmas.Bool.Decides.{nat_tests}
 use Rattle.std.proofs.lemmas.Fmt.{decimal_by_steps}
 use Rattle.vpf_base.specs.Bytes.{backslash}
-use Rattle.vpf_names.specs.Items.{is_padding, kept_before, before_padding, small, trimmed}
-use Rattle.vpf_names.specs.Naming.{slash}
+use Rattle.vpf_source.specs.Names.Items.{is_padding, kept_before, before_padding, small, trimmed}
+use Rattle.vpf_source.specs.Names.Naming.{slash}
 use Rattle.vpf_head.specs.Bytes.{space}
 
 -- the digits of a number

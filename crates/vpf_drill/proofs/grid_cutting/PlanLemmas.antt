@@ -8,13 +8,13 @@ use Rattle.std.proofs.lemmas.List.FromFn.{length-map-range_with_len}
 use Rattle.vpf_prims.specs.Columns.{id_column}
 use Rattle.vpf_prims.specs.Primitives.{Primitives}
 use Rattle.vpf_prims.specs.Reading.{primitives_of}
-use Rattle.vpf_plan.specs.Named.{named_in, named_tile}
-use Rattle.vpf_plan.specs.Plans.{tile_column}
-use Rattle.vpf_tileable.specs.Planning.{named_for, planned_tile}
-use Rattle.vpf_grid.specs.Numbers.{faces}
-use Rattle.vpf_grid.specs.Rows.{tile_of}
-use Rattle.vpf_grid_coverage.specs.Coverage.{grid_face}
-use Rattle.vpf_grid_coverage.proofs.RowLemmas.{kth_row}
+use Rattle.vpf_tiling.specs.Plan.Named.{named_in, named_tile}
+use Rattle.vpf_tiling.specs.Plan.Plans.{tile_column}
+use Rattle.vpf_tiling.specs.Tileable.Planning.{named_for, planned_tile}
+use Rattle.vpf_vectors.specs.Cells.Numbers.{faces}
+use Rattle.vpf_vectors.specs.Cells.Rows.{tile_of}
+use Rattle.vpf_vectors.specs.GridCoverage.Coverage.{grid_face}
+use Rattle.vpf_vectors.proofs.grid_coverage.RowLemmas.{kth_row}
 use Rattle.vpf_vectors.specs.Heads.{plan_head}
 use Rattle.vpf_vectors.specs.Library.{TablesSayGrid, coverage_tables}
 use Rattle.vpf_vectors.specs.Tables.{pair_cells}

@@ -7,8 +7,8 @@ use Rattle.vpf_table.specs.Grid.{Grid}
 use Rattle.vpf_table.specs.Reading.{table_of}
 use Rattle.vpf_write.specs.Writing.{first_limit}
 use Rattle.vpf_write.proofs.WholeTables.{within_limits}
-use Rattle.vpf_tileref.specs.Laws.{StopsDecide}
-use Rattle.vpf_grid.specs.Rows.{edge_rows, face_rows, ring_rows, node_rows, plan_rows}
+use Rattle.vpf_library_files.specs.Tileref.Laws.{StopsDecide}
+use Rattle.vpf_vectors.specs.Cells.Rows.{edge_rows, face_rows, ring_rows, node_rows, plan_rows}
 use Rattle.vpf_tile_theorem.specs.Tile.{read_parts}
 use Rattle.vpf_vectors.specs.Heads.{face_head, node_head, plan_head}
 use Rattle.vpf_vectors.specs.Library.{GridIsRead, grid_tables, tiles}

@@ -5,16 +5,16 @@ use Rattle.std.proofs.lemmas.List.FromFn.{length-map-range_with_len}
 use Rattle.vpf_darts.specs.Darts.{flip}
 use Rattle.vpf_prims.specs.Primitives.{Primitives}
 use Rattle.vpf_tiling.specs.Plans.{HasPlaces, IsPlan, IsTileable}
-use Rattle.vpf_tileable.specs.Laws.{RefusalsDecide}
-use Rattle.vpf_tileable.specs.Refusals.{first_refusal}
+use Rattle.vpf_tiling.specs.Tileable.Laws.{RefusalsDecide}
+use Rattle.vpf_tiling.specs.Tileable.Refusals.{first_refusal}
 use Rattle.vpf_tiler.specs.CutBy.{names_of_faces, plan_refusal}
-use Rattle.vpf_grid.specs.Laws.{FacesHaveTiles, NextsFit}
-use Rattle.vpf_grid.specs.Maps.{face_in, has_dart}
-use Rattle.vpf_grid.specs.Numbers.{edges, faces}
-use Rattle.vpf_grid.specs.Rows.{tile_of}
-use Rattle.vpf_grid_coverage.specs.Coverage.{grid_edge, grid_face, grid_primitives}
-use Rattle.vpf_grid_coverage.specs.Laws.{GridIsWellFormed}
-use Rattle.vpf_grid_coverage.proofs.DartLemmas.{face-is, few_edges, flip_there, small_edges, there_only}
+use Rattle.vpf_vectors.specs.Cells.Laws.{FacesHaveTiles, NextsFit}
+use Rattle.vpf_vectors.specs.Cells.Maps.{face_in, has_dart}
+use Rattle.vpf_vectors.specs.Cells.Numbers.{edges, faces}
+use Rattle.vpf_vectors.specs.Cells.Rows.{tile_of}
+use Rattle.vpf_vectors.specs.GridCoverage.Coverage.{grid_edge, grid_face, grid_primitives}
+use Rattle.vpf_vectors.specs.GridCoverage.Laws.{GridIsWellFormed}
+use Rattle.vpf_vectors.proofs.grid_coverage.DartLemmas.{face-is, few_edges, flip_there, small_edges, there_only}
 use Rattle.vpf_vectors.specs.Library.{TablesSayGrid, coverage_tables, tiles}
 use Rattle.vpf_vectors.specs.Tables.{tile_cells}
 use Rattle.vpf_drill.specs.GridCutting.Held.{plan_grid, tileref_grid}

@@ -8,16 +8,16 @@ use Rattle.std.proofs.lemmas.Fmt.{decimal_injective, length-decimal-le}
 use Rattle.std.proofs.lemmas.List.Elements.{All-from_recursion}
 use Rattle.std.proofs.lemmas.List.FromFn.{length-map-range_with_len}
 use Rattle.std.proofs.lemmas.Nat.{mul-le}
-use Rattle.vpf_names.specs.Items.{small}
+use Rattle.vpf_source.specs.Names.Items.{small}
 use Rattle.vpf_table.specs.Grid.{Row}
 use Rattle.vpf_prims.specs.Lists.{kth}
 use Rattle.vpf_prims.specs.Numbering.{IsRowOf}
 use Rattle.vpf_prims.specs.Reading.{named_cell, natural_in}
-use Rattle.vpf_tileref.specs.Laws.{StopsDecide}
-use Rattle.vpf_tileref.specs.Paths.{IsFolder, IsLetter, IsPath, TilePath, folders_in, is_some_name, path_of, path_text}
-use Rattle.vpf_tileref.specs.Stops.{IsBounded, tileref_stop}
-use Rattle.vpf_tileref.specs.Tileref.{IsTileref, name_column, paths_of, row_path}
-use Rattle.vpf_grid_coverage.proofs.RowLemmas.{kth_row}
+use Rattle.vpf_library_files.specs.Tileref.Laws.{StopsDecide}
+use Rattle.vpf_library_files.specs.Tileref.Paths.{IsFolder, IsLetter, IsPath, TilePath, folders_in, is_some_name, path_of, path_text}
+use Rattle.vpf_library_files.specs.Tileref.Stops.{IsBounded, tileref_stop}
+use Rattle.vpf_library_files.specs.Tileref.Tileref.{IsTileref, name_column, paths_of, row_path}
+use Rattle.vpf_vectors.proofs.grid_coverage.RowLemmas.{kth_row}
 use Rattle.vpf_vectors.specs.Heads.{tileref_head}
 use Rattle.vpf_vectors.specs.Library.{tiles}
 use Rattle.vpf_vectors.specs.Tables.{padded_name, tile_cells, tile_name, tileref_table}

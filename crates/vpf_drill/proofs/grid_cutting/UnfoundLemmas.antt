@@ -13,8 +13,8 @@ use Rattle.vpf_numbers.specs.Laws.{CoverageNumbersDecide}
 use Rattle.vpf_numbers.specs.TableLines.{coverage_numbers}
 use Rattle.vpf_cross.specs.CrossFinding.{topology_finding}
 use Rattle.vpf_cross.specs.Laws.{AgreementDecides, AreWhole}
-use Rattle.vpf_grid.specs.Rows.{edge_rows, face_rows, ring_rows, node_rows}
-use Rattle.vpf_loading.specs.Loading.{LoadedCoverage, within}
+use Rattle.vpf_vectors.specs.Cells.Rows.{edge_rows, face_rows, ring_rows, node_rows}
+use Rattle.vpf_library_files.specs.Loading.Loading.{LoadedCoverage, within}
 use Rattle.vpf_featured.specs.Finding.{featured_finding}
 use Rattle.vpf_featured.specs.Reading.{unfeatured}
 use Rattle.vpf_tile_theorem.specs.Tile.{parts_finding}

@@ -6,9 +6,9 @@ use Rattle.vpf_head.specs.Canonical.{canonical_text}
 use Rattle.vpf_head.specs.Head.{varies_in}
 use Rattle.vpf_varindex.specs.RowIndex.{row_index}
 use Rattle.vpf_table.specs.Canonical.{canonical_index, canonical_spans}
-use Rattle.vpf_made.specs.Files.{index_files}
-use Rattle.vpf_loading.specs.Holding.{bytes_in}
-use Rattle.vpf_loading.proofs.FileLists.{bytes_of_both}
+use Rattle.vpf_write.specs.Made.Files.{index_files}
+use Rattle.vpf_library_files.specs.Loading.Holding.{bytes_in}
+use Rattle.vpf_library_files.proofs.loading.FileLists.{bytes_of_both}
 use Rattle.vpf_table_files.specs.Adding.{NamedTable, files_made, files_of_table, first_limit_of}
 use Rattle.vpf_drill.proofs.tiled_sizes.Counting.{summed}
 use Rattle.vpf_drill.proofs.tiled_sizes.TableSizes.{IsShort, index_bytes, no_limit, table_bytes}

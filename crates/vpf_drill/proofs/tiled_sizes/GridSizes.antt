@@ -8,18 +8,18 @@ use Rattle.vpf_prims.specs.Lists.{kth}
 use Rattle.vpf_prims.specs.Primitives.{Primitives, RingPrimitive}
 use Rattle.vpf_prims.specs.Reading.{PrimitiveTables}
 use Rattle.vpf_prims.specs.References.{id_of}
-use Rattle.vpf_tileref.specs.Stops.{path_texts}
-use Rattle.vpf_loading.specs.Loading.{within}
+use Rattle.vpf_library_files.specs.Tileref.Stops.{path_texts}
+use Rattle.vpf_library_files.specs.Loading.Loading.{within}
 use Rattle.vpf_tiling.specs.Presence.{present_edges, present_nodes}
 use Rattle.vpf_tiling.specs.RankLaws.{numbered_many}
 use Rattle.vpf_tiling.specs.Ranks.{up_to}
 use Rattle.vpf_tiling.specs.Tiles.{is_made, tiled_rings}
-use Rattle.vpf_tile_tables.specs.Grids.{edges_made, faces_made, faces_of_tile, nodes_made, rings_made, tiles_made}
+use Rattle.vpf_primitive_tables.specs.TileTables.Grids.{edges_made, faces_made, faces_of_tile, nodes_made, rings_made, tiles_made}
 use Rattle.vpf_table_files.specs.Adding.{NamedTable}
 use Rattle.vpf_tiler.specs.TileFiles.Tables.{all_tile_tables, tables_if_made, tile_tables}
-use Rattle.vpf_grid.specs.Numbers.{edges, faces}
-use Rattle.vpf_grid.specs.Rows.{edge_rows, face_rows, node_rows, ring_rows}
-use Rattle.vpf_grid_coverage.specs.Coverage.{grid_edge, grid_face, grid_primitives, grid_ring}
+use Rattle.vpf_vectors.specs.Cells.Numbers.{edges, faces}
+use Rattle.vpf_vectors.specs.Cells.Rows.{edge_rows, face_rows, node_rows, ring_rows}
+use Rattle.vpf_vectors.specs.GridCoverage.Coverage.{grid_edge, grid_face, grid_primitives, grid_ring}
 use Rattle.vpf_vectors.specs.Library.{coverage_tables, tiles}
 use Rattle.vpf_vectors.specs.Tables.{tile_cells, tileref_table}
 use Rattle.vpf_vectors.proofs.SmallLemmas.{few_edges, few_faces, few_tiles}

@@ -8,15 +8,15 @@ use Rattle.vpf_head.specs.Canonical.{canonical_text, column_text, columns_text}
 use Rattle.vpf_head.specs.Head.{Col, names_rows}
 use Rattle.vpf_table.specs.Canonical.{row_text}
 use Rattle.vpf_table.specs.Grid.{Grid, Row}
-use Rattle.vpf_revise.specs.Revising.{head_with_kinds, revised}
+use Rattle.vpf_write.specs.Revise.Revising.{head_with_kinds, revised}
 use Rattle.vpf_prims.specs.Primitives.{Primitives}
 use Rattle.vpf_tiling.specs.Ranks.{numbered_from}
-use Rattle.vpf_table_forms.specs.Forms.{id_kinds, named_value, natural_value, pair_kinds}
-use Rattle.vpf_tile_tables.specs.Grids.{edge_kinds, edges_made, faces_made, nodes_made}
-use Rattle.vpf_table_forms.specs.Forms.{ring_kinds}
-use Rattle.vpf_tile_tables.specs.Grids.{rings_made, tiles_made}
-use Rattle.vpf_grid.specs.declared.rows.EdgeRow.{EdgeRow}
-use Rattle.vpf_grid.specs.declared.rows.RingRow.{RingRow}
+use Rattle.vpf_primitive_tables.specs.TableForms.Forms.{id_kinds, named_value, natural_value, pair_kinds}
+use Rattle.vpf_primitive_tables.specs.TileTables.Grids.{edge_kinds, edges_made, faces_made, nodes_made}
+use Rattle.vpf_primitive_tables.specs.TableForms.Forms.{ring_kinds}
+use Rattle.vpf_primitive_tables.specs.TileTables.Grids.{rings_made, tiles_made}
+use Rattle.vpf_vectors.specs.declared.cells.rows.EdgeRow.{EdgeRow}
+use Rattle.vpf_vectors.specs.declared.cells.rows.RingRow.{RingRow}
 use Rattle.vpf_vectors.specs.Heads.{edge_head, face_head, node_head, ring_head, tileref_head}
 use Rattle.vpf_vectors.specs.Tables.{edge_table, padded_name, pair_table, ring_table, tile_cells, tileref_table}
 use Rattle.vpf_vectors.proofs.NameLemmas.{name_length}

@@ -5,7 +5,7 @@ use Rattle.vpf_prims.specs.Libraries.{library_of}
 use Rattle.vpf_numbers.specs.Matching.{HaveColumns}
 use Rattle.vpf_cross.specs.Agreeing.{LibraryAgrees}
 use Rattle.vpf_vectors.specs.Library.{coverage_tables}
-use Rattle.vpf_grid_coverage.specs.Coverage.{grid_library}
+use Rattle.vpf_vectors.specs.GridCoverage.Coverage.{grid_library}
 
 -- the untiled coverage of its tables, whose files are read first
 abbrev pub grid_coverage : ℕ → CoverageTables

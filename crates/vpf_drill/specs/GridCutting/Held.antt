@@ -4,9 +4,9 @@ use Rattle.vpf_source.specs.Files.{Files, no_files}
 use Rattle.vpf_source.specs.Making.{with_all}
 use Rattle.vpf_table.specs.Canonical.{canonical_table}
 use Rattle.vpf_table.specs.Grid.{Grid}
-use Rattle.vpf_loading.specs.Holding.{HoldsBytes}
-use Rattle.vpf_loading.specs.Loading.{LoadedTable, loaded_file, within}
-use Rattle.vpf_grid.specs.Rows.{plan_rows}
+use Rattle.vpf_library_files.specs.Loading.Holding.{HoldsBytes}
+use Rattle.vpf_library_files.specs.Loading.Loading.{LoadedTable, loaded_file, within}
+use Rattle.vpf_vectors.specs.Cells.Rows.{plan_rows}
 use Rattle.vpf_vectors.specs.Heads.{plan_head}
 use Rattle.vpf_vectors.specs.Library.{grid_files, tiles}
 use Rattle.vpf_vectors.specs.Tables.{pair_table, tileref_table}

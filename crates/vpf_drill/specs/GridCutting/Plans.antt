@@ -1,11 +1,11 @@
 -- The plan of the grid of n by n cells: it names a tile for each face but the universe (MIL-STD-2407, 5.2.3, tiled coverages).
 use Rattle.std.specs.Prelude.{◌≡◌, ℕ, ◌≤◌, ◌%◌, None, length}
 use Rattle.vpf_tiling.specs.Plans.{IsTileable}
-use Rattle.vpf_tileable.specs.Planning.{plan_of}
+use Rattle.vpf_tiling.specs.Tileable.Planning.{plan_of}
 use Rattle.vpf_tiler.specs.CutBy.{names_of_faces, plan_refusal}
-use Rattle.vpf_grid.specs.Numbers.{faces}
-use Rattle.vpf_grid.specs.Rows.{tile_of}
-use Rattle.vpf_grid_coverage.specs.Coverage.{grid_primitives}
+use Rattle.vpf_vectors.specs.Cells.Numbers.{faces}
+use Rattle.vpf_vectors.specs.Cells.Rows.{tile_of}
+use Rattle.vpf_vectors.specs.GridCoverage.Coverage.{grid_primitives}
 use Rattle.vpf_vectors.specs.Library.{coverage_tables, tiles}
 use Rattle.vpf_drill.specs.GridCutting.Held.{plan_grid, tileref_grid}
 

@@ -3,8 +3,8 @@ use Rattle.std.specs.Prelude.{◌≡◌, ℕ, ◌≤◌, ◌%◌, IsUtf8, List, 
 use Rattle.std.specs.List.{AllByRecursion}
 use Rattle.vpf_prims.specs.Coverages.{tile_at}
 use Rattle.vpf_prims.specs.Tables.{TileTables}
-use Rattle.vpf_loading.specs.Loading.{LoadedTile, loaded_tile, untiled_loaded}
-use Rattle.vpf_grid.specs.Rows.{edge_rows, face_rows, ring_rows, node_rows}
+use Rattle.vpf_library_files.specs.Loading.Loading.{LoadedTile, loaded_tile, untiled_loaded}
+use Rattle.vpf_vectors.specs.Cells.Rows.{edge_rows, face_rows, ring_rows, node_rows}
 use Rattle.vpf_vectors.specs.Heads.{face_head, node_head}
 use Rattle.vpf_vectors.specs.Library.{coverage_tables}
 use Rattle.vpf_vectors.specs.Tables.{edge_table, pair_table, ring_table}

@@ -1,10 +1,10 @@
 -- What is so of the sizes of the files of the tiled library of the grid.
 use Rattle.std.specs.Prelude.{◌≡◌, ◌≤◌, ℕ, List, None}
-use Rattle.vpf_loading.specs.Holding.{bytes_in}
-use Rattle.vpf_loading.specs.Loading.{most_loaded}
+use Rattle.vpf_library_files.specs.Loading.Holding.{bytes_in}
+use Rattle.vpf_library_files.specs.Loading.Loading.{most_loaded}
 use Rattle.vpf_table_files.specs.Adding.{NamedTable, files_made, first_limit_of}
 use Rattle.vpf_tiler.specs.TileFiles.Tables.{library_tables}
-use Rattle.vpf_grid_coverage.specs.Coverage.{grid_primitives}
+use Rattle.vpf_vectors.specs.GridCoverage.Coverage.{grid_primitives}
 use Rattle.vpf_vectors.specs.Library.{coverage_tables, tiles}
 use Rattle.vpf_vectors.specs.Tables.{tileref_table}
 

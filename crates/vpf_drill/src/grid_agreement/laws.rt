@@ -8,6 +8,6 @@ pub fn grid_agrees()
     ensures rows { GridIsSaid }
     ensures agrees { GridAgrees }
 {
-    vpf_grid_coverage::laws::grid_is_well_formed();
+    vpf_vectors::grid_coverage::laws::grid_is_well_formed();
     vpf_vectors::laws::tables_say_grid();
 }

@@ -6,11 +6,11 @@ ghost use Rattle.vpf_drill.specs.GridCutting.Reading.{GridHasTables, GridIsAsked
 
 use crate::grid_agreement::laws::grid_agrees;
 use vpf_cross::laws::agreement_decides;
-use vpf_grid::laws as grids;
-use vpf_grid_coverage::laws::grid_is_well_formed;
+use vpf_library_files::tileref::laws::stops_decide;
 use vpf_numbers::laws::numbers_decide;
-use vpf_tileable::laws::refusals_decide;
-use vpf_tileref::laws::stops_decide;
+use vpf_tiling::tileable::laws::refusals_decide;
+use vpf_vectors::cells::laws as grids;
+use vpf_vectors::grid_coverage::laws::grid_is_well_formed;
 use vpf_vectors::laws as vectors;
 
 /// Nothing is found in the coverage of the grid, since it agrees, nor in all that is read to cut it, since it has no features.

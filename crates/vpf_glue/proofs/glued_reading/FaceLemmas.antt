@@ -14,14 +14,14 @@ use Rattle.vpf_prims.specs.Primitives.{FacePrimitive, absent_face, tile_faces}
 use Rattle.vpf_prims.specs.Reading.{PrimitiveTables, face_in_row}
 use Rattle.vpf_prims.specs.References.{plain}
 use Rattle.vpf_prims.specs.Tables.{TileTables}
-use Rattle.vpf_revise.specs.Revising.{revised}
+use Rattle.vpf_write.specs.Revise.Revising.{revised}
 use Rattle.vpf_cross.specs.CarriedLines.{first_tile}
 use Rattle.vpf_tiling.specs.Ranks.{numbered_from}
 use Rattle.vpf_tiling.specs.Tiles.{Ring}
 use Rattle.vpf_renumbering.specs.TilingLawsWhole.{WholeFace, rest_of, tiles_in, whole_face, whole_faces}
 use Rattle.vpf_renumbering.specs.Glued.{glued_face, glued_rings}
-use Rattle.vpf_table_forms.specs.Forms.{pair_values}
-use Rattle.vpf_tile_reading.proofs.NumberLemmas.{read_numbered}
+use Rattle.vpf_primitive_tables.specs.TableForms.Forms.{pair_values}
+use Rattle.vpf_primitive_tables.proofs.tile_reading.NumberLemmas.{read_numbered}
 use Rattle.vpf_glue.specs.GluedTables.Grids.{glued_face_row, row_in, whole_in}
 use Rattle.vpf_glue.specs.GluedReading.Laws.{AreJoined, FacesAreRead, pair_columns}
 use Rattle.vpf_glue.proofs.glued_reading.RowLemmas.{face_rows_say}

@@ -7,19 +7,19 @@ use Rattle.vpf_triplet.specs.declared.kinds.Kind.TheVariants as kinds
 use Rattle.vpf_value.specs.Values.{Value}
 use Rattle.vpf_head.specs.Head.{Col, place_of}
 use Rattle.vpf_table.specs.Grid.{Grid, Row}
-use Rattle.vpf_revise.specs.declared.changes.NewKind.{NewKind}
-use Rattle.vpf_revise.specs.Revising.{revised, with_kinds}
+use Rattle.vpf_write.specs.declared.revise.changes.NewKind.{NewKind}
+use Rattle.vpf_write.specs.Revise.Revising.{revised, with_kinds}
 use Rattle.vpf_prims.specs.Reading.{carried_in, edge_in_row, mark_at, natural_in, ring_in_row}
 use Rattle.vpf_prims.specs.References.{plain, reference_in}
 use Rattle.vpf_prims.specs.Roles.{Role, edge_roles, entity_roles, face_roles, node_roles, number_role, reference_role}
 use Rattle.vpf_prims.specs.Suiting.{HasRoles}
 use Rattle.vpf_tiling.specs.Tiles.{Ring, numbered_ring}
 use Rattle.vpf_renumbering.specs.Glued.{glued_rings}
-use Rattle.vpf_table_forms.specs.Forms.{EdgeValues, bare_row, edge_kinds_of, edge_values_of, named_value, natural_value, pair_kinds, ring_kinds, ring_values}
-use Rattle.vpf_tile_reading.proofs.CarriedLemmas.{carried_kept}
-use Rattle.vpf_tile_reading.proofs.CellLemmas.{cell_new, mark_kept, values_said}
-use Rattle.vpf_tile_reading.proofs.NumberLemmas.{read_numbered}
-use Rattle.vpf_tile_reading.proofs.RowLemmas.{SuitRoles, entity_said, face_said, node_said, ring_said}
+use Rattle.vpf_primitive_tables.specs.TableForms.Forms.{EdgeValues, bare_row, edge_kinds_of, edge_values_of, named_value, natural_value, pair_kinds, ring_kinds, ring_values}
+use Rattle.vpf_primitive_tables.proofs.tile_reading.CarriedLemmas.{carried_kept}
+use Rattle.vpf_primitive_tables.proofs.tile_reading.CellLemmas.{cell_new, mark_kept, values_said}
+use Rattle.vpf_primitive_tables.proofs.tile_reading.NumberLemmas.{read_numbered}
+use Rattle.vpf_primitive_tables.proofs.tile_reading.RowLemmas.{SuitRoles, entity_said, face_said, node_said, ring_said}
 use Rattle.vpf_glue.specs.GluedTables.Grids.{whole_in}
 use Rattle.vpf_glue.proofs.glued_tables.LikeRows.{AreAlike, stand_alike}
 use Rattle.vpf_glue.proofs.glued_tables.PlaceLemmas.{as_many}

@@ -11,9 +11,9 @@ use Rattle.vpf_prims.specs.Numbering.{IsRowOf}
 use Rattle.vpf_prims.specs.Primitives.{absent_edge, absent_face, absent_node, edge_count, edges_in, face_count, faces_in, has_tables, is_there, node_count, nodes_in, tile_edges, tile_faces, tile_nodes}
 use Rattle.vpf_prims.specs.Reading.{PrimitiveTables, edge_in_row, face_in_row, node_in_row}
 use Rattle.vpf_prims.specs.Tables.{TileTables}
-use Rattle.vpf_loading.specs.Laws.{IsNamedApart}
+use Rattle.vpf_library_files.specs.Loading.Laws.{IsNamedApart}
 use Rattle.vpf_cross.specs.CarriedLines.{first_tile}
-use Rattle.vpf_tile_reading.proofs.NumberLemmas.{kth_has, kth_map}
+use Rattle.vpf_primitive_tables.proofs.tile_reading.NumberLemmas.{kth_has, kth_map}
 use Rattle.vpf_glue.specs.GluedTables.Grids.{first_tables, row_in}
 use Rattle.vpf_glue.specs.GluedTables.Laws.{AreOfTiles}
 use Rattle.vpf_glue.specs.GluedReading.Laws.{AreJoined}

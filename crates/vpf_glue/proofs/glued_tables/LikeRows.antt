@@ -17,11 +17,11 @@ use Rattle.vpf_prims.specs.Reading.{has_role}
 use Rattle.vpf_prims.specs.Roles.{Role}
 use Rattle.vpf_prims.specs.Suiting.{carried_columns}
 use Rattle.vpf_numbers.specs.Matching.{HaveSameColumns, form_of}
-use Rattle.vpf_revise.specs.declared.changes.NewKind.{NewKind}
-use Rattle.vpf_revise.specs.Revising.{FitsElsewhere, NewValue, revised_column, value_for, with_kinds}
-use Rattle.vpf_table_forms.specs.Forms.{named_value}
+use Rattle.vpf_write.specs.declared.revise.changes.NewKind.{NewKind}
+use Rattle.vpf_write.specs.Revise.Revising.{FitsElsewhere, NewValue, revised_column, value_for, with_kinds}
+use Rattle.vpf_primitive_tables.specs.TableForms.Forms.{named_value}
 use Rattle.vpf_glue.proofs.glued_tables.PlaceLemmas.{StandAlike, as_many, beside, stands_at}
-use Rattle.vpf_table_forms.proofs.ColumnLemmas.{same_names}
+use Rattle.vpf_primitive_tables.proofs.table_forms.ColumnLemmas.{same_names}
 
 -- two tables whose columns are like those of a third
 pub record AreAlike (roles : List Role) (like there : List Col) : Type 0 where

@@ -23,10 +23,10 @@ use Rattle.vpf_prims.specs.Suiting.{SuitsRole}
 use Rattle.vpf_prims.specs.Tables.{TileTables}
 use Rattle.vpf_numbers.specs.Around.{columns_or, first_having, model_in}
 use Rattle.vpf_numbers.specs.Matching.{AreLike, HaveSameColumns, form_of}
-use Rattle.vpf_revise.specs.declared.changes.NewKind.{NewKind}
-use Rattle.vpf_revise.specs.Revising.{FitsElsewhere, NewValue, with_kinds}
-use Rattle.vpf_table_forms.specs.Forms.{EdgeValues, edge_kinds_of, edge_values_of, named_value, natural_value, pair_kinds, pair_values}
-use Rattle.vpf_table_forms.proofs.ColumnLemmas.{one_value}
+use Rattle.vpf_write.specs.declared.revise.changes.NewKind.{NewKind}
+use Rattle.vpf_write.specs.Revise.Revising.{FitsElsewhere, NewValue, with_kinds}
+use Rattle.vpf_primitive_tables.specs.TableForms.Forms.{EdgeValues, edge_kinds_of, edge_values_of, named_value, natural_value, pair_kinds, pair_values}
+use Rattle.vpf_primitive_tables.proofs.table_forms.ColumnLemmas.{one_value}
 use Rattle.vpf_glue.specs.GluedTables.Laws.{AreOfTiles, FitThere}
 use Rattle.vpf_glue.proofs.glued_tables.LikeRows.{AreAlike, KeepForms, PlacesColumns, carried_forms, fits_alike, none_of_both, stand_alike, unnamed}
 use Rattle.vpf_glue.proofs.glued_tables.PlaceLemmas.{StandAlike, role_alike, same_too, stands_at}

@@ -3,7 +3,7 @@ use Rattle.std.specs.Prelude.{◌≡◌, ℕ, List, Some, codes, length}
 use Rattle.vpf_triplet.specs.declared.kinds.Kind.TheVariants as kinds
 use Rattle.vpf_head.specs.Head.{Col}
 use Rattle.vpf_table.specs.Grid.{Grid, Row}
-use Rattle.vpf_revise.specs.Revising.{revised, with_kinds}
+use Rattle.vpf_write.specs.Revise.Revising.{revised, with_kinds}
 use Rattle.vpf_prims.specs.Coverages.{CoverageTables, tile_at}
 use Rattle.vpf_prims.specs.Laws.{AreFilled}
 use Rattle.vpf_prims.specs.Libraries.{library_of}
@@ -13,13 +13,13 @@ use Rattle.vpf_prims.specs.References.{plain, reference_in}
 use Rattle.vpf_prims.specs.Roles.{ring_roles}
 use Rattle.vpf_prims.specs.Suiting.{HasRoles}
 use Rattle.vpf_prims.specs.Tables.{TileTables}
-use Rattle.vpf_loading.specs.Laws.{AreNamedApart}
+use Rattle.vpf_library_files.specs.Loading.Laws.{AreNamedApart}
 use Rattle.vpf_numbers.specs.Matching.{HaveColumns}
 use Rattle.vpf_cross.specs.Agreeing.{LibraryAgrees}
 use Rattle.vpf_tiling.specs.Ranks.{numbered}
 use Rattle.vpf_tiling.specs.Tiles.{numbered_ring}
 use Rattle.vpf_renumbering.specs.Glued.{glued, glued_edges, glued_rings, whole_coverage}
-use Rattle.vpf_table_forms.specs.Forms.{EdgeValues, edge_kinds_of, edge_values_of, pair_kinds, pair_values}
+use Rattle.vpf_primitive_tables.specs.TableForms.Forms.{EdgeValues, edge_kinds_of, edge_values_of, pair_kinds, pair_values}
 use Rattle.vpf_glue.specs.GluedTables.Grids.{first_tables, glued_edge_grid, glued_face_grid, glued_node_grid, glued_ring_grid, glued_tables, whole_in}
 use Rattle.vpf_glue.specs.GluedTables.Laws.{AreOfTiles}
 

@@ -6,7 +6,7 @@ use Rattle.std.specs.Option.{option_and_then, option_map, option_or}
 use Rattle.vpf_triplet.specs.declared.kinds.Kind.TheVariants as kinds
 use Rattle.vpf_head.specs.Head.{Col}
 use Rattle.vpf_table.specs.Grid.{Row, Grid}
-use Rattle.vpf_revise.specs.Revising.{revised}
+use Rattle.vpf_write.specs.Revise.Revising.{revised}
 use Rattle.vpf_prims.specs.Coverages.{CoverageTables, tile_at}
 use Rattle.vpf_prims.specs.Libraries.{library_of}
 use Rattle.vpf_prims.specs.Lists.{first_item, kth}
@@ -21,7 +21,7 @@ use Rattle.vpf_tiling.specs.Ranks.{numbered}
 use Rattle.vpf_tiling.specs.Tiles.{first_edge_at}
 use Rattle.vpf_renumbering.specs.TilingLawsWhole.{Whole, face_here, tiles_in, whole_of}
 use Rattle.vpf_renumbering.specs.Glued.{face_number, first_darts, glued_edge, glued_edges, glued_rings, plus_darts, tiles_of_faces}
-use Rattle.vpf_table_forms.specs.Forms.{EdgeValues, edge_kinds_of, edge_values_of, natural_value, pair_kinds, pair_values, rings_like, table_like}
+use Rattle.vpf_primitive_tables.specs.TableForms.Forms.{EdgeValues, edge_kinds_of, edge_values_of, natural_value, pair_kinds, pair_values, rings_like, table_like}
 use Rattle.vpf_vectors.specs.Heads.{plan_head}
 use Rattle.vpf_vectors.specs.Tables.{pair_table}
 

@@ -9,11 +9,11 @@ use Rattle.vpf_prims.specs.Coverages.{CoverageTables, tile_at}
 use Rattle.vpf_prims.specs.Libraries.{IsLibrary, library_of}
 use Rattle.vpf_prims.specs.Reading.{PrimitiveTables}
 use Rattle.vpf_prims.specs.Tables.{TileTables}
-use Rattle.vpf_loading.specs.Laws.{IsNamedApart}
+use Rattle.vpf_library_files.specs.Loading.Laws.{IsNamedApart}
 use Rattle.vpf_numbers.specs.Matching.{HaveColumns}
-use Rattle.vpf_revise.specs.Revising.{FitsElsewhere, NewValue, with_kinds}
-use Rattle.vpf_revise.specs.declared.changes.NewKind.{NewKind}
-use Rattle.vpf_table_forms.specs.Forms.{EdgeValues, edge_kinds_of, edge_values_of, pair_kinds, pair_values}
+use Rattle.vpf_write.specs.Revise.Revising.{FitsElsewhere, NewValue, with_kinds}
+use Rattle.vpf_write.specs.declared.revise.changes.NewKind.{NewKind}
+use Rattle.vpf_primitive_tables.specs.TableForms.Forms.{EdgeValues, edge_kinds_of, edge_values_of, pair_kinds, pair_values}
 
 -- two tables of a coverage whose tiles have the same columns: each is that of a tile, and no two of its columns have the same name
 pub record AreOfTiles (of : PrimitiveTables → Option Grid) (c : CoverageTables) (like there : Grid) : Type 0 where

@@ -7,13 +7,13 @@ ghost use Rattle.vpf_table.specs.Grid.{Grid};
 ghost use Rattle.vpf_prims.specs.Roles.{entity_roles};
 ghost use Rattle.vpf_prims.specs.Suiting.{HasColumns, HasRoles};
 ghost use Rattle.vpf_prims.specs.Tables.{table_named};
-ghost use Rattle.vpf_table_forms.specs.Models.{PairsLike};
+ghost use Rattle.vpf_primitive_tables.specs.TableForms.Models.{PairsLike};
 
 use std::alloc::AllocError;
 use vpf_findings::TableName;
+use vpf_primitive_tables::table_forms::{EdgeForm, PairForm, RingForm};
 use vpf_prims::Tile;
 use vpf_table::TableView;
-use vpf_table_forms::{EdgeForm, PairForm, RingForm};
 use vpf_triplet::Kind;
 
 /// How the primitive tables of the glued coverage are written: like those of the first tile that has tables, and like the first table of

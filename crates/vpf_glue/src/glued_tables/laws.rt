@@ -2,8 +2,8 @@
 
 ghost use Rattle.vpf_glue.specs.GluedTables.Laws.{EdgeRowsFit, EntityRowsFit, FaceRowsFit, NodeRowsFit};
 
-use vpf_revise::laws::columns_by_position;
-use vpf_table_forms::laws::own_rows_fit;
+use vpf_primitive_tables::table_forms::laws::own_rows_fit;
+use vpf_write::revise::laws::columns_by_position;
 
 /// Where all tiles have the same columns, the rows of each tile's tables fit the tables that are written like another tile's, but for the cells
 /// that get new values. Kinds of ids and of references, and byte orders, may differ from tile to tile.

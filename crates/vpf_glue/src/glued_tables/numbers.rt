@@ -3,13 +3,13 @@
 ghost use Rattle.std.specs.Prelude.{◌≡◌};
 ghost use Rattle.vpf_triplet.specs.declared.kinds.Kind.TheVariants.{I};
 ghost use Rattle.vpf_prims.specs.Primitives.{EdgePrimitive};
-ghost use Rattle.vpf_table_forms.specs.Forms.{AreOfKind};
-ghost use Rattle.vpf_table_forms.specs.Models.{values_of};
+ghost use Rattle.vpf_primitive_tables.specs.TableForms.Forms.{AreOfKind};
+ghost use Rattle.vpf_primitive_tables.specs.TableForms.Models.{values_of};
 ghost use Rattle.vpf_glue.specs.GluedTables.Grids.{number_values};
 ghost use Rattle.vpf_glue.specs.GluedTables.Numbers.{AreSmall, numbers_of};
 
-use vpf_revise::laws::numbers_and_ids_fit;
-use vpf_table_forms::{EdgeCells, number_cell};
+use vpf_primitive_tables::table_forms::{EdgeCells, number_cell};
+use vpf_write::revise::laws::numbers_and_ids_fit;
 
 /// What an edge names, each by its number in the glued coverage.
 #[derive(Clone, Copy, Debug, PartialEq, Eq)]

@@ -8,9 +8,9 @@ ghost use Rattle.vpf_vectors.specs.Heads.{plan_head};
 ghost use Rattle.vpf_vectors.specs.Tables.{pair_cells, pair_table};
 
 use std::alloc::{AllocError, Global};
-use vpf_revise::laws::numbers_and_ids_fit;
-use vpf_table_forms::number_cell;
+use vpf_primitive_tables::table_forms::number_cell;
 use vpf_vectors::plan_header;
+use vpf_write::revise::laws::numbers_and_ids_fit;
 use vpf_write::{TableWriter, WriteError, Written};
 
 /// Appends the row of a face and its tile.

@@ -11,7 +11,7 @@ use Rattle.vpf_prims.specs.Primitives.{Library}
 use Rattle.vpf_wing.specs.Links.{links_of}
 use Rattle.vpf_wing.specs.DartLaws.{stands_in}
 use Rattle.vpf_follow.specs.Following.{is_home, library_map}
-use Rattle.vpf_kept.specs.Kept.{place_among}
+use Rattle.vpf_wing.specs.Kept.Kept.{place_among}
 use Rattle.vpf_tiling_laws.specs.Gluing.Whole.{whole_of}
 use Rattle.vpf_tiling_laws.specs.Gluing.Glued.{edge_number, first_darts, listed_at, node_number, plus_darts}
 use Rattle.vpf_renumbering.specs.declared.glued_edges.glued.GluedEdges.TheInside.{Inside}

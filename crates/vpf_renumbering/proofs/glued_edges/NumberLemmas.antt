@@ -10,8 +10,8 @@ use Rattle.vpf_darts.specs.Cycles.{count_of}
 use Rattle.vpf_darts.specs.Darts.{tile_dart_code}
 use Rattle.vpf_darts.specs.Listings.{numbers_of}
 use Rattle.vpf_wing.specs.DartLaws.{none_is_some, same_some, stands_in}
-use Rattle.vpf_kept.specs.Kept.{place_among}
-use Rattle.vpf_kept.specs.PlaceLaws.{at_place, stands_at}
+use Rattle.vpf_wing.specs.Kept.Kept.{place_among}
+use Rattle.vpf_wing.specs.Kept.PlaceLaws.{at_place, stands_at}
 use Rattle.vpf_cut_rings.proofs.LeastLemmas.{count_join, one_if, stands_counts}
 use Rattle.vpf_renumbering.specs.GluedEdges.Numbers.{AreByFirst, ArePut, kept_for}
 

@@ -19,8 +19,8 @@ use Rattle.vpf_tiling.specs.Ranks.{is_least}
 use Rattle.vpf_tiling_laws.proofs.tiled.WalkLemmas.{Distinct, distinct_few}
 use Rattle.vpf_cut_rings.proofs.OrderLemmas.{Rises, all_at, kept_stands, rises_of}
 use Rattle.vpf_follow.specs.Following.{is_home, library_map}
-use Rattle.vpf_kept.specs.Kept.{AreInOrder, place_among}
-use Rattle.vpf_kept.specs.PlaceLaws.{at_place, stands_at}
+use Rattle.vpf_wing.specs.Kept.Kept.{AreInOrder, place_among}
+use Rattle.vpf_wing.specs.Kept.PlaceLaws.{at_place, stands_at}
 use Rattle.vpf_tiling_laws.specs.Gluing.Whole.{whole_of}
 use Rattle.vpf_tiling_laws.specs.Gluing.Glued.{first_darts, listed_at, plus_darts}
 use Rattle.vpf_renumbering.specs.Whole.Gathering.{AreHomeDarts}

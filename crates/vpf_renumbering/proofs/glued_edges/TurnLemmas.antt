@@ -13,8 +13,8 @@ use Rattle.vpf_darts.specs.Listings.{numbers_of}
 use Rattle.vpf_wing.specs.DartLaws.{never_both, none_is_some, same_some, stands_in, stands-either}
 use Rattle.vpf_wing.specs.Walks.{least_after}
 use Rattle.vpf_tiling.specs.Ranks.{is_least, leasts}
-use Rattle.vpf_kept.specs.Kept.{place_among}
-use Rattle.vpf_kept.specs.PlaceLaws.{place_of_at, stands_at}
+use Rattle.vpf_wing.specs.Kept.Kept.{place_among}
+use Rattle.vpf_wing.specs.Kept.PlaceLaws.{place_of_at, stands_at}
 use Rattle.vpf_tiling_laws.specs.Gluing.Glued.{listed_at}
 use Rattle.vpf_prims.specs.Lists.{first_from}
 use Rattle.vpf_cut_rings.specs.Laws.{ArePassing, LeastsBeginCycles}

@@ -13,7 +13,7 @@ use Rattle.vpf_darts.specs.Maps.{DartMap, IsMap}
 use Rattle.vpf_prims.specs.Primitives.{Library, edge_count}
 use Rattle.vpf_wing.specs.Links.{links_of}
 use Rattle.vpf_wing.specs.DartLaws.{darts-stand, stands_in}
-use Rattle.vpf_kept.specs.Kept.{AreKept}
+use Rattle.vpf_wing.specs.Kept.Kept.{AreKept}
 use Rattle.vpf_follow.specs.FollowLaws.{home_has}
 use Rattle.vpf_follow.specs.Following.{is_home}
 use Rattle.vpf_follow.specs.Homes.{darts_to}

@@ -6,7 +6,7 @@ use Rattle.vpf_darts.specs.Darts.{tile_dart_code}
 use Rattle.vpf_prims.specs.Numbering.{IsRowOf}
 use Rattle.vpf_prims.specs.Primitives.{Library}
 use Rattle.vpf_wing.specs.DartLaws.{stands_in}
-use Rattle.vpf_kept.specs.Kept.{AreInOrder}
+use Rattle.vpf_wing.specs.Kept.Kept.{AreInOrder}
 use Rattle.vpf_tiling_laws.specs.Gluing.Whole.{Whole, whole_of}
 use Rattle.vpf_tiling_laws.specs.Gluing.Glued.{first_darts, node_number, plus_darts}
 use Rattle.vpf_renumbering.specs.Whole.Gathering.{AreHomeDarts}

@@ -1,7 +1,7 @@
 -- Numbers that are kept for darts, one for each in the order of the darts.
 use Rattle.std.specs.Prelude.{◌≡◌, ℕ, ◌+◌, ◌<◌, true, if◌then◌else◌, List, [], length, slice_index, slice_index_or}
 use Rattle.vpf_wing.specs.DartLaws.{stands_in}
-use Rattle.vpf_kept.specs.Kept.{place_among}
+use Rattle.vpf_wing.specs.Kept.Kept.{place_among}
 
 -- the number that is kept for a dart
 abbrev pub kept_for : List ℕ → List ℕ → ℕ → ℕ

@@ -7,7 +7,7 @@ use Rattle.vpf_prims.specs.Libraries.{library_of}
 use Rattle.vpf_prims.specs.Primitives.{Library, edge_count}
 use Rattle.vpf_wing.specs.Links.{links_of}
 use Rattle.vpf_wing.specs.DartLaws.{stands_in}
-use Rattle.vpf_kept.specs.Kept.{AreInOrder}
+use Rattle.vpf_wing.specs.Kept.Kept.{AreInOrder}
 use Rattle.vpf_follow.specs.Following.{is_home}
 use Rattle.vpf_follow.specs.Homes.{darts_before, darts_to}
 use Rattle.vpf_tiling_laws.specs.Gluing.Whole.{whole_of}

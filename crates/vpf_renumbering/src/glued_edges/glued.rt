@@ -21,7 +21,7 @@ use std::alloc::{AllocError, Global};
 use std::marker::Model;
 use vpf_cross::Checked;
 use vpf_darts::{TileDart, Walk};
-use vpf_kept::place_of;
+use vpf_wing::kept::place_of;
 
 /// What the row of an edge of a glued coverage names, but its faces: nodes and wings, by their numbers (MIL-STD-2407, 5.2.2, winged-edge
 /// topology). Numbers count from 1.

@@ -6,7 +6,7 @@ ghost use Rattle.vpf_base.specs.Limits.{most_rows};
 ghost use Rattle.vpf_darts.specs.Cycles.{BeginsWithLeast, count_of, first_of};
 ghost use Rattle.vpf_darts.specs.Darts.{tile_dart_code};
 ghost use Rattle.vpf_darts.specs.Listings.{numbers_of};
-ghost use Rattle.vpf_kept.specs.Kept.{AreInOrder};
+ghost use Rattle.vpf_wing.specs.Kept.Kept.{AreInOrder};
 ghost use Rattle.vpf_wing.specs.DartLaws.{stands_in};
 ghost use Rattle.vpf_prims.specs.Libraries.{library_of};
 ghost use Rattle.vpf_tiling_laws.specs.Gluing.Glued.{plus_darts};
@@ -19,7 +19,7 @@ use crate::whole::{WholeMap, turns};
 use std::alloc::{AllocError, Global};
 use vpf_cut_rings::laws::leasts_begin_cycles;
 use vpf_darts::{Listing, TileDart};
-use vpf_kept::place_of;
+use vpf_wing::kept::place_of;
 
 /// The nodes of a checked coverage: for each the least home dart that begins there, in their order, and for each home dart the number of its
 /// node, counted from 1.

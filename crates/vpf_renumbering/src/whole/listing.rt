@@ -12,7 +12,7 @@ ghost use Rattle.vpf_renumbering.specs.Whole.Gathering.{AreHomeDarts};
 use crate::whole::walking::WholeMap;
 use std::alloc::{AllocError, Global};
 use vpf_darts::{Listing, TileDart, Walk};
-use vpf_kept::list_kept;
+use vpf_wing::kept::list_kept;
 
 /// The boundary cycles of a coverage, its lines between tiles too: the listing of its map, in which each home dart stands once. Each cycle begins
 /// with its least dart, and the first darts rise (MIL-STD-2407, 5.2.2, winged-edge topology). `darts` are the home darts, as `home_darts`

@@ -6,8 +6,8 @@ use Rattle.std.proofs.lemmas.Option.{same_Some}
 use Rattle.std.proofs.lemmas.Slice.Eq.{bytes_eq-Decides}
 use Rattle.vpf_source.specs.Files.{Files}
 use Rattle.vpf_source.specs.declared.file.File.{File}
-use Rattle.vpf_loading.specs.Holding.{AreHeld, bytes_in}
-use Rattle.vpf_loading.specs.Loading.{within}
+use Rattle.vpf_library_files.specs.Loading.Holding.{AreHeld, bytes_in}
+use Rattle.vpf_library_files.specs.Loading.Loading.{within}
 use Rattle.vpf_library_commands.specs.Names.{file_in}
 use Rattle.vpf_library_commands.proofs.Pairs.{Apart}
 use Rattle.vpf_library_commands.proofs.ReadTables.{bytes_moved}

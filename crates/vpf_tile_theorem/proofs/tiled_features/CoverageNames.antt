@@ -8,17 +8,17 @@ use Rattle.std.proofs.lemmas.List.Concat.{flat_map-append}
 use Rattle.std.proofs.lemmas.Str.{encode_ascii}
 use Rattle.vpf_source.specs.declared.file.File.{File}
 use Rattle.vpf_head.specs.Head.{varies_in}
-use Rattle.vpf_names.specs.Indexes.{without_last}
-use Rattle.vpf_names.proofs.LastLetters.{last_dropped}
+use Rattle.vpf_source.specs.Names.Indexes.{without_last}
+use Rattle.vpf_source.proofs.names.LastLetters.{last_dropped}
 use Rattle.vpf_table.specs.Canonical.{canonical_index}
 use Rattle.vpf_table.specs.Grid.{Grid}
 use Rattle.vpf_prims.specs.Reading.{PrimitiveTables}
 use Rattle.vpf_prims.specs.Tables.{TileTables}
-use Rattle.vpf_tileref.specs.Stops.{path_texts}
-use Rattle.vpf_tileref.specs.Tileref.{IsTileref}
-use Rattle.vpf_made.specs.Files.{index_files, table_files}
-use Rattle.vpf_loading.specs.Holding.{AreFilesOf, AreFilesOfOption, AreTileFiles, AreTilesFiles}
-use Rattle.vpf_loading.specs.Loading.{tileref_name, within}
+use Rattle.vpf_library_files.specs.Tileref.Stops.{path_texts}
+use Rattle.vpf_library_files.specs.Tileref.Tileref.{IsTileref}
+use Rattle.vpf_write.specs.Made.Files.{index_files, table_files}
+use Rattle.vpf_library_files.specs.Loading.Holding.{AreFilesOf, AreFilesOfOption, AreTileFiles, AreTilesFiles}
+use Rattle.vpf_library_files.specs.Loading.Loading.{tileref_name, within}
 use Rattle.vpf_table_files.specs.Adding.{NamedTable, files_made, files_of_table, named_table, table_within}
 use Rattle.vpf_library_commands.proofs.AbsentNames.{one_folder}
 use Rattle.vpf_library_commands.proofs.NameLemmas.{within_is, within_utf8}

@@ -9,7 +9,7 @@ use Rattle.vpf_base.specs.Limits.{most_bytes}
 use Rattle.vpf_source.specs.declared.file.File.{File}
 use Rattle.vpf_triplet.specs.declared.orders.Order.{Order}
 use Rattle.vpf_triplet.specs.declared.places.Part.{Part}
-use Rattle.vpf_names.specs.Indexes.{index_name}
+use Rattle.vpf_source.specs.Names.Indexes.{index_name}
 use Rattle.vpf_head.specs.Head.{Col}
 use Rattle.vpf_table.specs.declared.limit.Limit.{Limit as Passed}
 use Rattle.vpf_table.specs.Canonical.{IsWritable, canonical_index, canonical_table, in_order}
@@ -21,8 +21,8 @@ use Rattle.vpf_theme_build.specs.declared.errors.BuildError.TheVariants as build
 use Rattle.vpf_theme_build.specs.Building.{BuiltIndexesServe, built_by}
 use Rattle.vpf_findings.specs.Firsts.{◌or◌}
 use Rattle.vpf_write.specs.Writing.{first_limit}
-use Rattle.vpf_made.specs.Files.{index_files, table_files}
-use Rattle.vpf_loading.specs.Loading.{loaded_file, within}
+use Rattle.vpf_write.specs.Made.Files.{index_files, table_files}
+use Rattle.vpf_library_files.specs.Loading.Loading.{loaded_file, within}
 use Rattle.vpf_table_files.specs.Adding.{NamedTable, named_limit, named_table, table_within, unless_limited}
 use Rattle.vpf_feature_files.specs.Schemas.{FeatureTable, Index, Schema}
 use Rattle.vpf_feature_writing.specs.Making.{Made, feature_table_made, feature_tables_made, features_made, index_made, index_made_by, indexes_made, made_then}

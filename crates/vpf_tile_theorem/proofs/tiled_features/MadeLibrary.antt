@@ -7,10 +7,10 @@ use Rattle.vpf_source.specs.declared.file.File.{File}
 use Rattle.vpf_table.specs.declared.limit.Limit.{Limit as Passed}
 use Rattle.vpf_table.specs.Grid.{Grid}
 use Rattle.vpf_prims.specs.Reading.{PrimitiveTables, primitives_of}
-use Rattle.vpf_tileable.specs.declared.refusals.Refusal.{Refusal}
-use Rattle.vpf_loading.specs.Holding.{AreHeld, bytes_in}
-use Rattle.vpf_loading.specs.Loading.{most_loaded, within}
-use Rattle.vpf_loading.proofs.FileLists.{bytes_of_both}
+use Rattle.vpf_tiling.specs.declared.tileable.refusals.Refusal.{Refusal}
+use Rattle.vpf_library_files.specs.Loading.Holding.{AreHeld, bytes_in}
+use Rattle.vpf_library_files.specs.Loading.Loading.{most_loaded, within}
+use Rattle.vpf_library_files.proofs.loading.FileLists.{bytes_of_both}
 use Rattle.vpf_table_files.specs.Adding.{NamedTable, files_made, first_limit_of}
 use Rattle.vpf_library_commands.specs.Tables.{library_tables}
 use Rattle.vpf_library_commands.specs.Folders.{HoldsExactly}

@@ -10,12 +10,12 @@ use Rattle.std.proofs.lemmas.List.Elements.{recursion_from_All}
 use Rattle.std.proofs.lemmas.Option.{same_Some}
 use Rattle.std.proofs.lemmas.Str.{IsUtf8-from_ascii, encode_ascii}
 use Rattle.std.proofs.lemmas.Str.Ascii.{IsAscii-cons, IsAscii-nil, lowercase_ascii}
-use Rattle.vpf_names.specs.Indexes.{index_name}
-use Rattle.vpf_names.specs.Items.{is_plain_name, small, trimmed}
-use Rattle.vpf_names.specs.Naming.{slash}
-use Rattle.vpf_tileref.specs.Paths.{IsFolder, IsLetter}
-use Rattle.vpf_tileref.proofs.PathDecides.{folder_decides}
-use Rattle.vpf_loading.specs.Loading.{within}
+use Rattle.vpf_source.specs.Names.Indexes.{index_name}
+use Rattle.vpf_source.specs.Names.Items.{is_plain_name, small, trimmed}
+use Rattle.vpf_source.specs.Names.Naming.{slash}
+use Rattle.vpf_library_files.specs.Tileref.Paths.{IsFolder, IsLetter}
+use Rattle.vpf_library_files.proofs.tileref.PathDecides.{folder_decides}
+use Rattle.vpf_library_files.specs.Loading.Loading.{within}
 use Rattle.vpf_feature_reading.specs.Laws.{IsOwnFile}
 use Rattle.vpf_library_commands.proofs.NameLemmas.{index_behind, within_utf8}
 use Rattle.vpf_library_commands.proofs.ReadTables.{all_both, all_front}

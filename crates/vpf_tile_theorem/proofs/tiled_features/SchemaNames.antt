@@ -3,18 +3,18 @@ use Rattle.std.proofs.Common.{◌≡◌, ◌≢◌, ◌∙◌, ℕ, Bool, true, 
 use Rattle.std.specs.Prelude.{codes, nat_eq}
 use Rattle.std.specs.List.{AllByRecursion, ends_with}
 use Rattle.vpf_source.specs.declared.file.File.{File}
-use Rattle.vpf_names.specs.Indexes.{index_name, without_last}
-use Rattle.vpf_names.specs.Naming.{slash}
+use Rattle.vpf_source.specs.Names.Indexes.{index_name, without_last}
+use Rattle.vpf_source.specs.Names.Naming.{slash}
 use Rattle.vpf_table.specs.Canonical.{canonical_index}
 use Rattle.vpf_table.specs.Grid.{Grid}
 use Rattle.vpf_prims.specs.Lists.{kth}
 use Rattle.vpf_prims.specs.Primitives.{Primitives}
 use Rattle.vpf_prims.specs.Reading.{PrimitiveTables}
-use Rattle.vpf_tileref.specs.Stops.{path_texts}
+use Rattle.vpf_library_files.specs.Tileref.Stops.{path_texts}
 use Rattle.vpf_tiling.specs.Ranks.{up_to}
 use Rattle.vpf_tiling.specs.Tiles.{is_made}
-use Rattle.vpf_made.specs.Files.{index_files}
-use Rattle.vpf_loading.specs.Loading.{within}
+use Rattle.vpf_write.specs.Made.Files.{index_files}
+use Rattle.vpf_library_files.specs.Loading.Loading.{within}
 use Rattle.vpf_table_files.specs.Adding.{NamedTable, files_made, files_of_table}
 use Rattle.vpf_library_commands.specs.Tables.{entity_tables, library_tables, tables_if_made, tile_tables}
 use Rattle.vpf_feature_files.specs.Reading.{schema_name}

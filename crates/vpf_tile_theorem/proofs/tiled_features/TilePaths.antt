@@ -3,9 +3,9 @@ use Rattle.std.proofs.Common.{◌≡◌, ◌≢◌, ◌<◌, ℕ, suc, List, [],
 use Rattle.std.specs.List.{AllByRecursion}
 use Rattle.std.proofs.lemmas.List.{get_or-map, length-map}
 use Rattle.vpf_table.specs.Grid.{Grid}
-use Rattle.vpf_tileref.specs.Paths.{IsPath, path_text}
-use Rattle.vpf_tileref.specs.Stops.{path_texts}
-use Rattle.vpf_tileref.specs.Tileref.{IsTileref, paths_of}
+use Rattle.vpf_library_files.specs.Tileref.Paths.{IsPath, path_text}
+use Rattle.vpf_library_files.specs.Tileref.Stops.{path_texts}
+use Rattle.vpf_library_files.specs.Tileref.Tileref.{IsTileref, paths_of}
 use Rattle.vpf_library_commands.proofs.Pairs.{Apart}
 use Rattle.vpf_library_commands.proofs.PathLemmas.{IsInner, one_path, path_is_inner}
 

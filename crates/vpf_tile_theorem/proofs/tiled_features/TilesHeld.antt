@@ -5,13 +5,13 @@ use Rattle.std.specs.List.{AllByRecursion, ends_with}
 use Rattle.std.proofs.lemmas.List.{append_cancel_left}
 use Rattle.vpf_source.specs.Files.{Files}
 use Rattle.vpf_source.specs.declared.file.File.{File}
-use Rattle.vpf_names.specs.Naming.{slash}
+use Rattle.vpf_source.specs.Names.Naming.{slash}
 use Rattle.vpf_table.specs.Grid.{Grid}
 use Rattle.vpf_prims.specs.Coverages.{CoverageTables, tile_at}
 use Rattle.vpf_prims.specs.Tables.{TileTables}
-use Rattle.vpf_loading.specs.Holding.{AreFilesOf, AreHeld, AreTiledFiles, AreUntiledFiles, HoldsCoverage, LacksOfTile, LacksOfTiles, bytes_in}
-use Rattle.vpf_loading.specs.Loading.{LoadedCoverage, within}
-use Rattle.vpf_loading.proofs.FileLists.{both_held}
+use Rattle.vpf_library_files.specs.Loading.Holding.{AreFilesOf, AreHeld, AreTiledFiles, AreUntiledFiles, HoldsCoverage, LacksOfTile, LacksOfTiles, bytes_in}
+use Rattle.vpf_library_files.specs.Loading.Loading.{LoadedCoverage, within}
+use Rattle.vpf_library_files.proofs.loading.FileLists.{both_held}
 use Rattle.vpf_library_commands.specs.Folders.{HoldsExactly}
 use Rattle.vpf_library_commands.proofs.AbsentNames.{IsOther}
 use Rattle.vpf_library_commands.proofs.NameLemmas.{ends_behind, within_is, within_utf8, within_within}

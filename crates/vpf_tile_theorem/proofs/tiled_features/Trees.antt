@@ -6,8 +6,8 @@ use Rattle.std.proofs.lemmas.List.{append_cancel_left}
 use Rattle.std.proofs.lemmas.Slice.Eq.{bytes_eq-Decides}
 use Rattle.vpf_source.specs.Files.{Files}
 use Rattle.vpf_source.specs.declared.file.File.{File}
-use Rattle.vpf_loading.specs.Holding.{AreHeld}
-use Rattle.vpf_loading.specs.Loading.{within}
+use Rattle.vpf_library_files.specs.Loading.Holding.{AreHeld}
+use Rattle.vpf_library_files.specs.Loading.Loading.{within}
 use Rattle.vpf_library_commands.specs.Folders.{HoldsExactly}
 use Rattle.vpf_library_commands.proofs.AbsentNames.{IsOther}
 use Rattle.vpf_library_commands.proofs.NameLemmas.{within_is}

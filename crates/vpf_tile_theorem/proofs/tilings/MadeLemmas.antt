@@ -7,12 +7,12 @@ use Rattle.std.specs.Str.{bytes_eq}
 use Rattle.std.proofs.lemmas.Bool.{cases_Bool}
 use Rattle.std.proofs.lemmas.List.{append_cancel_left}
 use Rattle.std.proofs.lemmas.Slice.Eq.{bytes_eq-Decides}
-use Rattle.vpf_names.specs.Naming.{slash}
+use Rattle.vpf_source.specs.Names.Naming.{slash}
 use Rattle.vpf_source.specs.Files.{Files}
 use Rattle.vpf_source.specs.Making.{with_all}
 use Rattle.vpf_source.specs.declared.file.File.{File}
-use Rattle.vpf_loading.specs.Holding.{bytes_in}
-use Rattle.vpf_loading.specs.Loading.{most_loaded, within}
+use Rattle.vpf_library_files.specs.Loading.Holding.{bytes_in}
+use Rattle.vpf_library_files.specs.Loading.Loading.{most_loaded, within}
 use Rattle.vpf_library_commands.specs.Folders.{HoldsExactly}
 use Rattle.vpf_library_commands.specs.Made.{file_within}
 use Rattle.vpf_tile_theorem.specs.Tilings.Tilings.{StandsAlone}

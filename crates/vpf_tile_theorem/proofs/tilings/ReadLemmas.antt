@@ -8,18 +8,18 @@ use Rattle.vpf_source.specs.Files.{Files}
 use Rattle.vpf_triplet.specs.declared.orders.Order.{Order}
 use Rattle.vpf_triplet.specs.declared.places.Place.{Place}
 use Rattle.vpf_head.specs.Head.{varies_in}
-use Rattle.vpf_names.specs.Indexes.{index_name}
+use Rattle.vpf_source.specs.Names.Indexes.{index_name}
 use Rattle.vpf_table.specs.Canonical.{IsWritable, in_order}
 use Rattle.vpf_table.specs.Grid.{Grid}
 use Rattle.vpf_table.specs.Opening.{opened_of}
 use Rattle.vpf_table.specs.Reading.{table_of}
 use Rattle.vpf_table.specs.Spelling.{IsTable}
 use Rattle.vpf_prims.specs.Reading.{PrimitiveTables}
-use Rattle.vpf_loading.specs.Holding.{HoldsBytes}
-use Rattle.vpf_loading.specs.Loading.{LoadedTable, LoadedTile, Read, ◌and_then◌, decided, graded, grid_in, loaded_file, loaded_tile, most_loaded, read_bytes}
-use Rattle.vpf_loading.specs.Loading.{read_found, read_optional, read_optional_table}
-use Rattle.vpf_loading.specs.Loading.{read_required, read_rest, read_table, read_table_in, read_tile, required, tabled, with_its_index, with_own_index, within}
-use Rattle.vpf_loading.specs.declared.loading.LoadStop.{LoadStop}
+use Rattle.vpf_library_files.specs.Loading.Holding.{HoldsBytes}
+use Rattle.vpf_library_files.specs.Loading.Loading.{LoadedTable, LoadedTile, Read, ◌and_then◌, decided, graded, grid_in, loaded_file, loaded_tile, most_loaded, read_bytes}
+use Rattle.vpf_library_files.specs.Loading.Loading.{read_found, read_optional, read_optional_table}
+use Rattle.vpf_library_files.specs.Loading.Loading.{read_required, read_rest, read_table, read_table_in, read_tile, required, tabled, with_its_index, with_own_index, within}
+use Rattle.vpf_library_files.specs.declared.loading.loading.LoadStop.{LoadStop}
 
 -- what is opened, with an index or without, is read
 abbrev pub OpenedIsRead : Type 0

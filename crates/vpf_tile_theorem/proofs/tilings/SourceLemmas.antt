@@ -14,14 +14,14 @@ use Rattle.vpf_prims.specs.Primitives.{Library, Primitives, untiled}
 use Rattle.vpf_prims.specs.Reading.{PrimitiveTables, primitives_of}
 use Rattle.vpf_prims.specs.Suiting.{HasColumns}
 use Rattle.vpf_prims.specs.Tables.{TileTables}
-use Rattle.vpf_tileref.specs.Laws.{StopsDecide}
-use Rattle.vpf_tileref.specs.Stops.{IsBounded, TilerefStop, tileref_stop}
-use Rattle.vpf_tileref.specs.Tileref.{IsTileref}
-use Rattle.vpf_loading.specs.Holding.{HoldsBytes}
-use Rattle.vpf_loading.specs.Loading.{LoadedCoverage, LoadedTable, LoadedTile, Read, ◌and_then◌, read_coverage, read_table, read_tile, read_tileref}
-use Rattle.vpf_loading.specs.Loading.{tileref_name, unless_stopped, untiled_loaded, untiled_or_tiled, within}
-use Rattle.vpf_plan.specs.PlanLoads.{read_plan}
-use Rattle.vpf_plan.specs.Untiled.{read_untiled, tables_or_missing}
+use Rattle.vpf_library_files.specs.Tileref.Laws.{StopsDecide}
+use Rattle.vpf_library_files.specs.Tileref.Stops.{IsBounded, TilerefStop, tileref_stop}
+use Rattle.vpf_library_files.specs.Tileref.Tileref.{IsTileref}
+use Rattle.vpf_library_files.specs.Loading.Holding.{HoldsBytes}
+use Rattle.vpf_library_files.specs.Loading.Loading.{LoadedCoverage, LoadedTable, LoadedTile, Read, ◌and_then◌, read_coverage, read_table, read_tile, read_tileref}
+use Rattle.vpf_library_files.specs.Loading.Loading.{tileref_name, unless_stopped, untiled_loaded, untiled_or_tiled, within}
+use Rattle.vpf_tiling.specs.Plan.PlanLoads.{read_plan}
+use Rattle.vpf_tiling.specs.Plan.Untiled.{read_untiled, tables_or_missing}
 use Rattle.vpf_wing.specs.WellFormed.{IsWellFormed}
 use Rattle.vpf_cross.specs.Agreeing.{LibraryAgrees}
 use Rattle.vpf_numbers.specs.Matching.{HaveColumns}

@@ -14,7 +14,7 @@ use Rattle.vpf_base.proofs.Booleans.{both}
 use Rattle.vpf_library_commands.specs.declared.requesting.MakeRequest.{MakeRequest}
 use Rattle.vpf_library_commands.specs.Make.{is_inside, make_request_of}
 use Rattle.vpf_tile_theorem.specs.Tilings.Laws.{RequestsHaveNames}
-use Rattle.vpf_names.specs.Naming.{coverage_name, file_name, is_part, joined_parts, named, parts_of, pieces_of, root_of, slash}
+use Rattle.vpf_source.specs.Names.Naming.{coverage_name, file_name, is_part, joined_parts, named, parts_of, pieces_of, root_of, slash}
 
 -- a byte is a slash
 abbrev pub is_slash : ℕ → Bool

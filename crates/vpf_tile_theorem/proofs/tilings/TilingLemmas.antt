@@ -19,14 +19,14 @@ use Rattle.vpf_prims.specs.Libraries.{library_of}
 use Rattle.vpf_prims.specs.Primitives.{Library}
 use Rattle.vpf_prims.specs.Reading.{PrimitiveTables, primitives_of}
 use Rattle.vpf_prims.specs.Tables.{TileTables}
-use Rattle.vpf_tileref.specs.Laws.{StopsDecide}
-use Rattle.vpf_loading.specs.Holding.{HoldsBytes, LacksOfTile, bytes_in}
-use Rattle.vpf_loading.specs.Loading.{Read, most_loaded, within}
-use Rattle.vpf_tileable.specs.declared.refusals.Refusal.{Refusal}
+use Rattle.vpf_library_files.specs.Tileref.Laws.{StopsDecide}
+use Rattle.vpf_library_files.specs.Loading.Holding.{HoldsBytes, LacksOfTile, bytes_in}
+use Rattle.vpf_library_files.specs.Loading.Loading.{Read, most_loaded, within}
+use Rattle.vpf_tiling.specs.declared.tileable.refusals.Refusal.{Refusal}
 use Rattle.vpf_table_files.specs.Adding.{files_made}
 use Rattle.vpf_tiling.specs.Plans.{IsTileable}
 use Rattle.vpf_library_commands.specs.TilerMaking.{unless_tile_limited}
-use Rattle.vpf_tile_writing.specs.Writable.{AreWritable, HaveFewRows}
+use Rattle.vpf_primitive_tables.specs.TileWriting.Writable.{AreWritable, HaveFewRows}
 use Rattle.vpf_library_commands.specs.TilerLaws.{AreTilesGiven, MadeAgrees, MadeIsTileable}
 use Rattle.vpf_library_commands.specs.Folders.{HoldsExactly}
 use Rattle.vpf_library_commands.specs.TilerMaking.{tiled, unless_refused}

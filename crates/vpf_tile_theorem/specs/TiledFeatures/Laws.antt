@@ -7,8 +7,8 @@ use Rattle.vpf_table.specs.Grid.{Grid}
 use Rattle.vpf_prims.specs.Libraries.{library_of}
 use Rattle.vpf_prims.specs.Primitives.{Primitives}
 use Rattle.vpf_prims.specs.Reading.{PrimitiveTables}
-use Rattle.vpf_loading.specs.Holding.{bytes_in}
-use Rattle.vpf_loading.specs.Loading.{most_loaded, within}
+use Rattle.vpf_library_files.specs.Loading.Holding.{bytes_in}
+use Rattle.vpf_library_files.specs.Loading.Loading.{most_loaded, within}
 use Rattle.vpf_table_files.specs.Adding.{files_made}
 use Rattle.vpf_library_commands.specs.Tables.{library_tables}
 use Rattle.vpf_library_commands.specs.Folders.{HoldsExactly}

@@ -5,7 +5,7 @@ use Rattle.vpf_source.specs.declared.file.File.{File}
 use Rattle.vpf_prims.specs.Coverages.{tile_at}
 use Rattle.vpf_prims.specs.Reading.{primitives_of}
 use Rattle.vpf_prims.specs.Tables.{TileTables}
-use Rattle.vpf_tileable.specs.Planning.{plan_of}
+use Rattle.vpf_tiling.specs.Tileable.Planning.{plan_of}
 use Rattle.vpf_table_files.specs.Adding.{NamedTable, files_made, first_limit_of}
 use Rattle.vpf_library_commands.specs.CutBy.{names_of_faces, plan_refusal}
 use Rattle.vpf_library_commands.specs.Tables.{library_tables}

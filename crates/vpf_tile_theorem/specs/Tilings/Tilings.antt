@@ -8,8 +8,8 @@ use Rattle.vpf_darts.specs.declared.darts.TileDart.{TileDart}
 use Rattle.vpf_darts.specs.Listings.{numbers_of}
 use Rattle.vpf_prims.specs.Libraries.{library_of}
 use Rattle.vpf_prims.specs.Primitives.{Primitives}
-use Rattle.vpf_loading.specs.Holding.{bytes_in}
-use Rattle.vpf_loading.specs.Loading.{LoadedCoverage, most_loaded, within}
+use Rattle.vpf_library_files.specs.Loading.Holding.{bytes_in}
+use Rattle.vpf_library_files.specs.Loading.Loading.{LoadedCoverage, most_loaded, within}
 use Rattle.vpf_tiling.specs.Plans.{IsTileable}
 use Rattle.vpf_tiling.specs.Tiles.{tiled_library}
 use Rattle.vpf_library_commands.specs.Tilings.{AreNamedCycles}

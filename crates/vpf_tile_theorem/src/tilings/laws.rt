@@ -6,8 +6,8 @@ use crate::tiled_features::laws::made_with_features;
 use vpf_feature_agreement::laws::features_decide;
 use vpf_library_commands::laws::{check_decides_agreement, trace_lists_cycles};
 use vpf_library_commands::tiler::laws::made_agrees;
+use vpf_library_files::tileref::laws::stops_decide;
 use vpf_table::laws::{opened_is_read, read_is_spelled, read_is_writable};
-use vpf_tileref::laws::stops_decide;
 
 /// Where an untiled coverage agrees with its features, its plan serves and no features are joined by numbers, `tile` makes the files of its tiled library, and
 /// behind them those of its features.

@@ -10,7 +10,7 @@ use Rattle.vpf_prims.specs.Coverages.{numbered_path}
 use Rattle.vpf_prims.specs.Lists.{kth}
 use Rattle.vpf_prims.specs.Primitives.{Primitives}
 use Rattle.vpf_prims.specs.Reading.{PrimitiveTables}
-use Rattle.vpf_tileref.specs.Stops.{path_texts}
+use Rattle.vpf_library_files.specs.Tileref.Stops.{path_texts}
 use Rattle.vpf_tiling.specs.RankLaws.{up-last}
 use Rattle.vpf_tiling.specs.Ranks.{up_to}
 use Rattle.vpf_table_files.specs.declared.errors.AddError.{AddError}

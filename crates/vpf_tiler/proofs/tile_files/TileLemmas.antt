@@ -7,7 +7,7 @@ use Rattle.vpf_write.specs.Writing.{Writes}
 use Rattle.vpf_write.specs.declared.writing.WriteError.{WriteError}
 use Rattle.vpf_prims.specs.Primitives.{Primitives}
 use Rattle.vpf_prims.specs.Reading.{PrimitiveTables}
-use Rattle.vpf_tile_tables.specs.Grids.{WritesWhere, entities_made}
+use Rattle.vpf_primitive_tables.specs.TileTables.Grids.{WritesWhere, entities_made}
 use Rattle.vpf_table_files.specs.declared.errors.AddError.{AddError}
 use Rattle.vpf_table_files.specs.Adding.{Adds, AreAdded, Fails, NamedTable, table_within}
 use Rattle.vpf_tiler.specs.TileFiles.Tables.{edge_table, entity_tables, face_table, node_table, ring_table, tile_tables}

@@ -8,13 +8,13 @@ use Rattle.std.proofs.lemmas.List.{append_cancel_left, append_cancel_right, leng
 use Rattle.std.proofs.lemmas.List.Concat.{flat_map-append}
 use Rattle.std.proofs.lemmas.Str.{encode_ascii}
 use Rattle.vpf_source.specs.declared.file.File.{File}
-use Rattle.vpf_names.specs.Indexes.{index_name}
-use Rattle.vpf_names.specs.Naming.{slash}
+use Rattle.vpf_source.specs.Names.Indexes.{index_name}
+use Rattle.vpf_source.specs.Names.Naming.{slash}
 use Rattle.vpf_table.specs.Canonical.{canonical_index}
 use Rattle.vpf_table.specs.Grid.{Grid}
 use Rattle.vpf_prims.specs.Reading.{PrimitiveTables}
-use Rattle.vpf_made.specs.Files.{index_files, table_files}
-use Rattle.vpf_loading.specs.Loading.{within}
+use Rattle.vpf_write.specs.Made.Files.{index_files, table_files}
+use Rattle.vpf_library_files.specs.Loading.Loading.{within}
 use Rattle.vpf_table_files.specs.Adding.{files_made, files_of_table, table_within}
 use Rattle.vpf_tiler.proofs.tiled_files.NameLemmas.{cut_ends, ends_behind, index_behind, within_is, within_utf8}
 use Rattle.vpf_tiler.proofs.tiled_files.PathLemmas.{IsInner}

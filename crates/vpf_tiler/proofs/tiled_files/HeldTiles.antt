@@ -12,11 +12,11 @@ use Rattle.vpf_table.specs.Grid.{Grid}
 use Rattle.vpf_prims.specs.Coverages.{tiled_coverage}
 use Rattle.vpf_prims.specs.Reading.{PrimitiveTables}
 use Rattle.vpf_prims.specs.Tables.{TileTables}
-use Rattle.vpf_tileref.specs.Stops.{IsBounded, path_texts}
-use Rattle.vpf_tileref.specs.Tileref.{IsTileref}
-use Rattle.vpf_loading.specs.Holding.{AreFilesOf, AreTilesFiles, HoldsCoverage, LacksOfTiles, bytes_in}
-use Rattle.vpf_loading.specs.Loading.{LoadedCoverage, most_loaded, tileref_name, within}
-use Rattle.vpf_made.specs.Files.{table_files}
+use Rattle.vpf_library_files.specs.Tileref.Stops.{IsBounded, path_texts}
+use Rattle.vpf_library_files.specs.Tileref.Tileref.{IsTileref}
+use Rattle.vpf_library_files.specs.Loading.Holding.{AreFilesOf, AreTilesFiles, HoldsCoverage, LacksOfTiles, bytes_in}
+use Rattle.vpf_library_files.specs.Loading.Loading.{LoadedCoverage, most_loaded, tileref_name, within}
+use Rattle.vpf_write.specs.Made.Files.{table_files}
 use Rattle.vpf_table_files.specs.Adding.{NamedTable, files_made, files_of_table, table_within}
 use Rattle.vpf_tiler.proofs.tiled_files.NameLemmas.{within_is, within_within}
 use Rattle.vpf_tiler.proofs.tiled_files.PathLemmas.{IsInner}

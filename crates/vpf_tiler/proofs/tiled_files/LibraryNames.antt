@@ -6,19 +6,19 @@ use Rattle.std.specs.List.{AllByRecursion}
 use Rattle.std.proofs.lemmas.Bool.{and_parts, leb-true}
 use Rattle.std.proofs.lemmas.List.{append_cancel_left, get_or-map, length-map}
 use Rattle.std.proofs.lemmas.Str.{encode_ascii}
-use Rattle.vpf_names.specs.Indexes.{without_last}
-use Rattle.vpf_names.proofs.LastLetters.{last_dropped}
+use Rattle.vpf_source.specs.Names.Indexes.{without_last}
+use Rattle.vpf_source.proofs.names.LastLetters.{last_dropped}
 use Rattle.vpf_table.specs.Grid.{Grid}
 use Rattle.vpf_prims.specs.Lists.{kth}
 use Rattle.vpf_prims.specs.Primitives.{Primitives}
 use Rattle.vpf_prims.specs.Reading.{PrimitiveTables}
-use Rattle.vpf_tileref.specs.Paths.{TilePath, path_text}
-use Rattle.vpf_tileref.specs.Stops.{path_texts}
-use Rattle.vpf_tileref.specs.Tileref.{IsTileref, paths_of}
-use Rattle.vpf_loading.specs.Loading.{within}
+use Rattle.vpf_library_files.specs.Tileref.Paths.{TilePath, path_text}
+use Rattle.vpf_library_files.specs.Tileref.Stops.{path_texts}
+use Rattle.vpf_library_files.specs.Tileref.Tileref.{IsTileref, paths_of}
+use Rattle.vpf_library_files.specs.Loading.Loading.{within}
 use Rattle.vpf_tiling.specs.Ranks.{up_to}
 use Rattle.vpf_tiling.specs.Tiles.{is_made}
-use Rattle.vpf_tile_tables.specs.Grids.{entities_made}
+use Rattle.vpf_primitive_tables.specs.TileTables.Grids.{entities_made}
 use Rattle.vpf_table_files.specs.Adding.{NamedTable, files_made, table_within}
 use Rattle.vpf_tiler.specs.TileFiles.Tables.{all_tile_tables, edge_table, entity_tables, face_table, library_tables, node_table, ring_table}
 use Rattle.vpf_tiler.specs.TileFiles.Tables.{tables_if_made, tile_tables, tileref_table}

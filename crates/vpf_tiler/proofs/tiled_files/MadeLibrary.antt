@@ -16,18 +16,18 @@ use Rattle.vpf_prims.specs.Coverages.{tile_at, tiled_coverage}
 use Rattle.vpf_prims.specs.Lists.{kth}
 use Rattle.vpf_prims.specs.Reading.{PrimitiveTables, primitives_of}
 use Rattle.vpf_prims.specs.Tables.{TileTables}
-use Rattle.vpf_tileref.specs.Paths.{IsPath, TilePath, path_text}
-use Rattle.vpf_tileref.specs.Stops.{path_texts}
-use Rattle.vpf_tileref.specs.Tileref.{IsTileref, paths_of}
-use Rattle.vpf_loading.specs.Holding.{bytes_in}
-use Rattle.vpf_loading.specs.Loading.{most_loaded, within}
+use Rattle.vpf_library_files.specs.Tileref.Paths.{IsPath, TilePath, path_text}
+use Rattle.vpf_library_files.specs.Tileref.Stops.{path_texts}
+use Rattle.vpf_library_files.specs.Tileref.Tileref.{IsTileref, paths_of}
+use Rattle.vpf_library_files.specs.Loading.Holding.{bytes_in}
+use Rattle.vpf_library_files.specs.Loading.Loading.{most_loaded, within}
 use Rattle.vpf_tiling.specs.RankLaws.{numbered_many}
 use Rattle.vpf_tiling.specs.Tiles.{is_made}
-use Rattle.vpf_tile_tables.specs.Grids.{entities_made, tiles_made}
+use Rattle.vpf_primitive_tables.specs.TileTables.Grids.{entities_made, tiles_made}
 use Rattle.vpf_table_files.specs.Adding.{NamedTable, files_made}
 use Rattle.vpf_tiler.specs.TileFiles.Tables.{edge_table, entity_tables, face_table, library_tables, node_table, ring_table}
 use Rattle.vpf_tiler.specs.TileFiles.Tables.{tables_if_made, tile_tables, tileref_table}
-use Rattle.vpf_tile_reading.specs.Cuts.{IsCutInto, tables_if_any, tables_of_tile}
+use Rattle.vpf_primitive_tables.specs.TileReading.Cuts.{IsCutInto, tables_if_any, tables_of_tile}
 use Rattle.vpf_tiler.specs.TiledFiles.Folders.{CanBeMade, HoldsExactly}
 use Rattle.vpf_tiler.specs.TiledFiles.Laws.{MadeIsHeld}
 use Rattle.vpf_tiler.proofs.tiled_files.PathLemmas.{IsInner, one_path, path_is_inner}

@@ -8,10 +8,10 @@ use Rattle.std.specs.List.{ends_with}
 use Rattle.std.proofs.lemmas.List.{drop-drop, drop_at, length-append, take_at}
 use Rattle.std.proofs.lemmas.Str.{IsUtf8-append, IsUtf8-from_ascii}
 use Rattle.std.proofs.lemmas.Str.Ascii.{IsAscii-cons, IsAscii-nil}
-use Rattle.vpf_names.specs.Indexes.{index_name, without_last}
-use Rattle.vpf_names.specs.Naming.{slash}
-use Rattle.vpf_names.proofs.LastLetters.{last_dropped}
-use Rattle.vpf_loading.specs.Loading.{within}
+use Rattle.vpf_source.specs.Names.Indexes.{index_name, without_last}
+use Rattle.vpf_source.specs.Names.Naming.{slash}
+use Rattle.vpf_source.proofs.names.LastLetters.{last_dropped}
+use Rattle.vpf_library_files.specs.Loading.Loading.{within}
 
 -- a list that isn't empty ends as it does behind another
 pub ends_behind : (front list : List ℕ) → list ≢ [] → ends_with nat_eq (front ++ list) (slash ∷ []) ≡ ends_with nat_eq list (slash ∷ [])

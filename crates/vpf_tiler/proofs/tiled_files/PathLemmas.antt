@@ -8,10 +8,10 @@ use Rattle.std.proofs.lemmas.List.Elements.{All-head, All-tail, All-weaker}
 use Rattle.std.proofs.lemmas.Str.{IsAscii-append, IsUtf8-from_ascii}
 use Rattle.std.proofs.lemmas.Slice.Eq.{bytes_eq-Decides}
 use Rattle.std.proofs.lemmas.Str.Ascii.{IsAscii-cons, IsAscii-from_all}
-use Rattle.vpf_names.specs.Naming.{slash}
-use Rattle.vpf_tileref.specs.Paths.{IsFolder, IsLetter, IsPath, TilePath, path_text}
-use Rattle.vpf_tileref.proofs.PathDecides.{path_decides, same_decides}
-use Rattle.vpf_tileref.proofs.TextLemmas.{text_tells}
+use Rattle.vpf_source.specs.Names.Naming.{slash}
+use Rattle.vpf_library_files.specs.Tileref.Paths.{IsFolder, IsLetter, IsPath, TilePath, path_text}
+use Rattle.vpf_library_files.proofs.tileref.PathDecides.{path_decides, same_decides}
+use Rattle.vpf_library_files.proofs.tileref.TextLemmas.{text_tells}
 use Rattle.vpf_tiler.proofs.tiled_files.NameLemmas.{ends_behind}
 
 -- a text that can be the name of a folder within another

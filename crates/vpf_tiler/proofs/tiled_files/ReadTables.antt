@@ -7,15 +7,15 @@ use Rattle.vpf_base.specs.Limits.{most_bytes}
 use Rattle.vpf_source.specs.Files.{Files}
 use Rattle.vpf_source.specs.declared.file.File.{File}
 use Rattle.vpf_triplet.specs.declared.places.Part.{Part}
-use Rattle.vpf_names.specs.Indexes.{index_name}
+use Rattle.vpf_source.specs.Names.Indexes.{index_name}
 use Rattle.vpf_table.specs.declared.limit.Limit.{Limit as Passed}
 use Rattle.vpf_table.specs.Canonical.{IsWritable, canonical_table}
 use Rattle.vpf_table.specs.Grid.{Grid}
 use Rattle.vpf_findings.specs.Firsts.{◌or◌}
 use Rattle.vpf_write.specs.Writing.{first_limit}
-use Rattle.vpf_made.specs.Files.{index_files, table_files}
-use Rattle.vpf_loading.specs.Holding.{AreFilesOf, AreHeld, bytes_in}
-use Rattle.vpf_loading.specs.Loading.{loaded_file, within}
+use Rattle.vpf_write.specs.Made.Files.{index_files, table_files}
+use Rattle.vpf_library_files.specs.Loading.Holding.{AreFilesOf, AreHeld, bytes_in}
+use Rattle.vpf_library_files.specs.Loading.Loading.{loaded_file, within}
 use Rattle.vpf_table_files.specs.Adding.{NamedTable, files_made, files_of_table, first_limit_of, named_limit}
 use Rattle.vpf_tiler.proofs.tiled_files.WrittenTables.{Indexed, Opens, Plain, table_fits}
 

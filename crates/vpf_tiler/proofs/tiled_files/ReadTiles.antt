@@ -7,15 +7,15 @@ use Rattle.std.specs.List.{AllByRecursion}
 use Rattle.std.proofs.lemmas.Str.{IsUtf8-from_ascii, encode_ascii}
 use Rattle.std.proofs.lemmas.Str.Ascii.{IsAscii-cons, IsAscii-nil}
 use Rattle.vpf_source.specs.declared.file.File.{File}
-use Rattle.vpf_names.specs.Indexes.{index_name}
+use Rattle.vpf_source.specs.Names.Indexes.{index_name}
 use Rattle.vpf_table.specs.Canonical.{IsWritable}
 use Rattle.vpf_table.specs.Grid.{Grid}
 use Rattle.vpf_write.specs.Writing.{first_limit}
 use Rattle.vpf_prims.specs.Reading.{PrimitiveTables}
 use Rattle.vpf_prims.specs.Tables.{TileTables}
-use Rattle.vpf_made.specs.Files.{table_files}
-use Rattle.vpf_loading.specs.Holding.{AreFilesOf, AreFilesOfOption, AreTileFiles, AreTilesFiles}
-use Rattle.vpf_loading.specs.Loading.{within}
+use Rattle.vpf_write.specs.Made.Files.{table_files}
+use Rattle.vpf_library_files.specs.Loading.Holding.{AreFilesOf, AreFilesOfOption, AreTileFiles, AreTilesFiles}
+use Rattle.vpf_library_files.specs.Loading.Loading.{within}
 use Rattle.vpf_table_files.specs.Adding.{NamedTable, files_of_table, table_within}
 use Rattle.vpf_tiler.proofs.tiled_files.NameLemmas.{index_within, some_after, within_is, within_utf8, within_within}
 use Rattle.vpf_tiler.proofs.tiled_files.PathLemmas.{IsInner}

@@ -5,12 +5,12 @@ use Rattle.std.specs.Char.{IsScalar}
 use Rattle.std.specs.List.{AllByRecursion}
 use Rattle.std.proofs.lemmas.Str.{encode_ascii}
 use Rattle.vpf_source.specs.declared.file.File.{File}
-use Rattle.vpf_names.specs.Indexes.{without_last}
-use Rattle.vpf_names.proofs.LastLetters.{last_dropped}
+use Rattle.vpf_source.specs.Names.Indexes.{without_last}
+use Rattle.vpf_source.proofs.names.LastLetters.{last_dropped}
 use Rattle.vpf_table.specs.Canonical.{canonical_index}
 use Rattle.vpf_table.specs.Grid.{Grid}
-use Rattle.vpf_made.specs.Files.{index_files}
-use Rattle.vpf_loading.specs.Loading.{within}
+use Rattle.vpf_write.specs.Made.Files.{index_files}
+use Rattle.vpf_library_files.specs.Loading.Loading.{within}
 use Rattle.vpf_table_files.specs.Adding.{NamedTable, files_made, files_of_table, table_within}
 use Rattle.vpf_tiler.proofs.tiled_files.NameLemmas.{cut_ends, within_is, within_utf8}
 use Rattle.vpf_tiler.proofs.tiled_files.ReadTiles.{ascii, last_behind}

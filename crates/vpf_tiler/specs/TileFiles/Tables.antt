@@ -4,11 +4,11 @@ use Rattle.vpf_table.specs.Grid.{Grid}
 use Rattle.vpf_prims.specs.Lists.{kth}
 use Rattle.vpf_prims.specs.Primitives.{Primitives}
 use Rattle.vpf_prims.specs.Reading.{PrimitiveTables}
-use Rattle.vpf_loading.specs.Loading.{within}
-use Rattle.vpf_tileref.specs.Stops.{path_texts}
+use Rattle.vpf_library_files.specs.Loading.Loading.{within}
+use Rattle.vpf_library_files.specs.Tileref.Stops.{path_texts}
 use Rattle.vpf_tiling.specs.Ranks.{up_to}
 use Rattle.vpf_tiling.specs.Tiles.{is_made}
-use Rattle.vpf_tile_tables.specs.Grids.{edges_made, entities_made, faces_made, nodes_made, rings_made, tiles_made}
+use Rattle.vpf_primitive_tables.specs.TileTables.Grids.{edges_made, entities_made, faces_made, nodes_made, rings_made, tiles_made}
 use Rattle.vpf_table_files.specs.Adding.{NamedTable, table_within}
 
 -- the table of entity nodes of a tile, where the coverage has one

@@ -6,11 +6,11 @@ use Rattle.vpf_source.specs.declared.file.File.{File}
 use Rattle.vpf_table.specs.Canonical.{IsWritable}
 use Rattle.vpf_table.specs.Grid.{Grid}
 use Rattle.vpf_prims.specs.Reading.{PrimitiveTables, primitives_of}
-use Rattle.vpf_tileref.specs.Stops.{IsBounded, path_texts}
-use Rattle.vpf_tileref.specs.Tileref.{IsTileref}
-use Rattle.vpf_loading.specs.Holding.{bytes_in}
-use Rattle.vpf_loading.specs.Loading.{most_loaded, within}
-use Rattle.vpf_tile_tables.specs.Grids.{tiles_made}
+use Rattle.vpf_library_files.specs.Tileref.Stops.{IsBounded, path_texts}
+use Rattle.vpf_library_files.specs.Tileref.Tileref.{IsTileref}
+use Rattle.vpf_library_files.specs.Loading.Holding.{bytes_in}
+use Rattle.vpf_library_files.specs.Loading.Loading.{most_loaded, within}
+use Rattle.vpf_primitive_tables.specs.TileTables.Grids.{tiles_made}
 use Rattle.vpf_table_files.specs.Adding.{NamedTable, files_made, first_limit_of}
 use Rattle.vpf_tiler.specs.TileFiles.Tables.{library_tables}
 

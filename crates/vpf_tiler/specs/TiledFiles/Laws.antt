@@ -3,11 +3,11 @@ use Rattle.std.specs.Prelude.{◌≢◌, ℕ, IsUtf8, List, [], length}
 use Rattle.vpf_source.specs.Files.{Files}
 use Rattle.vpf_table.specs.Grid.{Grid}
 use Rattle.vpf_prims.specs.Reading.{PrimitiveTables, primitives_of}
-use Rattle.vpf_loading.specs.Holding.{HoldsCoverage}
-use Rattle.vpf_loading.specs.Loading.{LoadedCoverage}
+use Rattle.vpf_library_files.specs.Loading.Holding.{HoldsCoverage}
+use Rattle.vpf_library_files.specs.Loading.Loading.{LoadedCoverage}
 use Rattle.vpf_table_files.specs.Adding.{files_made}
 use Rattle.vpf_tiler.specs.TileFiles.Tables.{library_tables}
-use Rattle.vpf_tile_reading.specs.Cuts.{IsCutInto}
+use Rattle.vpf_primitive_tables.specs.TileReading.Cuts.{IsCutInto}
 use Rattle.vpf_tiler.specs.TiledFiles.Folders.{CanBeMade, HoldsExactly}
 
 -- a folder of a tree holds the coverage, cut into tiles, under the name of the coverage

@@ -4,8 +4,8 @@ use Rattle.vpf_source.specs.declared.file.File.{File}
 use Rattle.vpf_table.specs.Grid.{Grid}
 use Rattle.vpf_prims.specs.Primitives.{Primitives}
 use Rattle.vpf_prims.specs.Reading.{PrimitiveTables}
-use Rattle.vpf_tileref.specs.Tileref.{IsTileref}
-use Rattle.vpf_loading.specs.Loading.{within}
+use Rattle.vpf_library_files.specs.Tileref.Tileref.{IsTileref}
+use Rattle.vpf_library_files.specs.Loading.Loading.{within}
 use Rattle.vpf_table_files.specs.Adding.{files_made}
 use Rattle.vpf_tiler.specs.TileFiles.Tables.{library_tables}
 

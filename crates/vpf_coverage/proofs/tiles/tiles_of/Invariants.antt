@@ -1,7 +1,7 @@
 use Rattle.std.proofs.Common.{◌≡◌, ◌++◌, ◌<◌, ◌^◌, length}
 use Rattle.std.specs.Prelude.{All}
 use Rattle.std.specs.Vec.Iter.{into_iter_items}
-use Rattle.vpf_opening.specs.Opened.{placed_views}
+use Rattle.vpf_coverage.specs.Opening.Opened.{placed_views}
 use Rattle.vpf_coverage.specs.Opened.{AreAllRight}
 use Rattle.vpf_coverage.proofs.tiles.tiles_of.Given as goal
 

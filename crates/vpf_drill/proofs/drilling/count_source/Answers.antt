@@ -1,6 +1,6 @@
 use Rattle.std.proofs.Common.{sym, subst}
 use Rattle.vpf_source.specs.declared.file.File.{File}
-use Rattle.vpf_loading.specs.Holding.{AreCoverageFiles}
+use Rattle.vpf_library_files.specs.Loading.Holding.{AreCoverageFiles}
 use Rattle.std.proofs.Common.{List}
 use Rattle.vpf_drill.specs.GridCutting.Held.{grid_held}
 use Rattle.vpf_drill.specs.GridCutting.Reading.{grid_request}

@@ -3,7 +3,7 @@ use Rattle.vpf_source.specs.declared.file.File.{File}
 use Rattle.vpf_darts.specs.Listings.{numbers_of}
 use Rattle.vpf_prims.specs.Coverages.{CoverageTables}
 use Rattle.vpf_prims.specs.Libraries.{library_of}
-use Rattle.vpf_loading.specs.Holding.{AreCoverageFiles}
+use Rattle.vpf_library_files.specs.Loading.Holding.{AreCoverageFiles}
 use Rattle.vpf_trace.specs.Tracing.{IsTrace}
 use Rattle.vpf_cross.specs.CrossFinding.{topology_finding}
 use Rattle.vpf_drill.specs.GridCutting.Reading.{grid_request}

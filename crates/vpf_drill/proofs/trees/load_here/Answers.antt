@@ -1,4 +1,4 @@
-use Rattle.vpf_loading.specs.Loading.{read_coverage}
+use Rattle.vpf_library_files.specs.Loading.Loading.{read_coverage}
 use Rattle.vpf_drill.proofs.TreeLemmas.{with_first}
 use Rattle.vpf_drill.proofs.trees.load_here.Goals as goal
 

@@ -1,8 +1,8 @@
 use Rattle.std.proofs.Common.{◌≡◌, ◌∙◌, ap}
 use Rattle.vpf_prims.specs.Coverages.{CoverageTables}
 use Rattle.vpf_numbers.specs.TableLines.{coverage_numbers}
-use Rattle.vpf_loading.specs.Holding.{AreCoverageFiles}
-use Rattle.vpf_loading.specs.Loading.{within}
+use Rattle.vpf_library_files.specs.Loading.Holding.{AreCoverageFiles}
+use Rattle.vpf_library_files.specs.Loading.Loading.{within}
 use Rattle.vpf_features.specs.Finding.{tables_finding}
 use Rattle.vpf_replies.specs.Answer.{Answer}
 use Rattle.vpf_feature_commands.specs.Select.{coverage_answer, schema_answer}

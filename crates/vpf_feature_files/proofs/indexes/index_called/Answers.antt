@@ -1,5 +1,5 @@
 use Rattle.std.proofs.Common.{rules, ◌≡◌}
-use Rattle.vpf_loading.specs.Loading.{within}
+use Rattle.vpf_library_files.specs.Loading.Loading.{within}
 use Rattle.vpf_feature_files.proofs.IndexLemmas.{index_comes}
 use Rattle.vpf_feature_files.proofs.indexes.index_called.Goals as goal
 

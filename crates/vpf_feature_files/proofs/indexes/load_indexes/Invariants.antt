@@ -1,6 +1,6 @@
 use Rattle.std.proofs.Common.{◌≡◌, ◌≤◌, drop}
 use Rattle.vpf_source.specs.Causes.{Stood}
-use Rattle.vpf_loading.specs.Loading.{most_loaded}
+use Rattle.vpf_library_files.specs.Loading.Loading.{most_loaded}
 use Rattle.vpf_feature_files.proofs.IndexLemmas.{IndexesRead}
 use Rattle.vpf_feature_files.proofs.indexes.load_indexes.Given as goal
 

@@ -1,8 +1,8 @@
 use Rattle.std.proofs.Common.{rules, ◌≡◌, List, [], refl, subst, sym}
 use Rattle.std.proofs.lemmas.Result.{err_from_is_err_and}
 use Rattle.vpf_source.specs.declared.file.File.{File}
-use Rattle.vpf_loading.specs.Holding.{AreFilesOf}
-use Rattle.vpf_loading.specs.Loading.{within}
+use Rattle.vpf_library_files.specs.Loading.Holding.{AreFilesOf}
+use Rattle.vpf_library_files.specs.Loading.Loading.{within}
 use Rattle.vpf_feature_files.proofs.TableLemmas.{called_comes, called_stop}
 use Rattle.vpf_feature_files.proofs.tables.table_called.Goals as goal
 

@@ -1,6 +1,6 @@
 use Rattle.std.proofs.Common.{◌≡◌, ◌∙◌, None}
 use Rattle.vpf_numbers.specs.TableLines.{coverage_numbers}
-use Rattle.vpf_loading.specs.Holding.{AreCoverageFiles}
+use Rattle.vpf_library_files.specs.Loading.Holding.{AreCoverageFiles}
 use Rattle.vpf_featured.specs.Finding.{placed_finding}
 use Rattle.vpf_featured.proofs.FindingLemmas.{placed_same, tells_behind}
 use Rattle.vpf_featured.proofs.checking.open_featured.Goals as goal

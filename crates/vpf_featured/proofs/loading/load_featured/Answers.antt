@@ -1,7 +1,7 @@
 use Rattle.std.proofs.Common.{◌≡◌, ◌∙◌, ℕ, List, subst}
 use Rattle.std.proofs.lemmas.Result.{err_from_is_err_and}
-use Rattle.vpf_loading.specs.Loading.{read_coverage, within}
-use Rattle.vpf_loading.specs.Loads.{ReadsStop, ReadsValue}
+use Rattle.vpf_library_files.specs.Loading.Loading.{read_coverage, within}
+use Rattle.vpf_library_files.specs.Loading.Loads.{ReadsStop, ReadsValue}
 use Rattle.vpf_feature_files.specs.Held.{AreOfSchema, AreSchemaFiles}
 use Rattle.vpf_feature_files.specs.Reading.{read_schema}
 use Rattle.vpf_featured.proofs.LoadLemmas.{both_are, both_read, coverage_comes, coverage_ends, coverage_stops, features_stop, no_fault}

@@ -2,8 +2,8 @@ use Rattle.std.proofs.Common.{◌≡◌, ◌∙◌, List, ap, subst, sym}
 use Rattle.vpf_source.specs.declared.file.File.{File}
 use Rattle.vpf_head.specs.Head.{Head}
 use Rattle.vpf_table.specs.Grid.{Grid}
-use Rattle.vpf_loading.specs.Holding.{AreFilesOf}
-use Rattle.vpf_loading.specs.Loading.{within}
+use Rattle.vpf_library_files.specs.Loading.Holding.{AreFilesOf}
+use Rattle.vpf_library_files.specs.Loading.Loading.{within}
 use Rattle.vpf_features.proofs.FileLemmas.{same_table}
 use Rattle.vpf_features.proofs.opening.open_table.Goals as goal
 

@@ -8,8 +8,8 @@ use Rattle.vpf_tiling.specs.Ranks.{numbered}
 use Rattle.vpf_wing.specs.Links.{links_of}
 use Rattle.vpf_follow.specs.Following.{is_home}
 use Rattle.vpf_write.specs.Writing.{Writes}
-use Rattle.vpf_table_forms.specs.Forms.{edge_kinds_of, head_like, table_like}
-use Rattle.vpf_table_forms.proofs.CountedRows.{numbered-map, put_all, put_more}
+use Rattle.vpf_primitive_tables.specs.TableForms.Forms.{edge_kinds_of, head_like, table_like}
+use Rattle.vpf_primitive_tables.proofs.table_forms.CountedRows.{numbered-map, put_all, put_more}
 use Rattle.vpf_glue.specs.GluedTables.Grids.{glued_edge_row}
 use Rattle.vpf_triplet.specs.declared.kinds.Kind.{Kind}
 use Rattle.vpf_triplet.specs.declared.kinds.Kind.TheVariants.{I}

@@ -2,7 +2,7 @@ use Rattle.std.proofs.Common.{ℕ, List, ap, ◌∙◌, subst}
 use Rattle.vpf_head.specs.Head.{Head}
 use Rattle.vpf_tiling.specs.Ranks.{numbered}
 use Rattle.vpf_write.specs.Writing.{Writes}
-use Rattle.vpf_table_forms.specs.Forms.{head_like, pair_kinds}
+use Rattle.vpf_primitive_tables.specs.TableForms.Forms.{head_like, pair_kinds}
 use Rattle.vpf_glue.specs.GluedTables.Grids.{entity_sources, glued_entity_row}
 use Rattle.vpf_glue.proofs.entities.write_entities.Goals as goal
 

@@ -5,14 +5,14 @@ use Rattle.std.specs.Prelude.{slice_index_or}
 use Rattle.vpf_head.specs.Head.{Head}
 use Rattle.vpf_table.specs.Grid.{Grid, Row}
 use Rattle.vpf_prims.specs.Lists.{first_item}
-use Rattle.vpf_revise.specs.Revising.{FitsElsewhere}
+use Rattle.vpf_write.specs.Revise.Revising.{FitsElsewhere}
 use Rattle.vpf_tiling.specs.Ranks.{numbered}
 use Rattle.vpf_tiling.specs.Tiles.{Ring}
 use Rattle.vpf_write.specs.Writing.{Writes}
 use Rattle.vpf_renumbering.specs.TilingLawsWhole.{WholeFace}
 use Rattle.vpf_renumbering.specs.Glued.{glued_rings}
-use Rattle.vpf_table_forms.specs.Forms.{head_like, pair_kinds, pair_values}
-use Rattle.vpf_table_forms.proofs.CountedRows.{put_all, put_more}
+use Rattle.vpf_primitive_tables.specs.TableForms.Forms.{head_like, pair_kinds, pair_values}
+use Rattle.vpf_primitive_tables.proofs.table_forms.CountedRows.{put_all, put_more}
 use Rattle.vpf_glue.specs.GluedTables.Grids.{face_sources, glued_face_row, row_in, whole_in}
 use Rattle.vpf_glue.proofs.FaceLemmas.{first_ring, sources_many}
 use Rattle.vpf_glue.proofs.faces.write_faces.Goals as goal

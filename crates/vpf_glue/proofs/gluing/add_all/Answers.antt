@@ -12,7 +12,7 @@ use Rattle.vpf_tiling.specs.Tiles.{Ring}
 use Rattle.vpf_write.specs.Writing.{Writes}
 use Rattle.vpf_renumbering.specs.Glued.{glued_rings}
 use Rattle.vpf_cut_rings.specs.Rings.{first_rings_of}
-use Rattle.vpf_table_forms.specs.Models.{PairsLike}
+use Rattle.vpf_primitive_tables.specs.TableForms.Models.{PairsLike}
 use Rattle.vpf_table_files.specs.Adding.{Adds, table_within}
 use Rattle.vpf_renumbering.specs.declared.glued_faces.rings.GluedRing.{GluedRing}
 use Rattle.vpf_renumbering.specs.GluedFaces.Rings.{HasHomeStart, ring_of}

@@ -1,7 +1,7 @@
 use Rattle.std.proofs.Common.{List, [], ◌∷◌, codes}
 use Rattle.std.specs.Option.{option_map}
 use Rattle.std.proofs.lemmas.Result.{err_from_is_err_and}
-use Rattle.vpf_table_forms.specs.Models.{PairsLike}
+use Rattle.vpf_primitive_tables.specs.TableForms.Models.{PairsLike}
 use Rattle.vpf_table_files.specs.AddLaws.{adds_then, fails_first}
 use Rattle.vpf_glue.specs.GluedTables.Grids.{glued_entity_grid, plan_grid}
 use Rattle.vpf_glue.specs.Tables.{end_tables, plan_table}

@@ -12,15 +12,15 @@ use Rattle.vpf_table.specs.Grid.{Row}
 use Rattle.vpf_prims.specs.Coverages.{CoverageTables}
 use Rattle.vpf_prims.specs.Libraries.{library_of}
 use Rattle.vpf_prims.specs.Reading.{PrimitiveTables}
-use Rattle.vpf_revise.specs.Revising.{FitsElsewhere}
+use Rattle.vpf_write.specs.Revise.Revising.{FitsElsewhere}
 use Rattle.vpf_tiling.specs.Ranks.{numbered}
 use Rattle.vpf_tiling.specs.Tiles.{first_edge_at}
 use Rattle.vpf_wing.specs.Links.{links_of, tail_node}
 use Rattle.vpf_follow.specs.Following.{is_home}
 use Rattle.vpf_write.specs.Writing.{Writes}
 use Rattle.vpf_renumbering.specs.Glued.{first_darts, glued_edges}
-use Rattle.vpf_table_forms.specs.Forms.{head_like, pair_kinds, pair_values, table_like}
-use Rattle.vpf_table_forms.proofs.CountedRows.{numbered-map, put_all, put_more}
+use Rattle.vpf_primitive_tables.specs.TableForms.Forms.{head_like, pair_kinds, pair_values, table_like}
+use Rattle.vpf_primitive_tables.proofs.table_forms.CountedRows.{numbered-map, put_all, put_more}
 use Rattle.vpf_glue.specs.GluedTables.Grids.{glued_node_row, row_in, whole_in}
 use Rattle.vpf_glue.specs.Sources.{IsOfTile}
 use Rattle.vpf_glue.proofs.nodes.write_nodes.Goals as goal

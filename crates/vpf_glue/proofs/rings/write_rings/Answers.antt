@@ -6,8 +6,8 @@ use Rattle.vpf_write.specs.Writing.{Writes}
 use Rattle.vpf_renumbering.specs.declared.glued_faces.rings.GluedRing.{GluedRing}
 use Rattle.vpf_renumbering.specs.GluedFaces.Rings.{ring_of}
 use Rattle.vpf_glue.specs.GluedTables.Grids.{whole_in}
-use Rattle.vpf_table_forms.specs.Forms.{ring_kinds, ring_row, rings_like, table_like}
-use Rattle.vpf_table_forms.proofs.CountedRows.{numbered-map, put_all, put_more}
+use Rattle.vpf_primitive_tables.specs.TableForms.Forms.{ring_kinds, ring_row, rings_like, table_like}
+use Rattle.vpf_primitive_tables.proofs.table_forms.CountedRows.{numbered-map, put_all, put_more}
 use Rattle.vpf_glue.proofs.rings.write_rings.Goals as goal
 
 pub loop-k-preserved : goal.loop-k-preserved

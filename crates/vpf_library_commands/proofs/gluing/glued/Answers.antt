@@ -1,5 +1,5 @@
 use Rattle.std.proofs.Common.{◌≡◌, ◌∙◌, sym, subst}
-use Rattle.vpf_tileref.specs.Tileref.{IsTileref}
+use Rattle.vpf_library_files.specs.Tileref.Tileref.{IsTileref}
 use Rattle.vpf_glue.specs.Tables.{glued_made}
 use Rattle.vpf_feature_writing.specs.Making.{features_made, made_then}
 use Rattle.vpf_replies.specs.Answer.{Answer}

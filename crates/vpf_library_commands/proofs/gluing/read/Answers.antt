@@ -1,8 +1,8 @@
 use Rattle.std.proofs.Common.{◌≡◌, ◌∙◌, false, true, ap, refl, sym}
 use Rattle.vpf_prims.specs.Coverages.{CoverageTables}
 use Rattle.vpf_cross.specs.CrossFinding.{topology_finding}
-use Rattle.vpf_loading.specs.Holding.{AreTiledFiles}
-use Rattle.vpf_loading.specs.Loading.{within}
+use Rattle.vpf_library_files.specs.Loading.Holding.{AreTiledFiles}
+use Rattle.vpf_library_files.specs.Loading.Loading.{within}
 use Rattle.vpf_featured.specs.Finding.{featured_finding, placed_finding}
 use Rattle.vpf_featured.specs.Held.{AreFeaturedFiles}
 use Rattle.vpf_replies.specs.Answer.{Answer}

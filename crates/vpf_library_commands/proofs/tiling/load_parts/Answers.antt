@@ -2,9 +2,9 @@ use Rattle.std.proofs.Common.{Vec, Global, ◌≡◌, ◌∙◌, ℕ, List, subs
 use Rattle.std.proofs.lemmas.Result.{err_from_is_err_and}
 use Rattle.std.specs.Prelude.{Ok}
 use Rattle.vpf_source.specs.declared.file.File.{File}
-use Rattle.vpf_loading.specs.Loading.{LoadedTable}
-use Rattle.vpf_loading.specs.Loads.{ReadsStop, ReadsValue}
-use Rattle.vpf_plan.specs.PlanLoads.{AreOfPlan, ArePlanFiles, read_plan}
+use Rattle.vpf_library_files.specs.Loading.Loading.{LoadedTable}
+use Rattle.vpf_library_files.specs.Loading.Loads.{ReadsStop, ReadsValue}
+use Rattle.vpf_tiling.specs.Plan.PlanLoads.{AreOfPlan, ArePlanFiles, read_plan}
 use Rattle.vpf_library_commands.specs.Tile.{plan_name}
 use Rattle.vpf_library_commands.proofs.TileLoads.{featured_stops, no_fault, parts_are, parts_read, plan_stops, tileref_stops}
 use Rattle.vpf_library_commands.proofs.tiling.load_parts.Goals as goal

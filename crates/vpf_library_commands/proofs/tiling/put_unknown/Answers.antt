@@ -2,7 +2,7 @@ use Rattle.std.proofs.Common.{◌≡◌, ◌++◌, ℤ, codes, string_bytes, w32
 use Rattle.std.proofs.lemmas.Int.{to_z-of_z}
 use Rattle.std.specs.Prelude.{OnOk}
 use Rattle.std.specs.Fmt.{decimal, signed_decimal}
-use Rattle.vpf_text.specs.Texts.{◌&◌}
+use Rattle.vpf_findings.specs.Text.Texts.{◌&◌}
 use Rattle.vpf_library_commands.proofs.TileAnswers.{put_behind}
 use Rattle.vpf_library_commands.proofs.tiling.put_unknown.Goals as goal
 

@@ -1,6 +1,6 @@
 use Rattle.std.proofs.Common.{◌≡◌, Option, Some, refl, subst}
 use Rattle.std.specs.Prelude.{IfOk}
-use Rattle.vpf_loading.specs.Loading.{within}
+use Rattle.vpf_library_files.specs.Loading.Loading.{within}
 use Rattle.vpf_features.specs.Finding.{Named}
 use Rattle.vpf_findings.specs.Findings.{disagreement_of}
 use Rattle.vpf_findings.specs.Printing.{disagree_text}

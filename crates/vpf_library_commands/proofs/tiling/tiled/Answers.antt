@@ -1,9 +1,9 @@
 use Rattle.std.proofs.Common.{◌≡◌, ◌∙◌, sym, ap, subst}
 use Rattle.vpf_base.specs.Results.{Meets}
 use Rattle.vpf_prims.specs.Coverages.{CoverageTables, tile_at}
-use Rattle.vpf_loading.specs.Loading.{tileref_name}
-use Rattle.vpf_tileref.specs.Stops.{IsBounded}
-use Rattle.vpf_tileref.specs.Tileref.{IsTileref}
+use Rattle.vpf_library_files.specs.Loading.Loading.{tileref_name}
+use Rattle.vpf_library_files.specs.Tileref.Stops.{IsBounded}
+use Rattle.vpf_library_files.specs.Tileref.Tileref.{IsTileref}
 use Rattle.vpf_tiler.specs.Making.{tile_error_seen, tiled}
 use Rattle.vpf_replies.specs.Answer.{Answer}
 use Rattle.vpf_library_commands.specs.Tile.{plan_name, tables_answer, tiled_answer}

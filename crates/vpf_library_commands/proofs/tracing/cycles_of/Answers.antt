@@ -3,7 +3,7 @@ use Rattle.std.proofs.lemmas.Result.{err_from_is_err_and}
 use Rattle.vpf_darts.specs.Listings.{numbers_of}
 use Rattle.vpf_prims.specs.Coverages.{CoverageTables}
 use Rattle.vpf_prims.specs.Libraries.{library_of}
-use Rattle.vpf_loading.specs.Loading.{within}
+use Rattle.vpf_library_files.specs.Loading.Loading.{within}
 use Rattle.vpf_trace.specs.Tracing.{IsTrace}
 use Rattle.vpf_library_commands.proofs.CheckAnswers.{found_featured}
 use Rattle.vpf_library_commands.proofs.tracing.cycles_of.Goals as goal

@@ -1,6 +1,6 @@
 use Rattle.std.proofs.Common.{◌≡◌, ◌++◌, take, string_bytes, codes}
 use Rattle.std.specs.List.{flat_map}
-use Rattle.vpf_text.specs.Texts.{◌&◌}
+use Rattle.vpf_findings.specs.Text.Texts.{◌&◌}
 use Rattle.vpf_replies.specs.Listings.{numbered_text}
 use Rattle.vpf_replies.proofs.listings.put_cycle.Given as goal
 

@@ -1,6 +1,6 @@
 use Rattle.std.proofs.Common.{◌≡◌, take, fold, flat_map}
 use Rattle.std.specs.Hash as fed
-use Rattle.vpf_names.specs.Items.{small}
+use Rattle.vpf_source.specs.Names.Items.{small}
 use Rattle.vpf_schema.proofs.items.hash_small.Given as goal
 
 abbrev pub invariant-loop-b : goal.invariant-loop-b

@@ -2,7 +2,7 @@ use Rattle.std.proofs.Common.{◌≡◌, ◌≤◌, Ok, codes, arith}
 use Rattle.std.proofs.lemmas.List.Elements.{All-from_recursion}
 use Rattle.vpf_table.specs.Canonical.{canonical_table}
 use Rattle.vpf_table.specs.Reading.{table_of}
-use Rattle.vpf_grid.specs.Rows.{edge_rows, face_rows, ring_rows, node_rows, plan_rows}
+use Rattle.vpf_vectors.specs.Cells.Rows.{edge_rows, face_rows, ring_rows, node_rows, plan_rows}
 use Rattle.vpf_vectors.specs.declared.headers.TheConstants.{FACES, NODES, PLAN}
 use Rattle.vpf_vectors.specs.Heads.{face_head, node_head, plan_head}
 use Rattle.vpf_vectors.specs.Library.{tiles, grid_tables}

@@ -2,7 +2,7 @@ use Rattle.std.proofs.Common.{◌≡◌, ◌≤◌, List, length, subst, sym}
 use Rattle.std.specs.Prelude.{IfOk}
 use Rattle.std.specs.List.{All}
 use Rattle.vpf_table.specs.Canonical.{canonical_table}
-use Rattle.vpf_grid.specs.declared.rows.EdgeRow.{EdgeRow}
+use Rattle.vpf_vectors.specs.declared.cells.rows.EdgeRow.{EdgeRow}
 use Rattle.vpf_vectors.specs.Tables.{edge_table}
 use Rattle.vpf_vectors.specs.Writing.{IsSmallEdge}
 use Rattle.vpf_vectors.proofs.SmallLemmas.{edges_are_small, edges_are_few}

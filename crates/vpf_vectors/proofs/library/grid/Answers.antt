@@ -1,7 +1,7 @@
 use Rattle.std.proofs.Common.{◌≡◌, [], ◌∷◌, codes, sym, subst, arith}
 use Rattle.vpf_source.specs.declared.file.File.{File}
 use Rattle.vpf_table.specs.Grid.{Grid}
-use Rattle.vpf_grid.specs.Rows.{edge_rows, face_rows, ring_rows, node_rows, plan_rows}
+use Rattle.vpf_vectors.specs.Cells.Rows.{edge_rows, face_rows, ring_rows, node_rows, plan_rows}
 use Rattle.vpf_wing.specs.WellFormed.{IsWellFormed}
 use Rattle.vpf_vectors.specs.Heads.{face_head, node_head, plan_head}
 use Rattle.vpf_vectors.specs.Library.{named_file, tiles}

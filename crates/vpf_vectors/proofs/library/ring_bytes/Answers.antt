@@ -2,7 +2,7 @@ use Rattle.std.proofs.Common.{◌≡◌, ◌≤◌, List, length, subst, sym}
 use Rattle.std.specs.Prelude.{IfOk}
 use Rattle.std.specs.List.{All}
 use Rattle.vpf_table.specs.Canonical.{canonical_table}
-use Rattle.vpf_grid.specs.declared.rows.RingRow.{RingRow}
+use Rattle.vpf_vectors.specs.declared.cells.rows.RingRow.{RingRow}
 use Rattle.vpf_vectors.specs.Tables.{ring_table}
 use Rattle.vpf_vectors.specs.Writing.{IsSmallRing}
 use Rattle.vpf_vectors.proofs.SmallLemmas.{rings_are_small, rings_are_few}

@@ -1,5 +1,5 @@
 use Rattle.std.proofs.Common.{◌∙◌, ℕ, List, ap}
-use Rattle.vpf_names.specs.Items.{small}
+use Rattle.vpf_source.specs.Names.Items.{small}
 use Rattle.vpf_schema.specs.Items.{is_feature_end, last_bytes}
 use Rattle.vpf_schema.proofs.ItemLemmas.{small_slice}
 use Rattle.vpf_schema.proofs.items.ItemName.is_feature_table.Goals as goal

@@ -1,0 +1,7 @@
+//! The tables of a coverage, opened from its files (MIL-STD-2407, 5.2.2, primitives, and 5.2.3, tiled coverages).
+
+mod folders;
+mod opening;
+mod tables;
+
+pub use opening::{OpenCoverage, open_files, open_tileref, views_at};

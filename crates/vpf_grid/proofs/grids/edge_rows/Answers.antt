@@ -1,8 +1,0 @@
-use Rattle.std.proofs.Common.{ap, ◌∙◌, map, arith}
-use Rattle.std.specs.List.{range_with_len}
-use Rattle.vpf_grid.specs.Rows.{row_of_edge}
-use Rattle.vpf_grid.proofs.CodeLemmas.{all_edges}
-use Rattle.vpf_grid.proofs.grids.edge_rows.Goals as goal
-
-pub returns : goal.returns
-returns c = c.loop-x.invariant ∙ ap (λ k. map (row_of_edge c.args.n) (range_with_len 1 k)) (all_edges c.args.n c.loop-x.x (omega arith))

@@ -1,7 +1,0 @@
-use Rattle.std.proofs.Common.{◌≡◌, ◌-◌, map}
-use Rattle.std.specs.List.{range_with_len}
-use Rattle.vpf_grid.specs.Rows.{first_edge}
-use Rattle.vpf_grid.proofs.grids.node_rows.Given as goal
-
-abbrev pub invariant-loop-node : goal.invariant-loop-node
-invariant-loop-node l = l.rows.items ≡ map (first_edge l.n) (range_with_len 1 (l.node - 1))

@@ -1,7 +1,0 @@
-use Rattle.std.proofs.Common.{◌≡◌, ◌-◌, map}
-use Rattle.std.specs.List.{range_with_len}
-use Rattle.vpf_grid.specs.Rows.{tile_of}
-use Rattle.vpf_grid.proofs.grids.plan_rows.Given as goal
-
-abbrev pub invariant-loop-face : goal.invariant-loop-face
-invariant-loop-face l = l.rows.items ≡ map (tile_of l.n) (range_with_len 2 (l.face - 2))

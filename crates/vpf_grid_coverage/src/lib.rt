@@ -1,4 +1,0 @@
-//! The grid of n by n cells as a coverage: what its rows say, and that it is well formed.
-#![tactic(auto)]
-
-pub mod laws;

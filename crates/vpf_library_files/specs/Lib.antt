@@ -1,0 +1,2 @@
+pub mod Tileref
+pub mod Loading

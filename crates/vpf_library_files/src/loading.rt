@@ -1,0 +1,9 @@
+//! The files of a coverage of a library, read once and kept (MIL-STD-2407, 5.2.2, primitives, and 5.2.3, tiled coverages).
+
+pub mod laws;
+mod loading;
+
+pub use loading::{
+    LoadStop, load_coverage, load_folder, load_tileref, optional_file, optional_table,
+    required_table, table_in, within,
+};

@@ -1,0 +1,211 @@
+//! Tables with their indexes.
+
+ghost use Rattle.std.specs.Prelude.{◌≡◌, ◌≤◌, ◌++◌, [], ◌∷◌, ℕ, List, Ok, Option, IfErr, IfOk, IsErrOf, Some, true};
+ghost use Rattle.vpf_base.specs.Bytes.{IsBytes};
+ghost use Rattle.vpf_source.specs.Causes.{Rose, Stood};
+ghost use Rattle.vpf_source.specs.Files.{Files};
+ghost use Rattle.vpf_head.specs.Head.{varies_in};
+ghost use Rattle.vpf_source.specs.Names.Indexes.{index_name};
+ghost use Rattle.vpf_table.specs.Grid.{Grid};
+ghost use Rattle.vpf_table.specs.Reading.{table_of};
+ghost use Rattle.vpf_library_files.specs.Loading.Holding.{AreFilesOf, AreFilesOfOption};
+ghost use Rattle.vpf_library_files.specs.Loading.Loading.{loaded_file, files_in, most_loaded, read_optional_table, read_table};
+ghost use Rattle.vpf_library_files.specs.Loading.Loading.{read_table_in, with_own_index, with_its_index};
+ghost use Rattle.vpf_library_files.specs.Loading.Loads.{ReadsAs, RefusedSo, maybe};
+
+use crate::loading::loading::LoadStop;
+use crate::loading::loading::files::{optional_file, owned, required_file};
+use std::alloc::{AllocError, Global};
+use vpf_source::names::index_name;
+use vpf_source::{Bytes, File, Name, Tree};
+use vpf_table::TableFile;
+use vpf_table::laws::{opened_is_read, opened_is_spelled};
+use vpf_triplet::PlaceError;
+
+/// What a slice of bytes holds are bytes.
+fn has_bytes(bytes: &[u8])
+    ensures { IsBytes bytes.now }
+{}
+
+/// The file of this table's index, which has to be its own.
+fn own_index(table: TableFile<'_>, name: Name, index: Vec<u8>) -> Result<File, LoadStop>
+    requires { varies_in table.grid.head.columns ≡ true }
+    ensures finds { (of : List ℕ) → name ≡ index_name of → (loaded : ℕ)
+        → ReadsAs (λ file read. read.files ≡ loaded_file of table.entry.bytes ∷ file ∷ []) result loaded
+        (with_own_index of table.entry.bytes index.items loaded) }
+    ensures are { (of : List ℕ) → name ≡ index_name of → table_of table.entry.bytes ≡ Ok table.entry.grid
+        → IfOk result (λ file. (grid : Grid) × AreFilesOf of grid (loaded_file of table.entry.bytes ∷ file ∷ [])) }
+    ensures no_fault { ¬ IsErrOf result LoadStop.Fault }
+{
+    opened_is_read();
+    if let Err(place) = table.check_index(&index) {
+        return Err(LoadStop::Place(name, place));
+    }
+    Ok(File {
+        name,
+        bytes: Bytes::new(index),
+    })
+}
+
+/// The file of the index of a table whose rows vary.
+fn index_file<T: Tree>(
+    alloc: Global,
+    tree: &mut T,
+    name: &str,
+    table: TableFile<'_>,
+    loaded: &mut u64,
+) -> Result<File, LoadStop>
+    requires before { loaded.old ≤ most_loaded }
+    requires varies { varies_in table.grid.head.columns ≡ true }
+    ensures told { (files : Files) → T.files tree.old ≡ Some files
+        → ReadsAs (λ file read. read.files ≡ loaded_file name.now table.entry.bytes ∷ file ∷ [])
+        result loaded.new (with_its_index files name.now table.entry.bytes table.entry.grid loaded.old) }
+    ensures are { table_of table.entry.bytes ≡ Ok table.entry.grid
+        → IfOk result (λ file. (grid : Grid) × AreFilesOf name.now grid (loaded_file name.now table.entry.bytes ∷ file ∷ [])) }
+    ensures rising { loaded.old ≤ loaded.new }
+    ensures most { loaded.new ≤ most_loaded }
+    ensures fault { IsErrOf result LoadStop.Fault → Rose (T.faults tree.old) (T.faults tree.new) }
+    ensures stood { ¬ IsErrOf result LoadStop.Fault → Stood (T.faults tree.old) (T.faults tree.new) }
+    ensures later { T.faults tree.old ≤ T.faults tree.new }
+    ensures files { T.files tree.new ≡ T.files tree.old }
+{
+    let index_of = index_name(alloc, name)?;
+    let index = required_file(alloc, tree, index_of.as_str(), loaded)?;
+    own_index(table, index_of, index)
+}
+
+/// The table in the bytes of the file of this name.
+fn table_in<'a>(alloc: Global, name: &str, bytes: &'a [u8]) -> Result<TableFile<'a>, LoadStop>
+    ensures bytes { IfOk result (λ table. table.bytes ≡ bytes.now) }
+    ensures read { IfOk result (λ table. table_of bytes.now ≡ Ok table.grid) }
+    ensures refused { IfErr result (RefusedSo name.now (table_of bytes.now)) }
+    ensures no_fault { ¬ IsErrOf result LoadStop.Fault }
+{
+    match TableFile::read(alloc, bytes) {
+        Ok(table) => Ok(table),
+        Err(PlaceError::Place(place)) => Err(LoadStop::Place(owned(alloc, name)?, place)),
+        Err(PlaceError::NoMemory) => Err(LoadStop::NoMemory),
+    }
+}
+
+/// The file of the index of the table in these bytes, where its rows vary.
+fn index_beside<T: Tree>(
+    alloc: Global,
+    tree: &mut T,
+    name: &str,
+    bytes: &[u8],
+    loaded: &mut u64,
+) -> Result<Option<File>, LoadStop>
+    requires { loaded.old ≤ most_loaded }
+    ensures told { (files : Files) → T.files tree.old ≡ Some files
+        → ReadsAs (λ index read. read.files ≡ loaded_file name.now bytes.now ∷ maybe index) result loaded.new
+        (read_table_in files name.now bytes.now loaded.old) }
+    ensures are { IfOk result (λ index. (grid : Grid) × AreFilesOf name.now grid (loaded_file name.now bytes.now ∷ maybe index)) }
+    ensures rising { loaded.old ≤ loaded.new }
+    ensures most { loaded.new ≤ most_loaded }
+    ensures fault { IsErrOf result LoadStop.Fault → Rose (T.faults tree.old) (T.faults tree.new) }
+    ensures stood { ¬ IsErrOf result LoadStop.Fault → Stood (T.faults tree.old) (T.faults tree.new) }
+    ensures later { T.faults tree.old ≤ T.faults tree.new }
+    ensures files { T.files tree.new ≡ T.files tree.old }
+{
+    opened_is_spelled();
+    has_bytes(bytes);
+    let table = table_in(alloc, name, bytes)?;
+    if !table.header().varies() {
+        return Ok(None);
+    }
+    Ok(Some(index_file(alloc, tree, name, table, loaded)?))
+}
+
+/// The file of a table and that of its index, where it has one.
+fn listed(
+    alloc: Global,
+    name: &str,
+    bytes: Vec<u8>,
+    index: Option<File>,
+) -> Result<Vec<File>, AllocError>
+    ensures { IfOk result (λ files. files.items ≡ loaded_file name.now bytes.items ∷ maybe index) }
+{
+    let mut files = Vec::new(alloc);
+    files.push(File {
+        name: owned(alloc, name)?,
+        bytes: Bytes::new(bytes),
+    })?;
+    if let Some(index) = index {
+        files.push(index)?;
+    }
+    Ok(files)
+}
+
+/// The files of the table in these bytes: its own, and its index where its rows vary.
+fn files_of_table<T: Tree>(
+    alloc: Global,
+    tree: &mut T,
+    name: &str,
+    bytes: Vec<u8>,
+    loaded: &mut u64,
+) -> Result<Vec<File>, LoadStop>
+    requires { loaded.old ≤ most_loaded }
+    ensures told { (files : Files) → T.files tree.old ≡ Some files
+        → ReadsAs (λ v read. read.files ≡ v.items) result loaded.new (read_table_in files name.now bytes.items loaded.old) }
+    ensures are { IfOk result (λ files. (grid : Grid) × AreFilesOf name.now grid files.items) }
+    ensures rising { loaded.old ≤ loaded.new }
+    ensures most { loaded.new ≤ most_loaded }
+    ensures fault { IsErrOf result LoadStop.Fault → Rose (T.faults tree.old) (T.faults tree.new) }
+    ensures stood { ¬ IsErrOf result LoadStop.Fault → Stood (T.faults tree.old) (T.faults tree.new) }
+    ensures later { T.faults tree.old ≤ T.faults tree.new }
+    ensures files { T.files tree.new ≡ T.files tree.old }
+{
+    let index = index_beside(alloc, tree, name, &bytes, loaded)?;
+    Ok(listed(alloc, name, bytes, index)?)
+}
+
+/// The files of the table of this name, which has to be there: its own, and its variable-length index where its rows vary.
+///
+/// The stops are those of `load_coverage`, but for those of the table of tiles.
+pub fn required_table<T: Tree>(
+    alloc: Global,
+    tree: &mut T,
+    name: &str,
+    loaded: &mut u64,
+) -> Result<Vec<File>, LoadStop>
+    requires { loaded.old ≤ most_loaded }
+    ensures told { (files : Files) → T.files tree.old ≡ Some files
+        → ReadsAs (λ v read. read.files ≡ v.items) result loaded.new (read_table files name.now loaded.old) }
+    ensures are { IfOk result (λ files. (grid : Grid) × AreFilesOf name.now grid files.items) }
+    ensures rising { loaded.old ≤ loaded.new }
+    ensures most { loaded.new ≤ most_loaded }
+    ensures fault { IsErrOf result LoadStop.Fault → Rose (T.faults tree.old) (T.faults tree.new) }
+    ensures stood { ¬ IsErrOf result LoadStop.Fault → Stood (T.faults tree.old) (T.faults tree.new) }
+    ensures later { T.faults tree.old ≤ T.faults tree.new }
+    ensures files { T.files tree.new ≡ T.files tree.old }
+{
+    let bytes = required_file(alloc, tree, name, loaded)?;
+    files_of_table(alloc, tree, name, bytes, loaded)
+}
+
+/// The files of the table of this name, or none where it is absent.
+///
+/// The stops are those of `load_coverage`, but for those of the table of tiles.
+pub fn optional_table<T: Tree>(
+    alloc: Global,
+    tree: &mut T,
+    name: &str,
+    loaded: &mut u64,
+) -> Result<Vec<File>, LoadStop>
+    requires { loaded.old ≤ most_loaded }
+    ensures told { (files : Files) → T.files tree.old ≡ Some files
+        → ReadsAs (λ v read. files_in read ≡ v.items) result loaded.new (read_optional_table files name.now loaded.old) }
+    ensures are { IfOk result (λ files. (grid : Option Grid) × AreFilesOfOption name.now grid files.items) }
+    ensures rising { loaded.old ≤ loaded.new }
+    ensures most { loaded.new ≤ most_loaded }
+    ensures fault { IsErrOf result LoadStop.Fault → Rose (T.faults tree.old) (T.faults tree.new) }
+    ensures stood { ¬ IsErrOf result LoadStop.Fault → Stood (T.faults tree.old) (T.faults tree.new) }
+    ensures later { T.faults tree.old ≤ T.faults tree.new }
+    ensures files { T.files tree.new ≡ T.files tree.old }
+{
+    match optional_file(alloc, tree, name, loaded)? {
+        Some(bytes) => files_of_table(alloc, tree, name, bytes, loaded),
+        None => Ok(Vec::new(alloc)),
+    }
+}

@@ -1,9 +1,0 @@
-use Rattle.vpf_loading.proofs.HeldReads.{held_is_read}
-use Rattle.vpf_loading.proofs.ReadHolds.{read_is_held}
-use Rattle.vpf_loading.proofs.laws.coverages_are_held.Goals as goal
-
-pub returns-clause-held : goal.returns-clause-held
-returns-clause-held c = held_is_read c.spelled_is_opened.ensures c.opened_is_read.ensures c.stops_decide.ensures
-
-pub returns-clause-read : goal.returns-clause-read
-returns-clause-read c = read_is_held c.opened_is_spelled.ensures c.opened_is_read.ensures c.stops_decide.ensures

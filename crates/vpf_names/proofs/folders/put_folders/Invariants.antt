@@ -1,7 +1,0 @@
-use Rattle.std.proofs.Common.{◌≡◌, ◌++◌, map, take, string_bytes}
-use Rattle.std.specs.List.{flat_map}
-use Rattle.vpf_names.specs.Folders.{opened}
-use Rattle.vpf_names.proofs.folders.put_folders.Given as goal
-
-abbrev pub invariant-loop-folder : goal.invariant-loop-folder
-invariant-loop-folder l = string_bytes l.text ≡ string_bytes l.initial.text ++ flat_map opened (map (λ folder. folder.now) (take l.folder-index l.folders))

@@ -1,6 +1,0 @@
-use Rattle.std.proofs.Common.{◌≡◌, ◌++◌, take, string_bytes}
-use Rattle.vpf_names.specs.Items.{small}
-use Rattle.vpf_names.proofs.items.put_small.Given as goal
-
-abbrev pub invariant-loop-b : goal.invariant-loop-b
-invariant-loop-b l = string_bytes l.text ≡ string_bytes l.initial.text ++ small (take l.b-index l.name)

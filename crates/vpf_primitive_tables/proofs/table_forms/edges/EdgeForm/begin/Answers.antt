@@ -1,0 +1,10 @@
+use Rattle.std.proofs.Common.{◌≡◌, ◌∙◌, IfOk, ap, subst}
+use Rattle.vpf_head.specs.Head.{Head}
+use Rattle.vpf_primitive_tables.specs.TableForms.Forms.{edge_kinds_of, head_like}
+use Rattle.vpf_primitive_tables.specs.TableForms.Models.{EdgesLike}
+use Rattle.vpf_primitive_tables.proofs.table_forms.edges.EdgeForm.begin.Goals as goal
+
+pub returns-clause-head : goal.returns-clause-head
+returns-clause-head c =
+    subst (λ (h : Head). IfOk c.new.result (λ made. made.head ≡ h))
+    (c.self.invariant.header ∙ ap (λ (l : EdgesLike). head_like l.table (edge_kinds_of l.references)) c.self.view_is) c.new.ensures.head

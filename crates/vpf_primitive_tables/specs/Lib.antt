@@ -1,0 +1,4 @@
+pub mod TableForms
+pub mod TileTables
+pub mod TileReading
+pub mod TileWriting

@@ -1,8 +1,0 @@
-use Rattle.vpf_revise.proofs.FittingRows.{kept_fits, taken_fits}
-use Rattle.vpf_revise.proofs.laws.values_of_new_kinds_fit.Goals as goal
-
-pub returns-clause-taken : goal.returns-clause-taken
-returns-clause-taken c = taken_fits
-
-pub returns-clause-kept : goal.returns-clause-kept
-returns-clause-kept c = kept_fits

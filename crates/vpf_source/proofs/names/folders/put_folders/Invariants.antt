@@ -1,0 +1,7 @@
+use Rattle.std.proofs.Common.{◌≡◌, ◌++◌, map, take, string_bytes}
+use Rattle.std.specs.List.{flat_map}
+use Rattle.vpf_source.specs.Names.Folders.{opened}
+use Rattle.vpf_source.proofs.names.folders.put_folders.Given as goal
+
+abbrev pub invariant-loop-folder : goal.invariant-loop-folder
+invariant-loop-folder l = string_bytes l.text ≡ string_bytes l.initial.text ++ flat_map opened (map (λ folder. folder.now) (take l.folder-index l.folders))

@@ -1,9 +1,0 @@
-use Rattle.std.proofs.Common.{◌∙◌, sym}
-use Rattle.vpf_table_forms.specs.Models.{values_of}
-use Rattle.vpf_table_forms.proofs.NewCellLemmas.{edge_values_are, seven_same}
-use Rattle.vpf_table_forms.proofs.edges.new_cells.Goals as goal
-
-pub returns : goal.returns
-returns c = λ columns a.
-    seven_same c.new_number.ensures c.new_cell.ensures c.new_cell-2.ensures c.new_cell-3.ensures c.new_cell-4.ensures c.new_cell-5.ensures c.new_cell-6.ensures
-    ∙ sym (edge_values_are columns c.args.places c.args.number (values_of c.args.references.now) a)

@@ -1,5 +1,0 @@
-use Rattle.vpf_table_forms.proofs.NewCellLemmas.{edge_kinds_are}
-use Rattle.vpf_table_forms.proofs.places.EdgePlaces.kinds.Goals as goal
-
-pub returns : goal.returns
-returns c = λ columns a. (let e = edge_kinds_are c.args.references columns c.args.self a in cc)

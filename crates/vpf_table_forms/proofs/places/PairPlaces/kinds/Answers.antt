@@ -1,5 +1,0 @@
-use Rattle.vpf_table_forms.proofs.NewCellLemmas.{pair_kinds_are}
-use Rattle.vpf_table_forms.proofs.places.PairPlaces.kinds.Goals as goal
-
-pub returns : goal.returns
-returns c = λ name columns a. (let e = pair_kinds_are name columns c.args.self a in cc)

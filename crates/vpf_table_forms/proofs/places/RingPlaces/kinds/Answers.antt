@@ -1,5 +1,0 @@
-use Rattle.vpf_table_forms.proofs.NewCellLemmas.{ring_kinds_are}
-use Rattle.vpf_table_forms.proofs.places.RingPlaces.kinds.Goals as goal
-
-pub returns : goal.returns
-returns c = λ columns a. (let e = ring_kinds_are columns c.args.self a in cc)

@@ -1,5 +1,0 @@
-use Rattle.vpf_table_forms.proofs.rows.row_of.Given as goal
-
--- the ledger that the blank names
-abbrev pub ghosts-counted_row : goal.ghosts-counted_row
-ghosts-counted_row a = record { name = a.blank.name; parts = a.blank.parts }

@@ -1,7 +1,0 @@
-use Rattle.std.proofs.Common.{◌≡◌, ◌+◌, ◌-◌}
-use Rattle.vpf_findings.specs.Firsts.{first_over}
-use Rattle.vpf_tileable.specs.Refusals.{no_plan, no_plans}
-use Rattle.vpf_tileable.proofs.checking.check_all_named.Given as goal
-
-abbrev pub invariant-loop-below : goal.invariant-loop-below
-invariant-loop-below l = first_over (λ i. no_plan l.named (i + 1)) l.below (l.faces - l.below) ≡ no_plans l.named l.faces

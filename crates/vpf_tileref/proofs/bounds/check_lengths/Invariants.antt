@@ -1,6 +1,0 @@
-use Rattle.std.proofs.Common.{◌≡◌, drop, map, string_bytes}
-use Rattle.vpf_tileref.specs.Bounds.{lengths_bound}
-use Rattle.vpf_tileref.proofs.bounds.check_lengths.Given as goal
-
-abbrev pub invariant-loop-path : goal.invariant-loop-path
-invariant-loop-path l = lengths_bound (map (λ path. string_bytes path) (drop l.path-index l.paths)) ≡ lengths_bound (map (λ path. string_bytes path) l.paths)

@@ -1,0 +1,7 @@
+use Rattle.std.proofs.Common.{◌≡◌, ◌+◌, ◌*◌, map}
+use Rattle.std.specs.List.{range_with_len}
+use Rattle.vpf_vectors.specs.Cells.Rows.{row_of_edge}
+use Rattle.vpf_vectors.proofs.cells.grids.north_line.Given as goal
+
+abbrev pub invariant-loop-y : goal.invariant-loop-y
+invariant-loop-y l = l.rows.items ≡ map (row_of_edge l.n) (range_with_len 1 (l.n * (l.n + 1) + l.x * l.n + l.y))
