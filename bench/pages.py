@@ -1,7 +1,8 @@
 """Sees that the pages of docs/ name what is there, and says what they lack: pages.py, at the root of the clone.
 
 DEFINITIONS: each word stands in a module of `specs/` that is named beside it, and the modules to read are all that the contract of `run` reaches, definition by definition.
-ARCHITECTURE: each crate stands in one layer, above none that it names, and has a row with the crates right below it. PROOFS: each crate with functions or laws has a row."""
+ARCHITECTURE: each crate stands in one layer, above none that it names, and has a row with the crates right below it. Each crate has a README. REFUSALS:
+each code of FORMAT, and each refusal and bound of COMMANDS, has a row. Links of the READMEs and of docs/ lead to files and headings that are there."""
 import functools
 import pathlib
 import re
@@ -133,13 +134,44 @@ def see_architecture():
             lacks.append(f"ARCHITECTURE: {crate} stands on {sorted(right_below)}")
 
 
-def see_proofs():
-    told = {name for cells in rows(page("PROOFS.md")) for name in re.findall(r"vpf\w*", cells[0])}
-    lacks.extend(f"PROOFS: no row of {crate}" for crate in below if crate not in told and not crate.endswith("_trials"))
+def see_readmes():
+    for crate in below:
+        readme = pathlib.Path("crates", crate, "README.md")
+        if not readme.exists() or not readme.read_text().startswith(f"# {crate}\n"):
+            lacks.append(f"{crate} has no README that begins with its name")
+
+
+def see_refusals():
+    told, asked = page("REFUSALS.md"), page("COMMANDS.md")
+    for code in re.findall(r"^\| `([a-z-]+)` \|", page("FORMAT.md"), re.M):
+        row = f"`limit {code[6:]} " if code.startswith("limit-") else f"`{code}`"
+        if row not in told:
+            lacks.append(f"REFUSALS: no row of {code}")
+    lacks.extend(f"REFUSALS: no row of {line}" for line in sorted(set(re.findall(r"`((?:refused|limit) [a-z-]+) ", asked))) if f"`{line} " not in told)
+
+
+def anchor(heading):
+    """What a link to a heading ends in."""
+    return re.sub(r"[^\w\- ]", "", heading.replace("`", "").lower()).replace(" ", "-")
+
+
+def see_links():
+    for path in [pathlib.Path("README.md"), *sorted(pathlib.Path("docs").glob("*.md")), pathlib.Path("examples/README.md"), *sorted(pathlib.Path("crates").glob("*/README.md"))]:
+        for link in re.findall(r"\]\(([^)\s]+)\)", path.read_text()):
+            name, _, heading = link.partition("#")
+            target = path.parent / name if name else path
+            if link.startswith("http"):
+                continue
+            if not target.exists():
+                lacks.append(f"{path}: {link} leads nowhere")
+            elif heading and heading not in {anchor(it) for it in re.findall(r"^#+ (.*)$", target.read_text(), re.M)}:
+                lacks.append(f"{path}: {link} names no heading")
 
 
 see_definitions()
 see_architecture()
-see_proofs()
+see_readmes()
+see_refusals()
+see_links()
 print("\n".join(lacks) or "the pages name what is there")
 sys.exit(bool(lacks))
