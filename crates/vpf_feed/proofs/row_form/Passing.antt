@@ -1,0 +1,77 @@
+-- Rows of one width are passed by their number.
+use Rattle.std.proofs.Common.{◌≡◌, ℕ, zero, suc, ◌+◌, ◌-◌, ◌*◌, ◌<◌, ◌≤◌, List, [], ◌∷◌, length, drop, Option, Some, None, Ok, refl, sym, ap, ◌∙◌, arith}
+use Rattle.std.proofs.lemmas.Bool.{lt-leb, le-ltb}
+use Rattle.std.proofs.lemmas.List.{drop-drop, length-drop}
+use Rattle.vpf_triplet.specs.declared.orders.Order.{Order}
+use Rattle.vpf_table.specs.Widths.{add_width}
+use Rattle.vpf_table.proofs.FixedWidth.{added}
+use Rattle.vpf_feed.specs.declared.row_form.form.Field.{Field}
+use Rattle.vpf_feed.specs.RowForm.Form.{cell_size}
+use Rattle.vpf_feed.specs.RowForm.Told.{told}
+use Rattle.vpf_feed.specs.RowForm.Walk.{row_left, rows_left, sized_end}
+use Rattle.vpf_feed.specs.RowForm.Widths.{told_row}
+use Rattle.vpf_feed.proofs.row_form.Sizes.{told_is}
+
+some_is : (a b : ℕ) → Option.Some a ≡ Some b → a ≡ b
+some_is a b e = cc
+
+add_by : (sum x : ℕ) (w : Option ℕ) → add_width (Some (sum + x)) w ≡ add_width (Some sum) (add_width (Some x) w)
+add_by sum x None = refl
+add_by sum x (Some w) = ap (λ (k : ℕ). Some k) (omega arith)
+
+-- one cell more
+pub width_step : (o : Order) (sum x : ℕ) (total : Option ℕ) (f : Field) (fs : List Field) → told o f.kind f.count [] ≡ Some x → add_width (Some sum) (told_row o (f ∷ fs)) ≡ total → add_width (Some (sum + x)) (told_row o fs) ≡ total
+width_step o sum x total f fs e h = add_by sum x (told_row o fs) ∙ (rw (← e) h)
+
+whole_cell : (n : ℕ) (rest : List ℕ) → n ≤ length rest → sized_end n rest ≡ Ok n
+whole_cell n rest h = rw (le-ltb (length rest) n h) refl
+
+row_by : (o : Order) (f : Field) (fs : List Field) (at n : ℕ) (rest : List ℕ) → cell_size o f rest ≡ Ok n → row_left o (f ∷ fs) at rest ≡ row_left o fs (at + n) (drop n rest)
+unfolding row_left
+row_by o f fs at n rest e = rw e refl
+
+no_row : (o : Order) (at : ℕ) (rest : List ℕ) → row_left o [] at rest ≡ Ok (at + 0, drop 0 rest)
+unfolding row_left
+no_row o at rest = let k : at ≡ at + 0 = omega arith in ap (λ (n : ℕ). Ok (n, rest)) k
+
+-- a row is whole where there are bytes enough
+pub row_whole : (o : Order) (fs : List Field) (at w : ℕ) (rest : List ℕ) → told_row o fs ≡ Some w → w ≤ length rest → row_left o fs at rest ≡ Ok (at + w, drop w rest)
+row_whole o [] at w rest e h = let z : 0 ≡ w = some_is 0 w e in rw (← z) (no_row o at rest)
+row_whole o (f ∷ fs) at w rest e h =
+    let a = added (told o f.kind f.count []) (told_row o fs) w e in
+    let first : cell_size o f rest ≡ Ok a.0 = told_is o f.kind f.count [] rest a.0 a.2 ∙ whole_cell a.0 rest (omega (arith, a.4, h)) in
+    let others = row_whole o fs (at + a.0) a.1 (drop a.0 rest) a.3 (omega (arith, a.4, h, length-drop a.0 rest)) in
+    let past : at + a.0 + a.1 ≡ at + w = omega (arith, a.4) in
+    row_by o f fs at a.0 rest first ∙ others ∙ ap (λ (n : ℕ). Ok (n, drop a.1 (drop a.0 rest))) past ∙ ap (λ (x : List ℕ). Ok (at + w, x)) (drop-drop a.1 a.0 rest ∙ ap (λ (n : ℕ). drop n rest) a.4)
+
+one_row : (m : ℕ) (o : Order) (fs : List Field) (done at w : ℕ) (rest : List ℕ) → 0 < length rest → row_left o fs at rest ≡ Ok (at + w, drop w rest) → rows_left (suc m) o fs done at rest ≡ rows_left m o fs (done + 1) (at + w) (drop w rest)
+unfolding rows_left
+one_row m o fs done at w rest some e = rw (lt-leb (length rest) 0 some, e) refl
+
+some_rows : (k m : ℕ) (o : Order) (fs : List Field) (done at w : ℕ) (rest : List ℕ) → told_row o fs ≡ Some w → 0 < w → k ≤ m → k * w ≤ length rest → rows_left m o fs done at rest ≡ rows_left (m - k) o fs (done + k) (at + k * w) (drop (k * w) rest)
+some_rows zero m o fs done at w rest e some few inside =
+    let a : m - 0 ≡ m = omega arith in
+    let b : done + 0 ≡ done = omega arith in
+    let c : 0 * w ≡ 0 = omega arith in
+    let d : at + 0 ≡ at = omega arith in
+    rw (a, b, c, d) refl
+some_rows (suc k) zero o fs done at w rest e some few inside = absurd (omega arith)
+some_rows (suc k) (suc m) o fs done at w rest e some few inside =
+    let more : suc k * w ≡ w + k * w = omega arith in
+    let first = row_whole o fs at w rest e (omega (arith, more)) in
+    let others = some_rows k m o fs (done + 1) (at + w) w (drop w rest) e some (omega arith) (omega (arith, more, length-drop w rest)) in
+    let a : suc m - suc k ≡ m - k = omega arith in
+    let b : done + 1 + k ≡ done + suc k = omega arith in
+    let c : at + w + k * w ≡ at + suc k * w = omega (arith, more) in
+    let d : drop (k * w) (drop w rest) ≡ drop (suc k * w) rest = drop-drop (k * w) w rest ∙ ap (λ (n : ℕ). drop n rest) (sym more) in
+    one_row m o fs done at w rest (omega (arith, more)) first ∙ others ∙ rw (a, ← b, ← c, ← d) refl
+
+-- so many rows are passed; a width is needed where there is one
+pub rows_passed : (k m : ℕ) (o : Order) (fs : List Field) (done at w : ℕ) (rest : List ℕ) → (0 < k → 0 < w) → (0 < w → told_row o fs ≡ Some w) → k ≤ m → k * w ≤ length rest → rows_left m o fs done at rest ≡ rows_left (m - k) o fs (done + k) (at + k * w) (drop (k * w) rest)
+rows_passed zero m o fs done at w rest wide told few inside =
+    let a : m - 0 ≡ m = omega arith in
+    let b : done + 0 ≡ done = omega arith in
+    let c : 0 * w ≡ 0 = omega arith in
+    let d : at + 0 ≡ at = omega arith in
+    rw (a, b, c, d) refl
+rows_passed (suc k) m o fs done at w rest wide told few inside = let some = wide (omega arith) in some_rows (suc k) m o fs done at w rest (told some) some few inside

@@ -1,0 +1,9 @@
+//! What rows are read by, apart from the header that it stands in.
+
+mod form;
+pub mod laws;
+mod looking;
+mod widths;
+
+pub use form::{Field, RowForm};
+pub use looking::{Look, has_bytes, look_at};

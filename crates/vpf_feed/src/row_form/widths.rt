@@ -1,0 +1,31 @@
+//! Rows of one width.
+
+ghost use Rattle.std.specs.Prelude.{◌≡◌, ◌<◌, IfSome, Some};
+ghost use Rattle.vpf_feed.specs.RowForm.Widths.{told_row};
+
+use crate::row_form::form::Field;
+use crate::row_form::looking::told;
+use vpf_triplet::Order;
+
+/// How many bytes each row of these cells takes, where that is told and fits a number.
+fn told_width(order: Order, fields: &[Field]) -> Option<u64>
+    ensures { IfSome result (λ width. told_row order fields.now ≡ Some width) }
+{
+    let none: &[u8] = &[];
+    let mut sum: u64 = 0;
+    for i in 0..fields.len() {
+        let width = told(order, fields[i], none)?;
+        sum = sum.checked_add(width)?;
+    }
+    Some(sum)
+}
+
+/// How many bytes each row of these cells takes; 0 where that isn't told.
+pub fn row_width(order: Order, fields: &[Field]) -> u64
+    ensures { 0 < result → told_row order fields.now ≡ Some result }
+{
+    match told_width(order, fields) {
+        Some(width) => width,
+        None => 0,
+    }
+}

@@ -1,0 +1,3 @@
+//! What stays of reading when bytes follow.
+
+pub mod laws;
