@@ -230,10 +230,9 @@ fn makes_files_up_to_a_fault(rt: HostRuntime) -> Result<(), Fail> {
     for (failing, first, second) in cases {
         let mut tree = MemTree::new(alloc, 4096, vec![in alloc; failing]?);
         let made = make_all(&mut tree, &files);
-        let want = if failing < 4 {
-            Err(DeviceError::Failed)
-        } else {
-            Ok(())
+        let want = match failing {
+            4 => Ok(()),
+            _ => Err(DeviceError::Failed),
         };
         same(&rt, made, want, failing);
         for (name, bytes) in [("a", first), ("lib/b", second), ("lib", None)] {
@@ -299,14 +298,11 @@ fn reads_the_folders(rt: HostRuntime) -> Result<(), Fail> {
     same(&rt, whole.as_slice(), b"0123456789", name);
     let large = load(alloc, &mut tree, name, 9).err();
     same(&rt, large, Some(LoadError::TooLarge { size: 10 }), name);
-    for (at, want) in [
-        (0, b"0123".as_slice()),
-        (7, b"789".as_slice()),
-        (10, b"".as_slice()),
-        (11, b"".as_slice()),
-    ] {
+    // Each of the first five goes on where the one before it ended.
+    let pieces: [&[u8]; 7] = [b"0123", b"4567", b"89", b"", b"", b"", b"789"];
+    for (at, want) in [0, 4, 8, 10, 10, 11, 7].iter().zip(pieces) {
         let mut buf = [0; 4];
-        let count = tree.read_at(name, at, &mut buf)?;
+        let count = tree.read_at(name, *at, &mut buf)?;
         same(&rt, &buf[..count], want, at);
     }
     let behind = format!(in alloc; "{name}/edg")?;
@@ -341,12 +337,8 @@ fn writes_standard_output(rt: HostRuntime) -> Result<(), Fail> {
     let mut sink = StdSink::new(&rt);
     same(&rt, sink.write(b"standard output\n"), Ok(16), "a line");
     same(&rt, sink.write(b""), Ok(0), "nothing");
-    same(
-        &rt,
-        put_all(&mut sink, b"more of it\n"),
-        Ok(()),
-        "a line more",
-    );
+    let put = put_all(&mut sink, b"more of it\n");
+    same(&rt, put, Ok(()), "a line more");
     same(&rt, sink.trouble().is_none(), true, "trouble");
     Ok(())
 }

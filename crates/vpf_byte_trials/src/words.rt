@@ -14,6 +14,7 @@ fn printed<T: std::fmt::Display + Drop>(alloc: Global, value: T) -> Result<Strin
 fn prints_words(rt: HostRuntime) -> Result<(), Fail> {
     let alloc = rt.alloc();
     let place = Place::in_table(29, Code::CellCut);
+    let [refused, full] = [PlaceError::from(place), AllocError.into()];
     for (text, want) in [
         (printed(alloc, Order::Little)?, "L"),
         (printed(alloc, Order::Big)?, "M"),
@@ -23,14 +24,8 @@ fn prints_words(rt: HostRuntime) -> Result<(), Fail> {
         (printed(alloc, Code::LimitHeader(65_537))?, "limit-header"),
         (printed(alloc, Code::ThemeRowtype)?, "theme-rowtype"),
         (printed(alloc, place)?, "cell-cut at 29"),
-        (
-            printed(alloc, PlaceError::from(place))?,
-            "refused: cell-cut at 29",
-        ),
-        (
-            printed(alloc, PlaceError::from(AllocError))?,
-            "out of memory",
-        ),
+        (printed(alloc, refused)?, "refused: cell-cut at 29"),
+        (printed(alloc, full)?, "out of memory"),
     ] {
         same(&rt, text.as_str(), want, want);
     }

@@ -1,5 +1,5 @@
 //! A coverage, seen in its files: the primitives of its tiles, whose columns, ids and references are right (MIL-STD-2407, 5.2.2, primitives,
-//! and 5.2.3, tiled coverages).
+//! and 5.2.3, tiled coverages). `opening` finds its tables in what was loaded.
 #![tactic(auto)]
 
 mod columns;

@@ -12,7 +12,7 @@ use Rattle.vpf_theme.specs.Entries.{Theme}
 use Rattle.vpf_theme.specs.Findings.{cells_of, first_finding, of_column}
 use Rattle.vpf_theme.specs.Agreeing.{AgreesAt, AgreesWithColumn, HaveRows}
 use Rattle.vpf_library_files.specs.Loading.Loading.{within}
-use Rattle.vpf_feature_files.specs.Schemas.{FeatureTable, Index}
+use Rattle.vpf_features.specs.Schemas.{FeatureTable, Index}
 use Rattle.vpf_features.specs.Finding.{feature_table_finding, in_file, index_finding, indexes_finding, tables_finding, themes_finding}
 use Rattle.vpf_features.specs.Lines.{feature_finding}
 use Rattle.vpf_feature_agreement.specs.Agreeing.{AreFeatures, AreReadTables, FeaturesDecide, HasReadIndexes, HaveOwnIndexes, IsReadIndex}

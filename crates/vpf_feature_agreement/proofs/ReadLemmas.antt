@@ -11,8 +11,8 @@ use Rattle.vpf_library_files.specs.Loading.Loading.{LoadedTable, read_optional, 
 use Rattle.vpf_library_files.specs.Loading.Loads.{maybe}
 use Rattle.vpf_schema.specs.Items.{own_file}
 use Rattle.vpf_schema.specs.Joins.{feature_items}
-use Rattle.vpf_feature_files.specs.Reading.{index_in, read_feature_tables, read_index, read_indexes, read_named_index, read_named_table, read_schema, read_schema_table, schema_name, theme_graded, with_indexes}
-use Rattle.vpf_feature_files.specs.Schemas.{FeatureTable, Index, Schema, joins_of}
+use Rattle.vpf_features.specs.Reading.{index_in, read_feature_tables, read_index, read_indexes, read_named_index, read_named_table, read_schema, read_schema_table, schema_name, theme_graded, with_indexes}
+use Rattle.vpf_features.specs.Schemas.{FeatureTable, Index, Schema, joins_of}
 use Rattle.vpf_feature_agreement.specs.Steps.{both_ok, no_stop, value_same}
 use Rattle.vpf_feature_agreement.specs.Agreeing.{AreReadTables, HasReadIndexes, IsReadIndex}
 

@@ -13,8 +13,8 @@ use Rattle.vpf_prims.specs.Numbering.{IsRowOf}
 use Rattle.vpf_prims.specs.Reading.{named_cell, natural_in}
 use Rattle.vpf_prims.specs.Roles.{feature_roles}
 use Rattle.vpf_prims.specs.Suiting.{HasRoles}
-use Rattle.vpf_feature_files.specs.Reading.{read_schema}
-use Rattle.vpf_feature_files.specs.Schemas.{FeatureTable, Index, Schema}
+use Rattle.vpf_features.specs.Reading.{read_schema}
+use Rattle.vpf_features.specs.Schemas.{FeatureTable, Index, Schema}
 use Rattle.vpf_features.specs.Finding.{Named, tables_finding, themes_finding}
 
 -- the table has its column of ids, and its features are numbered from 1

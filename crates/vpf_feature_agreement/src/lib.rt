@@ -2,3 +2,5 @@
 #![tactic(auto)]
 
 pub mod laws;
+
+pub use vpf_features as features;

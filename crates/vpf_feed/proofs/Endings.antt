@@ -9,17 +9,17 @@ use Rattle.vpf_triplet.specs.declared.places.Place.{Place}
 use Rattle.vpf_triplet.specs.declared.places.Code.TheVariants as codes
 use Rattle.vpf_triplet.specs.Places.{fault}
 use Rattle.vpf_feed.specs.declared.row_form.form.Field.{Field}
-use Rattle.vpf_feed.specs.RowForm.Walk.{rows_left}
+use Rattle.vpf_feed.specs.RowForm.Walk.{rows_to_come}
 use Rattle.vpf_feed.specs.declared.heading.Rows.{Rows}
 use Rattle.vpf_feed.specs.declared.walking.Hand.{Hand}
 use Rattle.vpf_feed.specs.declared.walking.Hand.TheVariants as hands
 use Rattle.vpf_feed.specs.Progress.{row_comes, hand_comes, comes_to, summed_rows}
-use Rattle.vpf_feed.specs.Walks.{so_far, hand_of, IsInHand, IsWithin, IsSkipping}
-use Rattle.vpf_feed.specs.Stages.{AreRows, MayBe, rows_of}
+use Rattle.vpf_feed.specs.Walks.{so_far, hand_of, IsInHand, IsInCell, IsSkipping}
+use Rattle.vpf_feed.specs.Stages.{AreSoundRows, MayBe, came_of}
 use Rattle.vpf_feed.proofs.Steps.{cell_stops}
 
-pub rows_end : (n : ℕ) (o : Order) (all : List Field) (done at : ℕ) → rows_left n o all done at [] ≡ Ok done
-unfolding rows_left
+pub rows_end : (n : ℕ) (o : Order) (all : List Field) (done at : ℕ) → rows_to_come n o all done at [] ≡ Ok done
+unfolding rows_to_come
 rows_end zero o all done at = refl
 rows_end (suc n) o all done at = refl
 
@@ -35,7 +35,7 @@ at_end r h = hand_comes (so_far r.form r.columns r.walk) (hand_of r.walk.kept h)
 pub between_ends : (r : Rows) → at_end r hands.Between ≡ Ok r.walk.done
 between_ends r = rows_end (most_rows - r.walk.done) r.form.order r.form.fields.items r.walk.done r.walk.at
 
-pub within_ends : (r : Rows) (len : ℕ) → r.walk.column < length r.form.fields.items → IsWithin r.form r.walk len → at_end r (hands.Within len) ≡ Err (fault r.walk.at codes.CellCut)
+pub within_ends : (r : Rows) (len : ℕ) → r.walk.column < length r.form.fields.items → IsInCell r.form r.walk len → at_end r (hands.Within len) ≡ Err (fault r.walk.at codes.CellCut)
 within_ends r len c i =
     let all = r.form.fields.items in
     let kept : List ℕ = take len r.walk.kept in
@@ -47,7 +47,7 @@ pub skipping_ends : (r : Rows) (past : ℕ) → IsSkipping r.form r.walk past �
 skipping_ends r past i = rw (lt-ltb 0 (past - r.walk.here) (omega (arith, i.more))) refl
 
 -- rows that are taken are a table's, or end too early
-pub rows_may_be : (r : Rows) → AreRows r → MayBe (comes_to (rows_of r) [])
+pub rows_may_be : (r : Rows) → AreSoundRows r → MayBe (comes_to (came_of r) [])
 rows_may_be r a = by r.walk.hand a.walk.hand
   where
     by : (h : Hand) → IsInHand r.form r.walk h → MayBe (summed_rows r.form.order r.columns (at_end r h))

@@ -19,8 +19,8 @@ use Rattle.vpf_head.specs.Reading.{header_of}
 use Rattle.vpf_table.specs.Grid.{Row, Grid}
 use Rattle.vpf_table.specs.Reading.{rows_at, table_of}
 use Rattle.vpf_table.specs.Walking.{counted}
-use Rattle.vpf_feed.specs.RowForm.Form.{fields_of}
-use Rattle.vpf_feed.specs.RowForm.Walk.{rows_left}
+use Rattle.vpf_feed.specs.RowForm.Form.{form_fields}
+use Rattle.vpf_feed.specs.RowForm.Walk.{rows_to_come}
 use Rattle.vpf_feed.proofs.row_form.Lefts.{rows_are}
 use Rattle.vpf_feed.specs.declared.summary.Summary.{Summary}
 use Rattle.vpf_feed.specs.declared.walking.Hand.{Hand}
@@ -91,17 +91,17 @@ unfolding table_of
 table_by bytes h start e = rw e (sum_rows h (rows_at most_rows h.order h.columns bytes start))
 
 -- a table whose header is read comes to what its rows come to
-pub table_rows : (bytes : List ℕ) (h : Head) (start : ℕ) → header_of bytes ≡ Ok (h, start) → summed (table_of bytes) ≡ summed_rows h.order (length h.columns) (rows_left most_rows h.order (fields_of h.columns) 0 start (drop start bytes))
+pub table_rows : (bytes : List ℕ) (h : Head) (start : ℕ) → header_of bytes ≡ Ok (h, start) → summed (table_of bytes) ≡ summed_rows h.order (length h.columns) (rows_to_come most_rows h.order (form_fields h.columns) 0 start (drop start bytes))
 table_rows bytes h start e = table_by bytes h start e ∙ ap (summed_rows h.order (length h.columns)) (sym (rows_are most_rows h.order h.columns bytes 0 start))
 
 -- a table comes to what follows the header that its first bytes are
 pub begun_comes : (text rest more : List ℕ) (h : Head) (start : ℕ) → header_of (text ++ (rest ++ more)) ≡ Ok (h, start) → start ≤ length text
-    → summed (table_of ((text ++ rest) ++ more)) ≡ summed_rows h.order (length h.columns) (rows_left most_rows h.order (fields_of h.columns) 0 start (drop start text ++ (rest ++ more)))
+    → summed (table_of ((text ++ rest) ++ more)) ≡ summed_rows h.order (length h.columns) (rows_to_come most_rows h.order (form_fields h.columns) 0 start (drop start text ++ (rest ++ more)))
 begun_comes text rest more h start e inside =
     ap (λ (x : List ℕ). summed (table_of x)) (append_assoc text rest more) ∙ table_rows (text ++ (rest ++ more)) h start e
-    ∙ ap (λ (x : List ℕ). summed_rows h.order (length h.columns) (rows_left most_rows h.order (fields_of h.columns) 0 start x)) (drop-append-le start text (rest ++ more) inside)
+    ∙ ap (λ (x : List ℕ). summed_rows h.order (length h.columns) (rows_to_come most_rows h.order (form_fields h.columns) 0 start x)) (drop-append-le start text (rest ++ more) inside)
 
-pub same_rows : (o p : Order) (n m : ℕ) (fs gs : List Field) (at : ℕ) (x y more : List ℕ) → o ≡ p → n ≡ m → fs ≡ gs → x ≡ y → summed_rows o n (rows_left most_rows o fs 0 at (x ++ more)) ≡ summed_rows p m (rows_left most_rows p gs 0 at (y ++ more))
+pub same_rows : (o p : Order) (n m : ℕ) (fs gs : List Field) (at : ℕ) (x y more : List ℕ) → o ≡ p → n ≡ m → fs ≡ gs → x ≡ y → summed_rows o n (rows_to_come most_rows o fs 0 at (x ++ more)) ≡ summed_rows p m (rows_to_come most_rows p gs 0 at (y ++ more))
 same_rows o p n m fs gs at x y more a b c d = rw (a, b, c, d) refl
 
 -- how many columns there are tells nothing of the rows

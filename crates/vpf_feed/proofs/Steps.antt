@@ -18,37 +18,37 @@ use Rattle.vpf_value.specs.Reading.{CellAnswer, cell_from}
 use Rattle.vpf_table.specs.Lower.{CellAndHeaderLaws}
 use Rattle.vpf_feed.specs.declared.row_form.form.Field.{Field}
 use Rattle.vpf_feed.specs.RowForm.Form.{extent, cell_size, IsCutEmpty}
-use Rattle.vpf_feed.specs.RowForm.Walk.{passed, row_left, rows_left, sized_end, Tells}
+use Rattle.vpf_feed.specs.RowForm.Walk.{passed, row_left, rows_to_come, sized_end, TellsCell}
 use Rattle.vpf_feed.specs.declared.row_form.looking.Look.TheVariants as looks
 use Rattle.vpf_feed.specs.Progress.{row_comes}
 
 -- ---- rows begin and end
 
 -- the last cell of a row is passed
-pub row_ends : (o : Order) (all left : List Field) (done past : ℕ) (more : List ℕ) → left ≡ [] → row_comes o all left done past more ≡ rows_left (most_rows - (done + 1)) o all (done + 1) past more
+pub row_ends : (o : Order) (all left : List Field) (done past : ℕ) (more : List ℕ) → left ≡ [] → row_comes o all left done past more ≡ rows_to_come (most_rows - (done + 1)) o all (done + 1) past more
 unfolding row_comes row_left
 row_ends o all left done past more e = rw e refl
 
-rows_begin : (n : ℕ) (o : Order) (all : List Field) (done at b : ℕ) (more : List ℕ) → rows_left (suc n) o all done at (b ∷ more) ≡ (row_left o all at (b ∷ more) >>= λ r. rows_left n o all (done + 1) r.0 r.1)
-unfolding rows_left
+rows_begin : (n : ℕ) (o : Order) (all : List Field) (done at b : ℕ) (more : List ℕ) → rows_to_come (suc n) o all done at (b ∷ more) ≡ (row_left o all at (b ∷ more) >>= λ r. rows_to_come n o all (done + 1) r.0 r.1)
+unfolding rows_to_come
 rows_begin n o all done at b more = rw (lt-leb (length (b ∷ more)) 0 (omega arith)) refl
 
 -- a further row begins
-pub row_begins : (o : Order) (all : List Field) (done at b : ℕ) (more : List ℕ) → done < most_rows → row_comes o all all done at (b ∷ more) ≡ rows_left (most_rows - done) o all done at (b ∷ more)
+pub row_begins : (o : Order) (all : List Field) (done at b : ℕ) (more : List ℕ) → done < most_rows → row_comes o all all done at (b ∷ more) ≡ rows_to_come (most_rows - done) o all done at (b ∷ more)
 unfolding row_comes
 row_begins o all done at b more few =
     let m : most_rows - done ≡ suc (most_rows - (done + 1)) = omega arith in
-    sym (ap (λ (n : ℕ). rows_left n o all done at (b ∷ more)) m ∙ rows_begin (most_rows - (done + 1)) o all done at b more)
+    sym (ap (λ (n : ℕ). rows_to_come n o all done at (b ∷ more)) m ∙ rows_begin (most_rows - (done + 1)) o all done at b more)
 
-rows_stop : (o : Order) (all : List Field) (done at b : ℕ) (more : List ℕ) → rows_left 0 o all done at (b ∷ more) ≡ Err (fault at (codes.LimitRows (most_rows + 1)))
-unfolding rows_left
+rows_stop : (o : Order) (all : List Field) (done at b : ℕ) (more : List ℕ) → rows_to_come 0 o all done at (b ∷ more) ≡ Err (fault at (codes.LimitRows (most_rows + 1)))
+unfolding rows_to_come
 rows_stop o all done at b more = rw (lt-leb (length (b ∷ more)) 0 (omega arith)) refl
 
 -- no further row may begin
-pub row_too_many : (o : Order) (all : List Field) (done at b : ℕ) (more : List ℕ) → done ≡ most_rows → rows_left (most_rows - done) o all done at (b ∷ more) ≡ Err (fault at (codes.LimitRows (most_rows + 1)))
+pub row_too_many : (o : Order) (all : List Field) (done at b : ℕ) (more : List ℕ) → done ≡ most_rows → rows_to_come (most_rows - done) o all done at (b ∷ more) ≡ Err (fault at (codes.LimitRows (most_rows + 1)))
 row_too_many o all done at b more e =
     let z : most_rows - done ≡ 0 = omega arith in
-    ap (λ (n : ℕ). rows_left n o all done at (b ∷ more)) z ∙ rows_stop o all done at b more
+    ap (λ (n : ℕ). rows_to_come n o all done at (b ∷ more)) z ∙ rows_stop o all done at b more
 
 -- ---- cells
 
@@ -61,6 +61,12 @@ pub cell_whole : (o : Order) (all left : List Field) (f : Field) (fs : List Fiel
     → row_comes o all fs done past more ≡ row_comes o all left done at (bytes ++ more)
 unfolding row_comes row_left
 cell_whole o all left f fs done at past bytes more l p e = rw (l, e, drop_at bytes more (length bytes) refl, p) refl
+
+-- it is whole, and more came
+pub cell_inside : (o : Order) (all left : List Field) (f : Field) (fs : List Field) (done at past n : ℕ) (bytes more : List ℕ) → left ≡ f ∷ fs → past ≡ at + n → n ≤ length bytes → cell_size o f (bytes ++ more) ≡ Ok n
+    → row_comes o all fs done past (drop n bytes ++ more) ≡ row_comes o all left done at (bytes ++ more)
+unfolding row_comes row_left
+cell_inside o all left f fs done at past n bytes more l p h e = rw (l, e, drop-append-le n bytes more h, p) refl
 
 -- it is refused
 pub cell_stops : (o : Order) (all left : List Field) (f : Field) (fs : List Field) (done at : ℕ) (bytes : List ℕ) (code : Code) → left ≡ f ∷ fs → cell_size o f bytes ≡ Err code → row_comes o all left done at bytes ≡ Err (fault at code)
@@ -75,8 +81,8 @@ sized_row : (o : Order) (all left : List Field) (f : Field) (fs : List Field) (d
 unfolding row_comes row_left
 sized_row o all left f fs done at n bytes l e = rw (l, e) (by (ltb (length bytes) n))
   where
-    by : (b : Bool) → (passed at bytes (cond b (Err codes.CellCut) (Ok n)) >>= (λ r. row_left o fs r.0 r.1) >>= λ r. rows_left (most_rows - (done + 1)) o all (done + 1) r.0 r.1)
-        ≡ cond b (Err (fault at codes.CellCut)) (row_left o fs (at + n) (drop n bytes) >>= λ r. rows_left (most_rows - (done + 1)) o all (done + 1) r.0 r.1)
+    by : (b : Bool) → (passed at bytes (cond b (Err codes.CellCut) (Ok n)) >>= (λ r. row_left o fs r.0 r.1) >>= λ r. rows_to_come (most_rows - (done + 1)) o all (done + 1) r.0 r.1)
+        ≡ cond b (Err (fault at codes.CellCut)) (row_left o fs (at + n) (drop n bytes) >>= λ r. rows_to_come (most_rows - (done + 1)) o all (done + 1) r.0 r.1)
     by true = refl
     by false = refl
 
@@ -110,7 +116,7 @@ is_ok_size : (r : CellAnswer) (n : ℕ) → extent r ≡ Ok n → (v : Value) ×
 is_ok_size (Ok x) n e = let k : x.1 ≡ n = cc in (x.0, ap (λ (m : ℕ). Ok (x.0, m)) k)
 is_ok_size (Err code) n e = absurd cc
 
-pub whole_now : CellAndHeaderLaws → (o : Order) (f : Field) (kept : List ℕ) (b n : ℕ) → IsBytes (kept ++ b ∷ []) → cell_size o f kept ≡ Err codes.CellCut → Tells o f (kept ++ b ∷ []) (looks.Whole n) → n ≡ length (kept ++ b ∷ [])
+pub whole_now : CellAndHeaderLaws → (o : Order) (f : Field) (kept : List ℕ) (b n : ℕ) → IsBytes (kept ++ b ∷ []) → cell_size o f kept ≡ Err codes.CellCut → TellsCell o f (kept ++ b ∷ []) (looks.Whole n) → n ≡ length (kept ++ b ∷ [])
 whole_now laws o f kept b n fits cut t = elim (cases_lt (length kept) n) [
   | inl l ↦ omega (arith, l, t.1, length-append kept (b ∷ []))
   | inr l ↦ absurd (
@@ -129,29 +135,29 @@ whole_now laws o f kept b n fits cut t = elim (cases_lt (length kept) n) [
 
 -- the byte makes the cell whole
 whole_by : CellAndHeaderLaws → (o : Order) (all left : List Field) (f : Field) (fs : List Field) (done at past : ℕ) (kept : List ℕ) (b n : ℕ) → left ≡ f ∷ fs → past ≡ at + length kept + 1 → IsBytes (kept ++ b ∷ []) → cell_size o f kept ≡ Err codes.CellCut
-    → Tells o f (kept ++ b ∷ []) (looks.Whole n) → (more : List ℕ) → row_comes o all fs done past more ≡ row_comes o all left done at (kept ++ (b ∷ more))
+    → TellsCell o f (kept ++ b ∷ []) (looks.Whole n) → (more : List ℕ) → row_comes o all fs done past more ≡ row_comes o all left done at (kept ++ (b ∷ more))
 whole_by laws o all left f fs done at past kept b n l p fits cut t more =
     let k = whole_now laws o f kept b n fits cut t in
     let len : past ≡ at + length (kept ++ b ∷ []) = omega (arith, p, length-append kept (b ∷ [])) in
     cell_whole o all left f fs done at past (kept ++ b ∷ []) more l len (t.2 more ∙ ap (λ (m : ℕ). Ok m) k) ∙ ap (row_comes o all left done at) (sym (byte_more kept b more))
 
 pub push_whole : CellAndHeaderLaws → (o : Order) (all left : List Field) (f : Field) (fs : List Field) (done at past : ℕ) (kept : List ℕ) (b n : ℕ) (now : List ℕ) → now ≡ kept ++ b ∷ [] → left ≡ f ∷ fs → past ≡ at + length kept + 1 → IsBytes now → cell_size o f kept ≡ Err codes.CellCut
-    → Tells o f now (looks.Whole n) → (more : List ℕ) → row_comes o all fs done past more ≡ row_comes o all left done at (kept ++ (b ∷ more))
+    → TellsCell o f now (looks.Whole n) → (more : List ℕ) → row_comes o all fs done past more ≡ row_comes o all left done at (kept ++ (b ∷ more))
 push_whole laws o all left f fs done at past kept b n now e l p fits cut t =
-    whole_by laws o all left f fs done at past kept b n l p (subst IsBytes e fits) cut (subst (λ (x : List ℕ). Tells o f x (looks.Whole n)) e t)
+    whole_by laws o all left f fs done at past kept b n l p (subst IsBytes e fits) cut (subst (λ (x : List ℕ). TellsCell o f x (looks.Whole n)) e t)
 
 -- the byte tells how long the cell is
-pub push_told : (o : Order) (all left : List Field) (f : Field) (fs : List Field) (done at k : ℕ) (kept : List ℕ) (b n : ℕ) (now : List ℕ) → now ≡ kept ++ b ∷ [] → left ≡ f ∷ fs → k ≡ n - (length kept + 1) → Tells o f now (looks.Skip n)
+pub push_told : (o : Order) (all left : List Field) (f : Field) (fs : List Field) (done at k : ℕ) (kept : List ℕ) (b n : ℕ) (now : List ℕ) → now ≡ kept ++ b ∷ [] → left ≡ f ∷ fs → k ≡ n - (length kept + 1) → TellsCell o f now (looks.Skip n)
     → (more : List ℕ) → skipped o all fs done at (at + n) k more ≡ row_comes o all left done at (kept ++ (b ∷ more))
 push_told o all left f fs done at k kept b n now e l h t more =
-    let u = subst (λ (x : List ℕ). Tells o f x (looks.Skip n)) e t in
+    let u = subst (λ (x : List ℕ). TellsCell o f x (looks.Skip n)) e t in
     cell_told o all left f fs done at n k (kept ++ b ∷ []) more l (omega (arith, u.0)) (omega (arith, h, length-append kept (b ∷ []))) (u.2 more) ∙ ap (row_comes o all left done at) (sym (byte_more kept b more))
 
 -- the byte refuses the cell
-pub push_refused : (o : Order) (all left : List Field) (f : Field) (fs : List Field) (done at : ℕ) (kept : List ℕ) (b : ℕ) (code : Code) (now : List ℕ) → now ≡ kept ++ b ∷ [] → left ≡ f ∷ fs → Tells o f now (looks.Refused code)
+pub push_refused : (o : Order) (all left : List Field) (f : Field) (fs : List Field) (done at : ℕ) (kept : List ℕ) (b : ℕ) (code : Code) (now : List ℕ) → now ≡ kept ++ b ∷ [] → left ≡ f ∷ fs → TellsCell o f now (looks.Refused code)
     → (more : List ℕ) → row_comes o all left done at (kept ++ (b ∷ more)) ≡ Err (fault at code)
 push_refused o all left f fs done at kept b code now e l t more =
-    let u = subst (λ (x : List ℕ). Tells o f x (looks.Refused code)) e t in
+    let u = subst (λ (x : List ℕ). TellsCell o f x (looks.Refused code)) e t in
     ap (row_comes o all left done at) (byte_more kept b more) ∙ cell_stops o all left f fs done at ((kept ++ b ∷ []) ++ more) code l (u more)
 
 -- ---- forms

@@ -9,7 +9,7 @@ use Rattle.vpf_triplet.specs.Places.{fault}
 use Rattle.vpf_table.specs.Grid.{Grid}
 use Rattle.vpf_table.specs.Reading.{table_of}
 use Rattle.vpf_feed.specs.declared.row_form.form.Field.{Field}
-use Rattle.vpf_feed.specs.RowForm.Walk.{row_left, rows_left}
+use Rattle.vpf_feed.specs.RowForm.Walk.{row_left, rows_to_come}
 use Rattle.vpf_feed.specs.declared.summary.Summary.{Summary}
 
 -- what came of the cell in hand
@@ -38,13 +38,13 @@ pub record RowsSoFar : Type 0 where
   pub hand : Hand
 
 -- what came of a table
-pub data Progress : Type 0 where
+pub data FeedProgress : Type 0 where
   -- the length number and the header text so far
-  header : List ℕ → Progress
+  header : List ℕ → FeedProgress
   -- the header, and then rows
-  rows : RowsSoFar → Progress
+  rows : RowsSoFar → FeedProgress
   -- the place at which each file that begins so is refused
-  refused : Place → Progress
+  refused : Place → FeedProgress
 
 -- what a table is summed up to
 abbrev pub summed : Result Grid Place → Result Summary Place
@@ -58,11 +58,11 @@ summed_rows o columns (Err place) = Err place
 
 -- the number of rows, where of the row in hand these cells are left, the first at `at`, and then these bytes come
 unfoldable pub row_comes : Order → List Field → List Field → ℕ → ℕ → List ℕ → Result ℕ Place
-row_comes o fields left done at rest = row_left o left at rest >>= λ r. rows_left (most_rows - (done + 1)) o fields (done + 1) r.0 r.1
+row_comes o fields left done at rest = row_left o left at rest >>= λ r. rows_to_come (most_rows - (done + 1)) o fields (done + 1) r.0 r.1
 
 -- the number of rows, where this is in hand and then these bytes come
 abbrev pub hand_comes : RowsSoFar → Hand → List ℕ → Result ℕ Place
-hand_comes s between more = rows_left (most_rows - s.done) s.order s.fields s.done s.at more
+hand_comes s between more = rows_to_come (most_rows - s.done) s.order s.fields s.done s.at more
 hand_comes s (within kept) more = row_comes s.order s.fields (drop s.column s.fields) s.done s.at (kept ++ more)
 hand_comes s (skipping past) more =
     if nat_lt (length more) (past - s.here) then Err (fault s.at codes.CellCut)
@@ -73,7 +73,7 @@ abbrev pub rows_come : RowsSoFar → List ℕ → Result ℕ Place
 rows_come s more = hand_comes s s.hand more
 
 -- what the table comes to, if these bytes follow
-abbrev pub comes_to : Progress → List ℕ → Result Summary Place
+abbrev pub comes_to : FeedProgress → List ℕ → Result Summary Place
 comes_to (header text) more = summed (table_of (text ++ more))
 comes_to (rows s) more = summed_rows s.order s.columns (rows_come s more)
 comes_to (refused place) more = Err place

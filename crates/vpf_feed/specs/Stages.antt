@@ -15,7 +15,7 @@ use Rattle.vpf_feed.specs.declared.heading.Headed.TheVariants as headed
 use Rattle.vpf_feed.specs.declared.stage.Stage.{Stage}
 use Rattle.vpf_feed.specs.declared.stage.Stage.TheVariants as stages
 use Rattle.vpf_feed.specs.Progress as progress
-use Rattle.vpf_feed.specs.Progress.{Progress, Hand, RowsSoFar, summed, comes_to}
+use Rattle.vpf_feed.specs.Progress.{FeedProgress, Hand, RowsSoFar, summed, comes_to}
 use Rattle.vpf_feed.specs.Walks.{so_far, IsWalk}
 
 -- the most bytes of a length number and a header text
@@ -23,13 +23,13 @@ abbrev pub most_head : ℕ
 most_head = 65540
 
 -- the rows so far
-abbrev pub rows_of : Rows → Progress
-rows_of r = progress.rows (so_far r.form r.columns r.walk)
+abbrev pub came_of : Rows → FeedProgress
+came_of r = progress.rows (so_far r.form r.columns r.walk)
 
 -- what came of a table
-abbrev pub progress_of : Stage → Progress
+abbrev pub progress_of : Stage → FeedProgress
 progress_of (stages.Header text) = progress.header text.items
-progress_of (stages.Rows r) = rows_of r
+progress_of (stages.Rows r) = came_of r
 progress_of (stages.Refused place) = progress.refused place
 
 -- a header that isn't whole
@@ -38,24 +38,24 @@ pub record IsWaiting (text : List ℕ) : Type 0 where
   pub cut : order_bytes ≤ length text → header_of text ≡ Err (fault 4 codes.HeaderCut)
 
 -- rows of a form
-pub record AreRows (r : Rows) : Type 0 where
+pub record AreSoundRows (r : Rows) : Type 0 where
   pub form : IsForm r.form
   pub walk : IsWalk r.form r.walk
 
 -- what is true of each feed
 abbrev pub IsStage : Stage → Type 0
 IsStage (stages.Header text) = IsWaiting text.items
-IsStage (stages.Rows r) = AreRows r
+IsStage (stages.Rows r) = AreSoundRows r
 IsStage (stages.Refused place) = Unit {0}
 
 -- how many bytes came, where that is seen
-abbrev pub Came : Progress → ℕ → Type 0
+abbrev pub Came : FeedProgress → ℕ → Type 0
 Came (progress.header text) n = length text ≡ n
 Came (progress.rows s) n = s.here ≡ n
 Came (progress.refused place) n = Unit {0}
 
 -- These bytes were fed: whatever follows, what came comes to what the whole is.
-pub record Holds (p : Progress) (fed : List ℕ) : Type 0 where
+pub record HoldsFed (p : FeedProgress) (fed : List ℕ) : Type 0 where
   pub comes : (more : List ℕ) → comes_to p more ≡ summed (table_of (fed ++ more))
   pub came : Came p (length fed)
 
@@ -65,20 +65,20 @@ MayBe (Ok x) = Unit {0}
 MayBe (Err place) = MayGoOn place
 
 -- it isn't refused: what came is a table, or ends too early, once its order is told
-abbrev pub GoesOn : Progress → Type 0
-GoesOn (progress.header text) = order_bytes ≤ length text → MayBe (comes_to (progress.header text) [])
-GoesOn (progress.rows s) = MayBe (comes_to (progress.rows s) [])
-GoesOn (progress.refused place) = ⊥
+abbrev pub IsUnrefused : FeedProgress → Type 0
+IsUnrefused (progress.header text) = order_bytes ≤ length text → MayBe (comes_to (progress.header text) [])
+IsUnrefused (progress.rows s) = MayBe (comes_to (progress.rows s) [])
+IsUnrefused (progress.refused place) = ⊥
 
 -- A piece was taken, or the table is refused; where memory ran out, nothing has changed.
-abbrev pub Took : {U : Type 0} → Progress → Progress → List ℕ → Result U PlaceError → Type 0
-Took old new piece (Ok done) = ((more : List ℕ) → comes_to new more ≡ comes_to old (piece ++ more)) × ((n : ℕ) → Came old n → Came new (n + length piece)) × GoesOn new
+abbrev pub Took : {U : Type 0} → FeedProgress → FeedProgress → List ℕ → Result U PlaceError → Type 0
+Took old new piece (Ok done) = ((more : List ℕ) → comes_to new more ≡ comes_to old (piece ++ more)) × ((n : ℕ) → Came old n → Came new (n + length piece)) × IsUnrefused new
 Took old new piece (Err (errors.Place place)) = (new ≡ progress.refused place) × ((more : List ℕ) → comes_to old (piece ++ more) ≡ Err place)
 Took old new piece (Err errors.NoMemory) = new ≡ old
 
 -- a piece came to rows
 pub record RowsTook (old new : Rows) (piece : List ℕ) : Type 0 where
-  pub comes : (more : List ℕ) → comes_to (rows_of new) more ≡ comes_to (rows_of old) (piece ++ more)
+  pub comes : (more : List ℕ) → comes_to (came_of new) more ≡ comes_to (came_of old) (piece ++ more)
   pub here : new.walk.here ≡ old.walk.here + length piece
 
 -- unless memory ran out
@@ -96,13 +96,13 @@ OnNoMemory (Err errors.NoMemory) P = P
 -- what came of a text and what follows it: the whole is that
 abbrev pub IsHeaded : List ℕ → List ℕ → Headed → Type 0
 IsHeaded text rest headed.Waits = (rest ≡ []) × IsWaiting text
-IsHeaded text rest (headed.Rows r) = ((more : List ℕ) → comes_to (rows_of r) more ≡ summed (table_of ((text ++ rest) ++ more))) × (r.walk.here ≡ length text + length rest) × AreRows r
+IsHeaded text rest (headed.Rows r) = ((more : List ℕ) → comes_to (came_of r) more ≡ summed (table_of ((text ++ rest) ++ more))) × (r.walk.here ≡ length text + length rest) × AreSoundRows r
 IsHeaded text rest (headed.Refused place) = (more : List ℕ) → summed (table_of ((text ++ rest) ++ more)) ≡ Err place
 
 -- a piece came to this text
 abbrev pub IsFed : List ℕ → List ℕ → List ℕ → Headed → Type 0
 IsFed old piece new headed.Waits = (new ≡ old ++ piece) × IsWaiting new
-IsFed old piece new (headed.Rows r) = ((more : List ℕ) → comes_to (rows_of r) more ≡ summed (table_of ((old ++ piece) ++ more))) × (r.walk.here ≡ length old + length piece) × AreRows r
+IsFed old piece new (headed.Rows r) = ((more : List ℕ) → comes_to (came_of r) more ≡ summed (table_of ((old ++ piece) ++ more))) × (r.walk.here ≡ length old + length piece) × AreSoundRows r
 IsFed old piece new (headed.Refused place) = (more : List ℕ) → summed (table_of ((old ++ piece) ++ more)) ≡ Err place
 
 -- how many bytes of the input are kept: of a header all, of a cell those that may tell its length
@@ -111,7 +111,7 @@ held_hand progress.between = 0
 held_hand (progress.within kept) = length kept
 held_hand (progress.skipping past) = 0
 
-abbrev pub held_len : Progress → ℕ
+abbrev pub held_len : FeedProgress → ℕ
 held_len (progress.header text) = length text
 held_len (progress.rows s) = held_hand s.hand
 held_len (progress.refused place) = 0

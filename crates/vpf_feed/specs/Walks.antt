@@ -10,7 +10,7 @@ use Rattle.vpf_feed.specs.declared.walking.Hand.{Hand}
 use Rattle.vpf_feed.specs.declared.walking.Hand.TheVariants as hands
 use Rattle.vpf_feed.specs.declared.walking.Walk.{Walk}
 use Rattle.vpf_feed.specs.Progress as progress
-use Rattle.vpf_feed.specs.RowForm.Walk.{rows_left}
+use Rattle.vpf_feed.specs.RowForm.Walk.{rows_to_come}
 use Rattle.vpf_feed.specs.Progress.{RowsSoFar, row_comes, hand_comes, rows_come}
 
 -- more bytes than any file has
@@ -32,7 +32,7 @@ abbrev pub walk_comes : RowForm → Walk → List ℕ → Result ℕ Place
 walk_comes form w more = rows_come (so_far form 0 w) more
 
 -- of the row in hand a cell has so many bytes, all kept, which don't tell its length
-pub record IsWithin (form : RowForm) (w : Walk) (len : ℕ) : Type 0 where
+pub record IsInCell (form : RowForm) (w : Walk) (len : ℕ) : Type 0 where
   pub few : w.done < most_rows
   pub there : w.here ≡ w.at + len
   pub room : len < 13
@@ -52,7 +52,7 @@ pub record IsBetween (form : RowForm) (w : Walk) : Type 0 where
 
 abbrev pub IsInHand : RowForm → Walk → Hand → Type 0
 IsInHand form w hands.Between = IsBetween form w
-IsInHand form w (hands.Within len) = IsWithin form w len
+IsInHand form w (hands.Within len) = IsInCell form w len
 IsInHand form w (hands.Skipping past) = IsSkipping form w past
 
 -- a walk over rows of this form
@@ -66,7 +66,7 @@ within_comes form w len more = row_comes form.order form.fields.items (drop w.co
 
 -- how many rows there are, if these bytes follow where no row is in hand
 abbrev pub between_comes : RowForm → Walk → List ℕ → Result ℕ Place
-between_comes form w more = rows_left (most_rows - w.done) form.order form.fields.items w.done w.at more
+between_comes form w more = rows_to_come (most_rows - w.done) form.order form.fields.items w.done w.at more
 
 -- how many rows there are, if these bytes follow inside a cell that ends at this offset
 abbrev pub skipping_comes : RowForm → Walk → ℕ → List ℕ → Result ℕ Place

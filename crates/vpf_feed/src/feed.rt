@@ -22,9 +22,9 @@ pub struct TableFeed {
 }
 
 impl Model for TableFeed {
-    ghost use Rattle.vpf_feed.specs.Progress.{Progress};
+    ghost use Rattle.vpf_feed.specs.Progress.{FeedProgress};
 
-    ghost Value = { Progress };
+    ghost Value = { FeedProgress };
 
     ghost use Rattle.vpf_feed.specs.Stages.{progress_of, IsStage};
 
@@ -41,11 +41,11 @@ impl TableFeed {
     ghost use Rattle.vpf_table.specs.Reading.{table_of};
     ghost use Rattle.vpf_feed.specs.Staying.Staying.{order_bytes};
     ghost use Rattle.vpf_feed.specs.Progress.{refused, summed};
-    ghost use Rattle.vpf_feed.specs.Stages.{Holds, MayBe, OnNoMemory, Unless, held_len};
+    ghost use Rattle.vpf_feed.specs.Stages.{HoldsFed, MayBe, OnNoMemory, Unless, held_len};
 
     /// A feed to which nothing came. It takes no memory yet, and so never fails today.
     pub fn new(alloc: Global) -> Result<TableFeed, AllocError>
-        ensures { IfOk result (λ feed. Holds feed []) }
+        ensures { IfOk result (λ feed. HoldsFed feed []) }
     {
         Ok(TableFeed {
             alloc,
@@ -59,12 +59,14 @@ impl TableFeed {
     /// these don't tell the order of the numbers.
     pub fn feed(&mut self, piece: &[u8]) -> Result<(), PlaceError>
         // What came comes to what the whole is, whatever follows.
-        ensures taken { (fed : List ℕ) → Holds self.old fed → Unless result (Holds self.new (fed ++ piece.now)) }
+        ensures taken { (fed : List ℕ) → HoldsFed self.old fed → Unless result (HoldsFed self.new (fed ++ piece.now)) }
         // A refusal is kept.
         ensures refused { IfErr result (ForPlace (λ place. self.new ≡ refused place)) }
         ensures again { (place : Place) → self.old ≡ refused place → (result ≡ Err (errors.Place place)) × (self.new ≡ refused place) }
+        // It is that of every file that begins with what was fed.
+        ensures every { (fed more : List ℕ) → HoldsFed self.old fed → IfErr result (ForPlace (λ place. summed (table_of (fed ++ (piece.now ++ more))) ≡ Err place)) }
         // What is taken is a table or ends too early.
-        ensures waits { (fed : List ℕ) → Holds self.old fed → order_bytes ≤ length (fed ++ piece.now) → OnOk result (MayBe (table_of (fed ++ piece.now))) }
+        ensures waits { (fed : List ℕ) → HoldsFed self.old fed → order_bytes ≤ length (fed ++ piece.now) → OnOk result (MayBe (table_of (fed ++ piece.now))) }
         // Where memory ran out, nothing has changed.
         ensures none { OnNoMemory result (self.new ≡ self.old) }
     {
@@ -73,7 +75,7 @@ impl TableFeed {
 
     /// The whole is what was fed: its order and its numbers of rows and columns, or its first fault, which may be that it ends too early.
     pub fn finish(self) -> Result<Summary, PlaceError>
-        ensures { (fed : List ℕ) → Holds self fed → Answers (λ s. s) result (summed (table_of fed)) }
+        ensures { (fed : List ℕ) → HoldsFed self fed → Answers (λ s. s) result (summed (table_of fed)) }
     {
         end(self.alloc, &self.stage)
     }

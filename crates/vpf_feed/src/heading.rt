@@ -8,11 +8,11 @@ ghost use Rattle.vpf_feed.specs.Staying.Staying.{order_bytes};
 ghost use Rattle.vpf_base.specs.Limits.{most_rows};
 ghost use Rattle.vpf_feed.specs.declared.row_form.form.RowForm.{RowForm};
 ghost use Rattle.vpf_feed.specs.RowForm.Rows.{IsForm};
-ghost use Rattle.vpf_feed.specs.RowForm.Walk.{rows_left};
+ghost use Rattle.vpf_feed.specs.RowForm.Walk.{rows_to_come};
 ghost use Rattle.vpf_feed.specs.Walks.{walk_comes, bytes_most, IsWalk};
 ghost use Rattle.vpf_feed.specs.Stages.{most_head, IsHeaded, IsFed, IsWaiting};
 
-use crate::row_form::{RowForm, has_bytes};
+use crate::row_form::{RowForm, bytes_are_bytes};
 use crate::staying::laws::{cells_and_headers, reading_stays};
 use crate::walking::{Hand, Walk, walk_on};
 use std::alloc::{AllocError, Global};
@@ -46,7 +46,7 @@ pub enum Headed {
 
 /// The rows of a table begin here.
 fn start_walk(start: usize) -> Walk
-    ensures comes { (form : RowForm) (more : List ℕ) → walk_comes form result more ≡ rows_left most_rows form.order form.fields.items 0 start more }
+    ensures comes { (form : RowForm) (more : List ℕ) → walk_comes form result more ≡ rows_to_come most_rows form.order form.fields.items 0 start more }
     ensures sound { (form : RowForm) → IsForm form → IsWalk form result }
     ensures here { result.here ≡ start }
 {
@@ -97,7 +97,7 @@ fn begun(
     ensures { IfOk result (IsHeaded text.now rest.now) }
 {
     reading_stays();
-    has_bytes(text);
+    bytes_are_bytes(text);
     let form = RowForm::of(alloc, header)?;
     let columns = header.len() as u32;
     match walk_both(&form, start_walk(start), rest_of(text, start), rest) {

@@ -6,4 +6,4 @@ mod looking;
 mod widths;
 
 pub use form::{Field, RowForm};
-pub use looking::{Look, has_bytes, look_at};
+pub use looking::{Look, bytes_are_bytes, look_at};

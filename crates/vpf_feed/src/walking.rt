@@ -1,11 +1,11 @@
 //! Walking the rows of a table piece by piece.
 
-ghost use Rattle.std.specs.Prelude.{◌≡◌, ◌<◌, ◌≤◌, ◌+◌, ◌*◌, ◌++◌, ◌∷◌, ℕ, List, IfOk, IfErr, Err, Some, length, drop, slice_get};
+ghost use Rattle.std.specs.Prelude.{◌≡◌, ◌<◌, ◌≤◌, ◌+◌, ◌*◌, ◌++◌, ◌∷◌, ℕ, List, IfOk, IfErr, IfSome, Err, Some, length, drop, slice_get};
 ghost use Rattle.vpf_base.specs.Limits.{most_rows};
 ghost use Rattle.vpf_feed.specs.RowForm.Rows.{IsForm};
-ghost use Rattle.vpf_feed.specs.Walks.{walk_comes, next_comes, within_comes, between_comes, skipping_comes, bytes_most, IsWalk, IsWithin, IsBetween, IsSkipping};
+ghost use Rattle.vpf_feed.specs.Walks.{walk_comes, next_comes, within_comes, between_comes, skipping_comes, bytes_most, IsWalk, IsInCell, IsBetween, IsSkipping};
 
-use crate::row_form::{Field, Look, RowForm, has_bytes, look_at};
+use crate::row_form::{Field, Look, RowForm, bytes_are_bytes, look_at};
 use crate::staying::laws::cells_and_headers;
 use vpf_base::limits::MOST_ROWS;
 use vpf_triplet::{Code, Place};
@@ -107,7 +107,7 @@ fn begin(form: &RowForm, walk: Walk) -> Result<Walk, Place>
     requires between { IsBetween form.now walk }
     ensures comes { IfOk result (λ w. (b : ℕ) (more : List ℕ) → within_comes form.now w 0 (b ∷ more) ≡ between_comes form.now walk (b ∷ more)) }
     ensures column { IfOk result (λ w. w.column < length form.now.fields.items) }
-    ensures begun { IfOk result (λ w. IsWithin form.now w 0) }
+    ensures begun { IfOk result (λ w. IsInCell form.now w 0) }
     ensures here { IfOk result (λ w. w.here ≡ walk.here) }
     ensures refused { IfErr result (λ place. (b : ℕ) (more : List ℕ) → between_comes form.now walk (b ∷ more) ≡ Err place) }
 {
@@ -130,7 +130,7 @@ fn begin(form: &RowForm, walk: Walk) -> Result<Walk, Place>
 fn push(form: &RowForm, walk: Walk, len: usize, byte: u8) -> Result<Walk, Place>
     requires form { IsForm form.now }
     requires column { walk.column < length form.now.fields.items }
-    requires within { IsWithin form.now walk len }
+    requires within { IsInCell form.now walk len }
     requires small { walk.here < bytes_most }
     ensures comes { IfOk result (λ w. (more : List ℕ) → walk_comes form.now w more ≡ within_comes form.now walk len (byte ∷ more)) }
     ensures sound { IfOk result (IsWalk form.now) }
@@ -141,7 +141,7 @@ fn push(form: &RowForm, walk: Walk, len: usize, byte: u8) -> Result<Walk, Place>
     kept[len] = byte;
     let so_far = &kept[..len + 1];
     cells_and_headers();
-    has_bytes(so_far);
+    bytes_are_bytes(so_far);
     let field = field_at(form, walk.column);
     match look_at(form.order, field, so_far) {
         Look::Whole(_) => Ok(advance(form, walk, walk.here + 1)),
@@ -235,20 +235,67 @@ fn pass_rows(form: &RowForm, walk: Walk, rest: &[u8]) -> (Walk, usize)
     (on, used as usize)
 }
 
-/// A row begins with the first of these bytes.
-fn begin_with(form: &RowForm, walk: Walk, rest: &[u8]) -> Result<Walk, Place>
+/// The cell that begins with these bytes, where it is whole, and how many bytes it has.
+fn pass_cell(form: &RowForm, walk: Walk, rest: &[u8]) -> Option<(Walk, usize)>
     requires form { IsForm form.now }
+    requires column { walk.column < length form.now.fields.items }
+    requires begun { IsInCell form.now walk 0 }
+    requires small { walk.here + length rest.now < bytes_most }
+    ensures comes { IfSome result (λ r. (more : List ℕ) → walk_comes form.now r.0 (drop r.1 rest.now ++ more) ≡ within_comes form.now walk 0 (rest.now ++ more)) }
+    ensures sound { IfSome result (λ r. IsWalk form.now r.0) }
+    ensures here { IfSome result (λ r. r.0.here ≡ walk.here + r.1) }
+    ensures used { IfSome result (λ r. (0 < r.1) × (r.1 ≤ length rest.now)) }
+{
+    match look_at(form.order, field_at(form, walk.column), rest) {
+        Look::Whole(len) => Some((advance(form, walk, walk.here + len as u64), len)),
+        _ => None,
+    }
+}
+
+/// Some of the bytes, which follow so many of the cell in hand, and how many they are: the cell, where it begins with them
+/// and is whole, else one.
+fn step_within(form: &RowForm, walk: Walk, len: usize, rest: &[u8]) -> Result<(Walk, usize), Place>
+    requires form { IsForm form.now }
+    requires column { walk.column < length form.now.fields.items }
+    requires within { IsInCell form.now walk len }
+    requires some { 0 < length rest.now }
+    requires small { walk.here + length rest.now < bytes_most }
+    ensures comes { IfOk result (λ r. (more : List ℕ) → walk_comes form.now r.0 (drop r.1 rest.now ++ more) ≡ within_comes form.now walk len (rest.now ++ more)) }
+    ensures sound { IfOk result (λ r. IsWalk form.now r.0) }
+    ensures here { IfOk result (λ r. r.0.here ≡ walk.here + r.1) }
+    ensures used { IfOk result (λ r. (0 < r.1) × (r.1 ≤ length rest.now)) }
+    ensures refused { IfErr result (λ place. (more : List ℕ) → within_comes form.now walk len (rest.now ++ more) ≡ Err place) }
+{
+    if len == 0 {
+        if let Some(passed) = pass_cell(form, walk, rest) {
+            return Ok(passed);
+        }
+    }
+    let next = push(form, walk, len, first_of(rest))?;
+    Ok((next, 1))
+}
+
+/// Some of the bytes, where no row is begun, and how many they are.
+fn step_between(form: &RowForm, walk: Walk, rest: &[u8]) -> Result<(Walk, usize), Place>
+    requires form { IsForm form.now }
+    requires column { walk.column < length form.now.fields.items }
     requires between { IsBetween form.now walk }
     requires some { 0 < length rest.now }
-    requires small { walk.here < bytes_most }
-    ensures comes { IfOk result (λ w. (more : List ℕ) → walk_comes form.now w (drop 1 rest.now ++ more) ≡ between_comes form.now walk (rest.now ++ more)) }
-    ensures sound { IfOk result (IsWalk form.now) }
-    ensures here { IfOk result (λ w. w.here ≡ walk.here + 1) }
+    requires small { walk.here + length rest.now < bytes_most }
+    ensures comes { IfOk result (λ r. (more : List ℕ) → walk_comes form.now r.0 (drop r.1 rest.now ++ more) ≡ between_comes form.now walk (rest.now ++ more)) }
+    ensures sound { IfOk result (λ r. IsWalk form.now r.0) }
+    ensures here { IfOk result (λ r. r.0.here ≡ walk.here + r.1) }
+    ensures used { IfOk result (λ r. (0 < r.1) × (r.1 ≤ length rest.now)) }
     ensures refused { IfErr result (λ place. (more : List ℕ) → between_comes form.now walk (rest.now ++ more) ≡ Err place) }
 {
-    let byte = first_of(rest);
+    let (on, used) = pass_rows(form, walk, rest);
+    if used > 0 {
+        return Ok((on, used));
+    }
+    // A row begins with the first byte.
+    let _first = first_of(rest);
     let begun = begin(form, walk)?;
-    push(form, begun, 0, byte)
+    step_within(form, begun, 0, rest)
 }
 
 /// Some of the bytes, and how many they are.
@@ -264,18 +311,8 @@ fn step(form: &RowForm, walk: Walk, rest: &[u8]) -> Result<(Walk, usize), Place>
     ensures refused { IfErr result (λ place. (more : List ℕ) → walk_comes form.now walk (rest.now ++ more) ≡ Err place) }
 {
     match walk.hand {
-        Hand::Between => {
-            let (on, used) = pass_rows(form, walk, rest);
-            if used > 0 {
-                return Ok((on, used));
-            }
-            let next = begin_with(form, walk, rest)?;
-            Ok((next, 1))
-        }
-        Hand::Within(len) => {
-            let next = push(form, walk, len, first_of(rest))?;
-            Ok((next, 1))
-        }
+        Hand::Between => step_between(form, walk, rest),
+        Hand::Within(len) => step_within(form, walk, len, rest),
         Hand::Skipping(past) => Ok(skip(form, walk, past, rest)),
     }
 }

@@ -1,7 +1,7 @@
 -- What disagrees in the tables of a library.
 use Rattle.std.specs.Prelude.{ℕ, ℤ, List}
-use Rattle.vpf_triplet.specs.declared.kinds.Kind.{Kind}
-use Rattle.vpf_triplet.specs.declared.kinds.Count.{Count}
+use Rattle.vpf_value.specs.Kind.{Kind}
+use Rattle.vpf_value.specs.Count.{Count}
 use Rattle.vpf_value.specs.Values.{Value, view}
 use Rattle.vpf_darts.specs.declared.darts.TileDart.{TileDart}
 use Rattle.vpf_findings.specs.declared.finding.TableName.{TableName}

@@ -1,7 +1,7 @@
 -- Findings as they are printed.
 use Rattle.std.specs.Prelude.{ℕ, List, codes}
 use Rattle.std.specs.Fmt.{decimal, signed_decimal}
-use Rattle.vpf_triplet.specs.Kinds.{kind_text, count_text}
+use Rattle.vpf_value.specs.Kinds.{kind_text, count_text}
 use Rattle.vpf_findings.specs.Text.Texts.{◌&◌}
 use Rattle.vpf_findings.specs.Text.Bytes.{printed}
 use Rattle.vpf_findings.specs.Text.Cells.{cell_text}

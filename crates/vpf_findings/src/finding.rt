@@ -1,8 +1,8 @@
 //! What disagrees in the tables of a library.
 
 use vpf_darts::TileDart;
-use vpf_triplet::{Count, Kind};
 use vpf_value::Cell;
+use vpf_value::triplet::{Count, Kind};
 
 /// Which table a finding is in.
 #[derive(Clone, Copy, Debug, PartialEq, Eq)]

@@ -1,12 +1,11 @@
 //! The header of a table.
 
-ghost use Rattle.std.specs.Prelude.{◌≡◌, ◌+◌, ◌<◌, ◌≤◌, ◌++◌, ◌||◌, not, IfOk, IfSome, OnOk, Some, map, length, position, take, vec_len};
-ghost use Rattle.std.specs.List.{list_any};
+ghost use Rattle.std.specs.Prelude.{◌≡◌, ◌+◌, ◌<◌, ◌≤◌, ◌++◌, not, IfOk, IfSome, OnOk, Some, map, length, position, take, vec_len};
 ghost use Rattle.indexmap.specs.IndexMap.{values, index_map_len};
 ghost use Rattle.vpf_base.specs.Limits.{longest_text};
 ghost use Rattle.vpf_triplet.specs.Places.{Gives, Answers};
 ghost use Rattle.vpf_head.specs.Canonical.{canonical_header, canonical_text};
-ghost use Rattle.vpf_head.specs.Head.{is_data, is_triplet, is_star, with_kind};
+ghost use Rattle.vpf_head.specs.Head.{with_kind};
 ghost use Rattle.vpf_head.specs.Making.{new_of, read_as_given};
 ghost use Rattle.vpf_head.specs.Reading.{end_at, close_at, after_mark, order_of, head_at, header_of};
 ghost use Rattle.vpf_head.specs.Texts.{is_blank};
@@ -14,6 +13,7 @@ ghost use Rattle.vpf_head.specs.Views.{col, head_given, AreNamed};
 
 use crate::columns::Column;
 use crate::fields::present;
+use crate::holding::{holds_data, varies};
 use crate::items::{Form, name_at, text_at};
 use crate::making::{Parts, columns_of, file_of, next_after_name, next_after_text, past_columns};
 use crate::names::ColumnName;
@@ -22,7 +22,7 @@ use crate::writing::{columns_len, name_len, put_columns, put_item, put_start};
 use std::alloc::{AllocError, Global};
 use std::marker::Model;
 use vpf_base::limits::LONGEST_TEXT;
-use vpf_triplet::{Code, Count, Kind, Order, Place, PlaceError};
+use vpf_triplet::{Code, Kind, Order, Place, PlaceError};
 
 /// How many bytes the length number has.
 const NUMBER_BYTES: usize = 4;
@@ -49,18 +49,6 @@ impl<'a> Model for Header<'a> {
     ghost view = { head_of };
 
     ghost invariant = { IsHeaderInside };
-}
-
-fn is_data(kind: Kind) -> bool
-    ensures { result ≡ is_data kind }
-{
-    kind != Kind::X
-}
-
-fn holds_data(columns: &Columns<'_>) -> bool
-    ensures { result ≡ list_any (λ column. is_data column.kind) (values columns.now) }
-{
-    columns.values().any(|column| is_data(column.kind))
 }
 
 fn is_blank(b: u8) -> bool
@@ -171,26 +159,6 @@ fn header_at<'a>(alloc: Global, bytes: &'a [u8]) -> Result<(Header<'a>, usize), 
         return Err(Place::in_table(NUMBER_BYTES, Code::HeaderCut).into());
     }
     head_at(alloc, order, &bytes[..end])
-}
-
-fn is_triplet(kind: Kind) -> bool
-    ensures { result ≡ is_triplet kind }
-{
-    kind == Kind::K
-}
-
-fn is_star(count: Count) -> bool
-    ensures { result ≡ is_star count }
-{
-    count == Count::Star
-}
-
-fn varies(columns: &Columns<'_>) -> bool
-    ensures { result ≡ list_any (λ column. is_triplet column.kind || is_star column.count) (values columns.now) }
-{
-    columns
-        .values()
-        .any(|column| is_triplet(column.kind) || is_star(column.count))
 }
 
 /// Refuses parts that were read as others.

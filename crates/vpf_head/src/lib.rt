@@ -4,6 +4,7 @@
 mod columns;
 mod fields;
 mod headers;
+mod holding;
 mod items;
 pub mod laws;
 mod making;

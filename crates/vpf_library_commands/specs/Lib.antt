@@ -17,3 +17,5 @@ pub use Rattle.vpf_tiler.specs.Tilings
 pub use Rattle.vpf_tiler.specs.CutBy
 pub use Rattle.vpf_tiler.specs.TiledFiles.Names
 pub use Rattle.vpf_tiler.specs.declared.errors.TileError
+pub use Rattle.vpf_featured.specs.Reading
+pub use Rattle.vpf_featured.specs.Finding

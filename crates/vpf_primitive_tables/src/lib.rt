@@ -1,4 +1,5 @@
-//! Tables of primitives as others are written, and what is read of them again.
+//! Tables of primitives of the form of others (`table_forms`): those of a tile (`tile_tables`), what is written of them
+//! (`tile_writing`), and what is read of them again (`tile_reading`).
 #![tactic(auto)]
 
 pub mod table_forms;

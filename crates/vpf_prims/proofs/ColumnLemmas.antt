@@ -3,8 +3,8 @@ use Rattle.std.proofs.Common.{◌≡◌, ℕ, ◌<◌, Option, Some, None, List,
 use Rattle.std.specs.Prelude.{IfSome}
 use Rattle.std.proofs.lemmas.List.{length-map}
 use Rattle.std.proofs.lemmas.List.Quantifiers.{position-Some}
-use Rattle.vpf_head.specs.Folding.{same_name}
-use Rattle.vpf_head.specs.Head.{Col, names, place_of}
+use Rattle.vpf_table.specs.Folding.{same_name}
+use Rattle.vpf_table.specs.Head.{Col, names, place_of}
 
 if_some : {A : Type 0} (P : A → Type 0) (o : Option A) → ((x : A) → o ≡ Some x → P x) → IfSome o P
 if_some P None h = tt

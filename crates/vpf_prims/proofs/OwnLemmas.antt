@@ -1,6 +1,6 @@
 -- The edges of a table by their numbers, row by row.
 use Rattle.std.proofs.Common.{◌≡◌, ℕ, List, [], ◌∷◌, map, refl, ap}
-use Rattle.vpf_head.specs.Head.{Col}
+use Rattle.vpf_table.specs.Head.{Col}
 use Rattle.vpf_table.specs.Grid.{Row}
 use Rattle.vpf_prims.specs.declared.placing.TableAt.{TableAt}
 use Rattle.vpf_prims.specs.declared.rows.Edge.{Edge}

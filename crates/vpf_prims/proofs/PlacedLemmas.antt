@@ -2,7 +2,7 @@
 use Rattle.std.proofs.Common.{◌≡◌, ℕ, ◌+◌, ◌<◌, Some, None, List, [], ◌∷◌, ◌++◌, length, map, drop, get_or, append_assoc, add-one, refl}
 use Rattle.std.proofs.Math.Seq.{drop-cons}
 use Rattle.std.proofs.lemmas.List.{map-append}
-use Rattle.vpf_head.specs.Head.{Col}
+use Rattle.vpf_table.specs.Head.{Col}
 use Rattle.vpf_table.specs.Findings.{Disagreement}
 use Rattle.vpf_prims.specs.declared.roles.Role.{Role as LentRole}
 use Rattle.vpf_prims.specs.declared.placing.TableAt.{TableAt}

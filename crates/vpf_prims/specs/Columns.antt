@@ -3,7 +3,7 @@ use Rattle.std.specs.Prelude.{ℕ, ◌<◌, List, [], ◌∷◌, Option, Some, N
 use Rattle.std.specs.Option.{option_and_then}
 use Rattle.vpf_triplet.specs.declared.kinds.Kind.{Kind}
 use Rattle.vpf_triplet.specs.declared.kinds.Kind.TheVariants as kinds
-use Rattle.vpf_head.specs.Head.{Col, place_of}
+use Rattle.vpf_table.specs.Head.{Col, place_of}
 use Rattle.vpf_table.specs.SeenWord.TheVariants as words
 use Rattle.vpf_table.specs.Findings.{Sight, KindSeen, WordSeen, Disagreement, column_name}
 use Rattle.vpf_table.specs.Firsts.{◌or◌, unless}

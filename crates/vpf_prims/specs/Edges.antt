@@ -1,7 +1,7 @@
 -- The rows of an edge table: what they say, and what disagrees in them.
 use Rattle.std.specs.Prelude.{ℕ, ◌≤◌, List, All, Option, codes}
 use Rattle.vpf_triplet.specs.declared.triplets.Triplet.{Triplet}
-use Rattle.vpf_head.specs.Head.{Col}
+use Rattle.vpf_table.specs.Head.{Col}
 use Rattle.vpf_table.specs.Grid.{Row}
 use Rattle.vpf_table.specs.Findings.{Disagreement}
 use Rattle.vpf_table.specs.Firsts.{◌or◌, first_of_rows}

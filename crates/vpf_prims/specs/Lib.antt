@@ -16,3 +16,4 @@ pub mod Tiles
 pub mod Coverages
 pub mod Libraries
 pub mod Laws
+pub use Rattle.vpf_table.specs.Grid

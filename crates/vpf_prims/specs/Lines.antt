@@ -1,7 +1,7 @@
 -- What disagrees in the ids and references of the rows of a table.
 use Rattle.std.specs.Prelude.{ℕ, pos, not, ◌==◌, List, length, Option}
 use Rattle.vpf_value.specs.Values.{Value}
-use Rattle.vpf_head.specs.Head.{Col}
+use Rattle.vpf_table.specs.Head.{Col}
 use Rattle.vpf_table.specs.Grid.{Row}
 use Rattle.vpf_table.specs.Findings.{NumberSeen, CellSeen, RangeSeen, Disagreement}
 use Rattle.vpf_table.specs.Firsts.{unless}

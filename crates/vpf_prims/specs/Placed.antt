@@ -1,6 +1,6 @@
 -- A column of the code against the column of a role.
 use Rattle.std.specs.Prelude.{◌≡◌, List, length}
-use Rattle.vpf_head.specs.Head.{Col}
+use Rattle.vpf_table.specs.Head.{Col}
 use Rattle.vpf_prims.specs.declared.placing.RoleColumn.{RoleColumn}
 use Rattle.vpf_prims.specs.Roles.{Role}
 use Rattle.vpf_prims.specs.Columns.{IsWithin, role_at, role_column}

@@ -5,8 +5,8 @@ use Rattle.std.specs.List.{list_any}
 use Rattle.std.specs.Option.{option_map}
 use Rattle.vpf_triplet.specs.declared.triplets.Triplet.{Triplet}
 use Rattle.vpf_value.specs.Values.{Value, NumberOf, Nothing}
-use Rattle.vpf_head.specs.Head.{Col, place_of}
-use Rattle.vpf_head.specs.Folding.{same_name}
+use Rattle.vpf_table.specs.Head.{Col, place_of}
+use Rattle.vpf_table.specs.Folding.{same_name}
 use Rattle.vpf_table.specs.Grid.{Row, Grid}
 use Rattle.vpf_prims.specs.Roles.{Role, edge_roles, face_roles, node_roles, entity_roles}
 use Rattle.vpf_prims.specs.References.{reference_in, cell_at}

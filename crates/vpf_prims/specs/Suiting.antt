@@ -1,7 +1,7 @@
 -- The columns of the tables of a coverage: those with a role are there and of a kind that the role allows.
 use Rattle.std.specs.Prelude.{◌≡◌, true, not, List, [], Option, Some, None, filter}
 use Rattle.std.specs.List.{AllByRecursion}
-use Rattle.vpf_head.specs.Head.{Col}
+use Rattle.vpf_table.specs.Head.{Col}
 use Rattle.vpf_table.specs.Grid.{Grid}
 use Rattle.vpf_prims.specs.Roles.{Role, suits, edge_roles, face_roles, ring_roles, node_roles, entity_roles}
 use Rattle.vpf_prims.specs.Columns.{column_of}

@@ -1,6 +1,6 @@
 -- The tables of a tile where their files stand among those that were read, and the places in them that disagree.
 use Rattle.std.specs.Prelude.{ℕ, ◌+◌, [], Option, Some, None, codes, if◌then◌else◌}
-use Rattle.vpf_head.specs.Head.{varies_in}
+use Rattle.vpf_table.specs.Head.{varies_in}
 use Rattle.vpf_table.specs.Grid.{Grid}
 use Rattle.vpf_table.specs.TableName.{TableName}
 use Rattle.vpf_table.specs.TableName.TheVariants as names

@@ -14,8 +14,8 @@ use crate::roles::edge_roles;
 use crate::rows::{Edge, EdgeRow};
 use std::alloc::Global;
 use std::marker::Model;
-use vpf_head::Header;
 use vpf_table::findings::{FindError, Finding};
+use vpf_table::head::Header;
 use vpf_table::{RowView, TableView};
 
 /// The columns of an edge table that have a role.

@@ -30,3 +30,4 @@ pub use roles::{
 pub use rows::{Edge, EdgeRow, id_of};
 pub use tile::{Tile, files_of};
 pub use views::{PrimitiveViews, TileColumns};
+pub use vpf_table as table;

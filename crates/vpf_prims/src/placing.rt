@@ -1,7 +1,7 @@
 //! Finding the columns that have a role.
 
 ghost use Rattle.std.specs.Prelude.{◌≡◌, ◌<◌, All, IfOk, IfSome, length, map};
-ghost use Rattle.vpf_head.specs.Head.{place_of};
+ghost use Rattle.vpf_table.specs.Head.{place_of};
 ghost use Rattle.vpf_table.specs.Findings.{column_name, disagreement_of, sight_of};
 ghost use Rattle.vpf_table.specs.Firsts.{Finds, Tells};
 ghost use Rattle.vpf_prims.specs.Roles.{role_of};
@@ -9,8 +9,8 @@ ghost use Rattle.vpf_prims.specs.Columns.{IsWithin, role_line, columns_finding, 
 
 use crate::roles::Role;
 use std::alloc::Global;
-use vpf_head::{Column, Header};
 use vpf_table::findings::{ColumnAt, FindError, Finding, Seen, SeenWord, TableName};
+use vpf_table::head::{Column, Header};
 use vpf_triplet::Kind;
 
 /// A table that is looked at: where its findings are.

@@ -18,7 +18,7 @@ pub use columns::place_of;
 pub use disagreeing::{disagreement, kept_disagreement};
 pub use halting::{Halt, Stop, settle};
 pub use listings::listed;
-pub use loading::{optional_file, required_file};
+pub use loading::{optional_file, required_file, required_size};
 pub use making::{file_of, makes};
 pub use refusing::{Refusal, refuse};
 pub use reply::Reply;

@@ -5,7 +5,7 @@ use Rattle.vpf_darts.specs.declared.darts.TileDart.{TileDart}
 use Rattle.vpf_darts.specs.Listings.{numbers_of}
 use Rattle.vpf_prims.specs.Libraries.{library_of}
 use Rattle.vpf_library_files.specs.Loading.Holding.{HoldsBytes}
-use Rattle.vpf_featured.specs.Reading.{FeaturedCoverage}
+use Rattle.vpf_feature_commands.specs.Reading.{FeaturedCoverage}
 use Rattle.vpf_replies.specs.declared.verdict.Verdict.TheVariants.{Done}
 use Rattle.vpf_replies.specs.Answer.{Answer, done}
 use Rattle.vpf_replies.specs.Listings.{listing_text}

@@ -13,7 +13,7 @@ ghost use Rattle.vpf_replies.specs.Answer.{Answer, done};
 ghost use Rattle.vpf_replies.specs.Tables.{fault_answer};
 ghost use Rattle.vpf_replies.specs.Halting.{ComesTo, TellsFault};
 ghost use Rattle.vpf_library_files.specs.Loading.Holding.{HoldsBytes};
-ghost use Rattle.vpf_featured.specs.Reading.{FeaturedCoverage};
+ghost use Rattle.vpf_feature_commands.specs.Reading.{FeaturedCoverage};
 ghost use Rattle.vpf_library_commands.specs.declared.checking.CheckRequest.{CheckRequest};
 ghost use Rattle.vpf_library_commands.specs.declared.requesting.MakeRequest.{MakeRequest};
 ghost use Rattle.vpf_library_commands.specs.Agreeing.{Agrees, IsAgreeing};

@@ -11,30 +11,21 @@ use std::process::Abort;
 use std::test::Fail;
 use vpf_run::Status;
 
+/// What is printed of `t.tab` as a table.
+const ACCEPTED: &str = "accepted rows 1 columns 1\n";
+
+/// The same without its end.
+const CUT: &str = "accepted rows 1 columns 1";
+
 /// A verb over `t.tab` with pieces of one byte, the tree call and the sink call that fail, from 1, or 0 for none, and what is answered.
 const FAULTS: [(&str, [u64; 2], Status, &str); 9] = [
     ("table", [1, 0], Status::TreeFault, ""),
     ("table", [2, 0], Status::TreeFault, ""),
     ("table", [34, 0], Status::TreeFault, ""),
-    (
-        "table",
-        [35, 0],
-        Status::Done,
-        "accepted rows 1 columns 1\n",
-    ),
+    ("table", [35, 0], Status::Done, ACCEPTED),
     ("table", [0, 1], Status::SinkFault, ""),
-    (
-        "table",
-        [0, 26],
-        Status::SinkFault,
-        "accepted rows 1 columns 1",
-    ),
-    (
-        "table",
-        [0, 27],
-        Status::Done,
-        "accepted rows 1 columns 1\n",
-    ),
+    ("table", [0, 26], Status::SinkFault, CUT),
+    ("table", [0, 27], Status::Done, ACCEPTED),
     ("show", [0, 2], Status::SinkFault, "o"),
     ("show", [1, 0], Status::TreeFault, ""),
 ];
@@ -78,6 +69,16 @@ fn stops_at_faults(rt: HostRuntime) -> Result<(), Fail> {
     Ok(())
 }
 
+/// The second read, which would fail, is never asked for: the first shows a length number that is too large.
+#[test]
+fn reads_no_further_than_a_fault(rt: HostRuntime) -> Result<(), Fail> {
+    let mut big = b"\x01\0\x01\0".to_vec(rt.alloc())?;
+    big.resize(8_192, 0)?;
+    let mut tree = tree(rt.alloc(), 4096, 3, &[("big.tab", &big)])?;
+    let (words, text) = (["table", "big.tab"], "limit header big.tab 65537\n");
+    check_answer(&rt, rt.alloc(), &mut tree, &words, text, Status::Limit)
+}
+
 /// Size and bytes of the table, of its index, and of the index of the column.
 #[test]
 fn stops_at_each_call_of_rows(rt: HostRuntime) -> Result<(), Fail> {
@@ -118,15 +119,11 @@ fn stops_at_each_call_of_index(rt: HostRuntime) -> Result<(), Fail> {
 /// The tree fails at this call: of those that make, the first makes half of the table, and the second half of its index.
 fn check_swap(rt: &impl Abort, alloc: Global, piece: u32, reads: u64, at: u64) -> Result<(), Fail> {
     let mut tree = tree(alloc, piece, at, &[("text", TEXT)])?;
+    let half = Some(&TEXT_INDEX[..8]);
     let (text, want, table, index) = match at.checked_sub(reads) {
         None | Some(0) => ("", Status::TreeFault, None, None),
         Some(1) => ("", Status::TreeFault, Some(&TEXT_BIG[..17]), None),
-        Some(2) => (
-            "",
-            Status::TreeFault,
-            Some(TEXT_BIG),
-            Some(&TEXT_INDEX[..8]),
-        ),
+        Some(2) => ("", Status::TreeFault, Some(TEXT_BIG), half),
         _ => (TEXT_MADE, Status::Done, Some(TEXT_BIG), Some(TEXT_INDEX)),
     };
     let words = ["swap", "text", "u.tab"];

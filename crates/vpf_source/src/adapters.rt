@@ -15,15 +15,34 @@ use std::marker::Model;
 use std::rt::Files;
 use std::{fs, io};
 
+/// A file that is open, its name, and the offset that it is read from next.
+#[derive(Drop)]
+struct Opened<F: Drop> {
+    name: String,
+    file: F,
+    at: u64,
+}
+
+impl<F: Drop> Opened<F> {
+    /// Whether it is this file, to be read from there.
+    fn is_at(&self, name: &str, at: u64) -> bool {
+        self.at == at && self.name.as_str() == name
+    }
+}
+
 /// The files of the computer. A name is a path under the working folder, or from the root where it begins with `/`.
 ///
 /// A file is absent exactly where the system says that it is not found. Each other error of the system is a fault, as an
 /// interrupted call or a path through a file, and so is the size of a folder. What the system said of the last fault is
 /// kept, to be told. A contract sees a `FolderTree` as its count of faults.
+///
+/// The file that was read last stays open until another is read, its end is met, or a file is made: so pieces of one file,
+/// read one after another, are one pass over it.
 #[derive(Drop)]
 pub struct FolderTree<R: Files> {
     alloc: Global,
     rt: R,
+    opened: Option<Opened<R::File>>,
     faults: u64,
     trouble: Option<Trouble>,
     ghost told: { is_some trouble ≡ nat_lt 0 faults },
@@ -43,6 +62,7 @@ impl<R: Files> FolderTree<R> {
         FolderTree {
             alloc,
             rt,
+            opened: None,
             faults: 0,
             trouble: None,
         }
@@ -66,13 +86,36 @@ impl<R: Files> FolderTree<R> {
         Failed
     }
 
-    /// One read of the file from the offset on.
-    fn read_here(&self, name: &str, at: u64, buf: &mut [u8]) -> io::Result<usize>
-        ensures { ReadsAtMost result buf.new }
+    /// The file of this name, to be read from the offset on: the one that is open there already, or a new one.
+    fn open_at(&mut self, name: &str, at: u64) -> io::Result<R::File>
+        ensures { self.new ≡ self.old }
     {
+        if let Some(opened) = self.opened.take() {
+            if opened.is_at(name, at) {
+                return Ok(opened.file);
+            }
+        }
         let mut file = fs::open(&self.rt, name)?;
         file.seek(SeekFrom::Start(at))?;
-        file.read(buf)
+        Ok(file)
+    }
+
+    /// One read of the file from the offset on, which stays open where it gave something.
+    fn read_here(&mut self, name: &str, at: u64, buf: &mut [u8]) -> io::Result<usize>
+        ensures read { ReadsAtMost result buf.new }
+        ensures faults { self.new ≡ self.old }
+    {
+        let mut file = self.open_at(name, at)?;
+        let count = file.read(buf)?;
+        if count > 0 {
+            let kept = String::from_str(self.alloc, name).ok();
+            self.opened = kept.map(|name| Opened {
+                name,
+                file,
+                at: at.saturating_add(count as u64),
+            });
+        }
+        Ok(count)
     }
 
     /// The file made anew with these bytes, and the folders of its name where they are absent.
@@ -126,6 +169,7 @@ impl<R: Files> Tree for FolderTree<R> {
     }
 
     fn make(&mut self, name: &str, bytes: &[u8]) -> Result<(), DeviceError> {
+        self.opened = None;
         match self.make_here(name, bytes) {
             Ok(()) => Ok(()),
             Err(e) => Err(self.fault(name, e).into()),

@@ -1,4 +1,5 @@
-//! Trees of files and sinks of bytes, whole files over them, and a counter of steps.
+//! Trees of files and sinks of bytes, whole files over them, what the files of a library are called (`names`), and a counter of
+//! steps.
 #![tactic(auto)]
 
 mod adapters;

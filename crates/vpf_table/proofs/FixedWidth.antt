@@ -36,7 +36,7 @@ found_is x y e = cc
 same_len : (u v : Value) (m n : ℕ) → found (u, m) ≡ found (v, n) → m ≡ n
 same_len u v m n e = ap (λ (x : Value × ℕ). x.1) (found_is (u, m) (v, n) e)
 
-some_is : (a b : ℕ) → Option.Some a ≡ Some b → a ≡ b
+pub some_is : (a b : ℕ) → Option.Some a ≡ Some b → a ≡ b
 some_is a b e = cc
 
 -- cells of one width end there, or are cut where fewer bytes are left
@@ -50,6 +50,13 @@ cell_len cells o k c bytes v n w f e =
       | inl lt ↦ absurd (let z = (cells o k c bytes w f).cut lt in cc)
       | inr le ↦ let z = (cells o k c bytes w f).whole le in (sym (same_len z.0 v w n (sym z.1 ∙ e)), le)
     ]
+
+-- a cell of one width that is read ends behind so many bytes
+pub cell_ends : FixedCells → (o : Order) (c : Col) (bytes : List ℕ) (at next w : ℕ) (v : Value) → cell_width c.kind c.count ≡ Some w → at ≤ length bytes → cell_in o c bytes at ≡ Ok (v, next) → (next ≡ at + w) × (next ≤ length bytes)
+cell_ends cells o c bytes at next w v f inside e =
+    let l = lifted_ok at (cell_from o c.kind c.count (drop at bytes)) (v, next) e in
+    let len = cell_len cells o c.kind c.count (drop at bytes) v l.0 w f l.1 in
+    (omega (arith, l.2, len.0), omega (arith, l.2, len.0, len.1, length-drop at bytes, inside))
 
 whole_by : (at w : ℕ) (v : Value) (r : Result (Value × ℕ) Code) → r ≡ Ok (v, w) → end_of (lifted at r) ≡ Ok (at + w)
 whole_by at w v r e = rw e refl

@@ -4,9 +4,11 @@ pub mod CellOf
 pub mod RowsOpen
 pub mod RowSteps
 pub mod OpenLemmas
+pub mod CountLaws
 pub mod SharedHeaders
 pub mod RowWidths
 pub mod FixedWidth
+pub mod OffsetLaws
 pub mod RowLaws
 pub mod TableLaws
 pub mod RowsFew

@@ -2,10 +2,13 @@ pub mod Grid
 pub mod Reading
 pub mod Walking
 pub mod Widths
+pub mod Offsets
+pub mod PlacedHeaders
 pub mod Spans
 pub mod Opening
 pub mod FileTables
 pub mod TableFiles
+pub mod Counts
 pub mod Views
 pub mod RowViews
 pub mod RowWalks
@@ -23,3 +26,5 @@ pub use Rattle.vpf_findings.specs.declared.finding.SeenWord
 pub use Rattle.vpf_findings.specs.declared.finding.TableName
 pub use Rattle.vpf_findings.specs.declared.errors.FindError
 pub use Rattle.vpf_findings.specs.FirstLaws
+pub use Rattle.vpf_head.specs.Head
+pub use Rattle.vpf_head.specs.Folding

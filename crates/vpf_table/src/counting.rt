@@ -6,16 +6,16 @@ ghost use Rattle.vpf_table.specs.Reading.{rows_at};
 ghost use Rattle.vpf_table.specs.Walking.{counted};
 ghost use Rattle.vpf_table.specs.Widths.{width_of};
 
+use crate::placed_header::PlacedHeader;
 use crate::walking::skip_row;
 use vpf_base::limits::MOST_ROWS;
 use vpf_findings::value::laws::fixed_cells;
-use vpf_head::Header;
 use vpf_triplet::{Code, Place};
 
 /// The row past the most.
 const TOO_MANY_ROWS: u64 = MOST_ROWS as u64 + 1;
 
-fn walked_count(header: &Header<'_>, bytes: &[u8], at: usize) -> Result<u32, Place>
+fn walked_count(header: &PlacedHeader<'_>, bytes: &[u8], at: usize) -> Result<u32, Place>
     requires { at ≤ length bytes.now }
     ensures { result ≡ counted 0 (rows_at most_rows header.now.order header.now.columns bytes.now at) }
 {
@@ -33,7 +33,12 @@ fn walked_count(header: &Header<'_>, bytes: &[u8], at: usize) -> Result<u32, Pla
 }
 
 /// How many rows of one width there are: the whole ones, and none that is cut.
-fn fixed_count(header: &Header<'_>, bytes: &[u8], at: usize, width: usize) -> Result<u32, Place>
+fn fixed_count(
+    header: &PlacedHeader<'_>,
+    bytes: &[u8],
+    at: usize,
+    width: usize,
+) -> Result<u32, Place>
     requires inside { at ≤ length bytes.now }
     requires some { 0 < width }
     requires fixed { width_of header.now.columns ≡ Some width }
@@ -57,7 +62,7 @@ fn fixed_count(header: &Header<'_>, bytes: &[u8], at: usize, width: usize) -> Re
 
 /// How many rows there are from `at` on, or the first fault: a cell that isn't spelled, or a row past the most.
 pub fn count_rows(
-    header: &Header<'_>,
+    header: &PlacedHeader<'_>,
     bytes: &[u8],
     at: usize,
     width: Option<usize>,

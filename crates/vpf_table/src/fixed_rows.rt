@@ -10,8 +10,8 @@ ghost use Rattle.vpf_table.specs.Walking.{rows_of};
 ghost use Rattle.vpf_table.specs.Widths.{width_of};
 
 use crate::laws::cells_and_headers;
+use crate::placed_header::PlacedHeader;
 use vpf_findings::value::laws::{fitting_is_written, spelled_fits};
-use vpf_head::Header;
 
 /// Rows that have one width, as they lie in their file.
 #[derive(Clone, Copy)]
@@ -23,7 +23,7 @@ pub struct FixedRows<'a> {
 }
 
 /// No fewer bytes than the rows from `at` on have in canonical spelling, which is the shortest.
-pub fn most_len(header: &Header<'_>, bytes: &[u8], at: usize) -> usize
+pub fn most_len(header: &PlacedHeader<'_>, bytes: &[u8], at: usize) -> usize
     requires inside { at ≤ length bytes.now }
     requires read { IsOk (rows_at most_rows header.now.order header.now.columns bytes.now at) }
     ensures { (order : Order) → length (rows_text order header.now.columns (rows_of
@@ -36,7 +36,7 @@ pub fn most_len(header: &Header<'_>, bytes: &[u8], at: usize) -> usize
 
 /// The rows from `at` on where they have one width, of some bytes: they stand there in their canonical spelling.
 pub fn fixed_rows<'a>(
-    header: &Header<'_>,
+    header: &PlacedHeader<'_>,
     bytes: &'a [u8],
     at: usize,
     width: Option<usize>,

@@ -33,9 +33,9 @@ fn is_span(entry: (u32, u32), at: usize, past: usize) -> bool
 }
 
 impl<'a> TableFile<'a> {
-    ghost use Rattle.std.specs.Prelude.{◌≡◌, IfOk, Some, length};
+    ghost use Rattle.std.specs.Prelude.{◌≡◌, IfOk, IsOk, Ok, Some, length};
     ghost use Rattle.vpf_triplet.specs.Places.{Gives};
-    ghost use Rattle.vpf_table.specs.Opening.{first_other, own_entries, row_spans, unless_other};
+    ghost use Rattle.vpf_table.specs.Opening.{first_other, opened_of, own_entries, row_spans, unless_other};
 
     /// Whether each entry of an index is the offset and the length of its row.
     fn check_entries(&self, index: &IndexView<'_>) -> Result<(), Place>
@@ -71,6 +71,20 @@ impl<'a> TableFile<'a> {
         match self.check_entries(&entries) {
             Ok(()) => Ok(entries),
             Err(place) => Err(place),
+        }
+    }
+
+    /// The entries of an index that is known to be these rows' own.
+    pub(crate) fn known_index<'i>(&self, index: &'i [u8]) -> IndexView<'i>
+        requires { IsOk (opened_of self.now.bytes (Some index.now)) }
+        ensures own { result ≡ row_spans self.now.bytes self.now.grid }
+        ensures exact { opened_of self.now.bytes (Some index.now) ≡ Ok self.now.grid }
+    {
+        // What is true of each table in its file.
+        let _start = self.start;
+        match IndexView::open(index, self.header().order()) {
+            Ok(entries) => entries,
+            Err(_) => unreachable!(),
         }
     }
 }

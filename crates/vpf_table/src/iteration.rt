@@ -1,17 +1,17 @@
 //! The rows of a table, one after another.
 
 use crate::laws::cells_and_headers;
+use crate::placed_header::PlacedHeader;
 use crate::row::RowView;
 use crate::walking::next_row;
 use std::marker::Model;
 use vpf_base::limits::MOST_ROWS;
 use vpf_findings::value::laws::spelled_fits;
-use vpf_head::Header;
 
 /// The rows that are left. Contracts see it as the list of them.
 #[derive(Drop)]
 pub struct Rows<'t, 'a> {
-    header: &'t Header<'a>,
+    header: &'t PlacedHeader<'a>,
     bytes: &'a [u8],
     at: usize,
     width: Option<usize>,
@@ -41,7 +41,7 @@ impl<'t, 'a> Rows<'t, 'a> {
 
     /// The rows from `at` on, which are known to be spelled.
     pub(crate) fn new(
-        header: &'t Header<'a>,
+        header: &'t PlacedHeader<'a>,
         bytes: &'a [u8],
         at: usize,
         width: Option<usize>,

@@ -6,15 +6,16 @@ ghost use Rattle.vpf_table.specs.Reading.{row_at};
 ghost use Rattle.vpf_table.specs.RowWalks.{IsLeft};
 ghost use Rattle.vpf_table.specs.Walking.{row_of};
 
+use crate::placed_header::PlacedHeader;
 use crate::walking::{sure_cell, sure_past};
 use std::marker::Model;
 use vpf_findings::value::Cell;
-use vpf_head::Header;
+use vpf_findings::value::laws::fixed_cells;
 
 /// A row of a table, whose cells stay in the file. Contracts see it as the list of its values.
 #[derive(Drop)]
 pub struct RowView<'t, 'a> {
-    header: &'t Header<'a>,
+    header: &'t PlacedHeader<'a>,
     bytes: &'a [u8],
     at: usize,
 }
@@ -34,7 +35,7 @@ impl<'t, 'a> Model for RowView<'t, 'a> {
 /// The cell in column `c` of the row that begins at `begin`, and the offset past it, where that of an earlier column, or of the same one,
 /// begins at `at`.
 fn cell_behind<'a>(
-    header: &Header<'_>,
+    header: &PlacedHeader<'_>,
     bytes: &'a [u8],
     begin: usize,
     column: usize,
@@ -58,6 +59,20 @@ fn cell_behind<'a>(
     sure_cell(order, header.at(c), bytes, here)
 }
 
+/// A column no later than `c`, and where its cell begins in the row that begins at `begin`: no cell is looked at.
+fn placed_cell(header: &PlacedHeader<'_>, bytes: &[u8], begin: usize, c: usize) -> (usize, usize)
+    requires inside { begin ≤ length bytes.now }
+    requires row { IsOk (row_at header.now.order header.now.columns bytes.now begin) }
+    ensures behind { result.0 ≤ c }
+    ensures left { IsLeft header.now.order header.now.columns bytes.now (row_at header.now.order header.now.columns bytes.now begin) result.0 result.1 }
+    ensures inside { result.1 ≤ length bytes.now }
+{
+    fixed_cells();
+    let _end = bytes.len();
+    let (column, width) = header.placed(c);
+    (column, begin + width)
+}
+
 impl<'t, 'a> RowView<'t, 'a> {
     ghost use Rattle.std.specs.Prelude.{◌≡◌, ◌<◌, ◌≤◌, IsOk, Some, length, slice_get};
     ghost use Rattle.vpf_table.specs.Reading.{row_at};
@@ -65,7 +80,7 @@ impl<'t, 'a> RowView<'t, 'a> {
     ghost use Rattle.vpf_findings.specs.Values.{view};
 
     /// The row that is known to begin at `at`.
-    pub(crate) fn new(header: &'t Header<'a>, bytes: &'a [u8], at: usize) -> RowView<'t, 'a>
+    pub(crate) fn new(header: &'t PlacedHeader<'a>, bytes: &'a [u8], at: usize) -> RowView<'t, 'a>
         requires inside { at ≤ length bytes.now }
         requires read { IsOk (row_at header.now.order header.now.columns bytes.now at) }
         ensures row { result ≡ row_of (row_at header.now.order header.now.columns bytes.now at) }
@@ -74,13 +89,14 @@ impl<'t, 'a> RowView<'t, 'a> {
         RowView { header, bytes, at }
     }
 
-    /// The cell in column `c`, counted from 0. The cells before it are passed by their widths, and looked at only where their
-    /// column has none.
+    /// The cell in column `c`, counted from 0. It is found at once where no column before it varies. Else the cells from the
+    /// first that does are passed by their widths, and looked at only where their column has none.
     pub fn cell(&self, c: usize) -> Cell<'a>
         requires { c < length self.now }
         ensures { slice_get self.now c ≡ Some (view result) }
     {
-        cell_behind(self.header, self.bytes, self.at, 0, self.at, c).0
+        let (column, at) = placed_cell(self.header, self.bytes, self.at, c);
+        cell_behind(self.header, self.bytes, self.at, column, at, c).0
     }
 
     /// The same row, to be asked for one cell after another.
@@ -113,7 +129,7 @@ impl<'t, 'a> RowView<'t, 'a> {
 /// first. Contracts see it as the list of the row's values.
 #[derive(Drop)]
 pub struct RowWalk<'t, 'a> {
-    header: &'t Header<'a>,
+    header: &'t PlacedHeader<'a>,
     bytes: &'a [u8],
     begin: usize,
     column: usize,
@@ -142,8 +158,11 @@ impl<'t, 'a> RowWalk<'t, 'a> {
         ensures value { slice_get self.old c ≡ Some (view result) }
         ensures same { self.new ≡ self.old }
     {
+        let (placed, there) = placed_cell(self.header, self.bytes, self.begin, c);
         let (column, at) = if c < self.column {
-            (0, self.begin)
+            (placed, there)
+        } else if self.column < placed {
+            (placed, there)
         } else {
             (self.column, self.at)
         };
@@ -158,7 +177,7 @@ impl<'t, 'a> RowWalk<'t, 'a> {
 /// The cells of a row that are left. Contracts see it as the list of their values.
 #[derive(Drop)]
 pub struct Cells<'t, 'a> {
-    header: &'t Header<'a>,
+    header: &'t PlacedHeader<'a>,
     bytes: &'a [u8],
     at: usize,
     column: usize,

@@ -3,16 +3,19 @@
 ghost use Rattle.std.specs.Prelude.{◌≡◌, ◌≤◌, IfOk, Ok, length};
 ghost use Rattle.vpf_triplet.specs.Places.{Answers};
 ghost use Rattle.vpf_head.specs.Reading.{header_of};
+ghost use Rattle.vpf_table.specs.Counts.{IsCountOf};
 ghost use Rattle.vpf_table.specs.Reading.{table_of};
 
+use crate::counted::Counted;
 use crate::counting::count_rows;
 use crate::fixed_rows::{FixedRows, fixed_rows, most_len};
 use crate::indexing::has_bytes;
 use crate::iteration::Rows;
 use crate::laws::cells_and_headers;
+use crate::placed_header::PlacedHeader;
 use crate::row::RowView;
 use crate::walking::row_width;
-use std::alloc::Global;
+use std::alloc::{AllocError, Global};
 use std::marker::Model;
 use std::rc::Rc;
 use vpf_head::Header;
@@ -23,7 +26,7 @@ use vpf_varindex::IndexView;
 /// variable-length index or with it. Contracts see it as the bytes of the file and the table that they spell.
 #[derive(Drop)]
 pub struct TableFile<'a> {
-    pub(crate) header: Rc<Header<'a>>,
+    pub(crate) header: Rc<PlacedHeader<'a>>,
     pub(crate) bytes: &'a [u8],
     pub(crate) start: usize,
     rows: u32,
@@ -42,8 +45,22 @@ impl<'a> Model for TableFile<'a> {
     ghost invariant = { IsRead };
 }
 
+/// A header with its offsets, to be shared.
+fn shared<'a>(alloc: Global, header: Header<'a>) -> Result<Rc<PlacedHeader<'a>>, AllocError>
+    ensures { IfOk result (λ shared. shared.value ≡ header.entry) }
+{
+    let placed = PlacedHeader::new(alloc, header)?;
+    match Rc::new(alloc, placed) {
+        Ok(shared) => Ok(shared),
+        Err(_full) => Err(AllocError),
+    }
+}
+
 /// The header that a file begins with, to be shared, and where it ends.
-fn header_in<'a>(alloc: Global, bytes: &'a [u8]) -> Result<(Rc<Header<'a>>, usize), PlaceError>
+fn header_in<'a>(
+    alloc: Global,
+    bytes: &'a [u8],
+) -> Result<(Rc<PlacedHeader<'a>>, usize), PlaceError>
     ensures inside { IfOk result (λ found. found.1 ≤ length bytes.now) }
     ensures exact { Answers (λ found. (found.0.value, found.1)) result (header_of bytes.now) }
 {
@@ -51,7 +68,7 @@ fn header_in<'a>(alloc: Global, bytes: &'a [u8]) -> Result<(Rc<Header<'a>>, usiz
         Ok(found) => found,
         Err(error) => return Err(error),
     };
-    match Rc::new(alloc, header) {
+    match shared(alloc, header) {
         Ok(shared) => Ok((shared, start)),
         Err(_full) => Err(PlaceError::NoMemory),
     }
@@ -59,7 +76,7 @@ fn header_in<'a>(alloc: Global, bytes: &'a [u8]) -> Result<(Rc<Header<'a>>, usiz
 
 /// The table of a file that begins with this header, which ends at `start`.
 fn table_behind<'a>(
-    header: Rc<Header<'a>>,
+    header: Rc<PlacedHeader<'a>>,
     bytes: &'a [u8],
     start: usize,
 ) -> Result<TableFile<'a>, PlaceError>
@@ -80,6 +97,27 @@ fn table_behind<'a>(
         rows,
         width,
     })
+}
+
+/// The table of bytes that were counted, which begin with this header.
+fn table_counted<'a>(
+    header: Rc<PlacedHeader<'a>>,
+    bytes: &'a [u8],
+    start: usize,
+    counted: Counted,
+) -> TableFile<'a>
+    requires begun { header_of bytes.now ≡ Ok (header.value, start) }
+    requires counted { IsCountOf bytes.now counted }
+    ensures bytes { result.bytes ≡ bytes.now }
+    ensures exact { table_of bytes.now ≡ Ok result.grid }
+{
+    TableFile {
+        header,
+        bytes,
+        start,
+        rows: counted.rows,
+        width: counted.width,
+    }
 }
 
 impl<'a> TableFile<'a> {
@@ -109,7 +147,7 @@ impl<'a> TableFile<'a> {
     }
 
     /// This table's header, shared, and where it ends, where the bytes begin with it.
-    fn header_like(&self, bytes: &[u8]) -> Option<(Rc<Header<'a>>, usize)>
+    fn header_like(&self, bytes: &[u8]) -> Option<(Rc<PlacedHeader<'a>>, usize)>
         ensures inside { IfSome result (λ found. found.1 ≤ length bytes.now) }
         ensures read { IfSome result (λ found. header_of bytes.now ≡ Ok (found.0.value, found.1)) }
     {
@@ -140,11 +178,58 @@ impl<'a> TableFile<'a> {
         }
     }
 
+    /// What counting found, to be kept beside the bytes.
+    pub fn counted(&self) -> Counted
+        ensures { IsCountOf self.now.bytes result }
+    {
+        Counted {
+            start: self.start,
+            rows: self.rows,
+            width: self.width,
+        }
+    }
+
+    /// The table of bytes that were counted, as `read` tells it: the header is read once more, and no row is looked at. Fails
+    /// only where there is no memory for the header.
+    pub fn read_counted(
+        alloc: Global,
+        bytes: &'a [u8],
+        counted: Counted,
+    ) -> Result<TableFile<'a>, AllocError>
+        requires { IsCountOf bytes.now counted }
+        ensures bytes { IfOk result (λ file. file.bytes ≡ bytes.now) }
+        ensures exact { IfOk result (λ file. table_of bytes.now ≡ Ok file.grid) }
+    {
+        match header_in(alloc, bytes) {
+            Ok((header, start)) => Ok(table_counted(header, bytes, start, counted)),
+            Err(PlaceError::NoMemory) => Err(AllocError),
+            Err(PlaceError::Place(_)) => unreachable!(),
+        }
+    }
+
+    /// The table of bytes that were counted. Where the file begins with the bytes of this table's header, that header is
+    /// shared, and no memory is taken.
+    pub(crate) fn counted_like(
+        &self,
+        alloc: Global,
+        bytes: &'a [u8],
+        counted: Counted,
+    ) -> Result<TableFile<'a>, AllocError>
+        requires { IsCountOf bytes.now counted }
+        ensures bytes { IfOk result (λ file. file.bytes ≡ bytes.now) }
+        ensures exact { IfOk result (λ file. table_of bytes.now ≡ Ok file.grid) }
+    {
+        match self.header_like(bytes) {
+            Some((header, start)) => Ok(table_counted(header, bytes, start, counted)),
+            None => TableFile::read_counted(alloc, bytes, counted),
+        }
+    }
+
     /// The header.
     pub fn header(&self) -> &Header<'a>
         ensures { result.now ≡ self.now.grid.head }
     {
-        self.header.as_ref()
+        self.header.as_ref().header()
     }
 
     /// The number of rows.

@@ -1,16 +1,17 @@
 //! A table, seen in its file.
 
+use crate::counted::Counted;
 use crate::fixed_rows::FixedRows;
 use crate::indexing::{has_bytes, index_has_bytes};
 use crate::iteration::Rows;
 use crate::laws::{opened_is_spelled, refusals_are_first_faults, spelled_is_opened};
 use crate::row::RowView;
 use crate::table_file::TableFile;
-use std::alloc::Global;
+use std::alloc::{AllocError, Global};
 use std::marker::Model;
 use std::sync::ledger::Ledger;
+use vpf_findings::source::Steps;
 use vpf_head::Header;
-use vpf_source::Steps;
 use vpf_triplet::{Place, PlaceError};
 use vpf_varindex::IndexView;
 
@@ -35,7 +36,7 @@ impl<'a> Model for TableView<'a> {
 }
 
 impl<'a> TableFile<'a> {
-    ghost use Rattle.std.specs.Prelude.{◌≡◌, IfErr, IfOk, Some};
+    ghost use Rattle.std.specs.Prelude.{◌≡◌, IfErr, IfOk, IsOk, Ok, Some};
     ghost use Rattle.vpf_base.specs.Bytes.{IsBytes};
     ghost use Rattle.vpf_triplet.specs.Places.{Gives};
     ghost use Rattle.vpf_table.specs.Faults.{FirstFault};
@@ -75,6 +76,23 @@ impl<'a> TableFile<'a> {
         }
     }
 
+    /// The table with an index that is known to be its own, as `TableView::open` opens it from the same bytes. Takes no walk,
+    /// and never fails.
+    pub fn with_own_index(self, index: &'a [u8]) -> TableView<'a>
+        requires { IsOk (opened_of self.bytes (Some index.now)) }
+        ensures found { IsOpened result self.entry.bytes (Some index.now) }
+        ensures exact { opened_of self.entry.bytes (Some index.now) ≡ Ok result }
+    {
+        opened_is_spelled();
+        self.has_bytes();
+        has_bytes(index);
+        let entries = self.known_index(index);
+        TableView {
+            file: self,
+            index: Some(entries),
+        }
+    }
+
     /// Whether an index is this table's own, exactly as `with_index` tells.
     pub fn check_index(&self, index: &[u8]) -> Result<(), Place>
         ensures found { IfOk result (λ _. IsOpened self.now.grid self.now.bytes (Some index.now)) }
@@ -96,6 +114,7 @@ impl<'a> TableView<'a> {
     ghost use Rattle.std.specs.Prelude.{◌≡◌, ◌≤◌, ◌+◌, ◌-◌, ◌==◌, ◌<◌, ◌^◌, ℕ, All, false, IfOk, IfErr, IfSome, IsSome, IsTrue, Ok, Some, length, slice_get};
     ghost use Rattle.std.specs.Option.{option_copied};
     ghost use Rattle.vpf_triplet.specs.Places.{Answers, ForPlace};
+    ghost use Rattle.vpf_table.specs.Counts.{IsCountOf};
     ghost use Rattle.vpf_table.specs.Faults.{FirstFault};
     ghost use Rattle.vpf_table.specs.Grid.{Grid};
     ghost use Rattle.vpf_triplet.specs.declared.orders.Order.{Order};
@@ -162,6 +181,21 @@ impl<'a> TableView<'a> {
         ensures exact { Answers (λ file. file.grid) result (table_of bytes.now) }
     {
         self.file.read_like(alloc, bytes)
+    }
+
+    /// The table of bytes that were counted, without an index, as `TableFile::read_counted` tells it. Where the file begins
+    /// with the bytes of this table's header, that header is shared, and no memory is taken.
+    pub fn counted_like(
+        &self,
+        alloc: Global,
+        bytes: &'a [u8],
+        counted: Counted,
+    ) -> Result<TableFile<'a>, AllocError>
+        requires { IsCountOf bytes.now counted }
+        ensures bytes { IfOk result (λ file. file.bytes ≡ bytes.now) }
+        ensures exact { IfOk result (λ file. table_of bytes.now ≡ Ok file.grid) }
+    {
+        self.file.counted_like(alloc, bytes, counted)
     }
 
     /// The header.

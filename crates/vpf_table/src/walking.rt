@@ -7,9 +7,10 @@ ghost use Rattle.vpf_table.specs.Reading.{cell_in, row_at};
 ghost use Rattle.vpf_table.specs.Walking.{end_of, past_of};
 ghost use Rattle.vpf_table.specs.Widths.{width_of};
 
+use crate::placed_header::PlacedHeader;
 use vpf_findings::value::laws::fixed_cells;
 use vpf_findings::value::{Cell, cell_at, cell_width};
-use vpf_head::{Column, Header};
+use vpf_head::Column;
 use vpf_triplet::{Order, Place};
 
 fn skip_cell(order: Order, column: &Column<'_>, bytes: &[u8], at: usize) -> Result<usize, Place>
@@ -22,7 +23,7 @@ fn skip_cell(order: Order, column: &Column<'_>, bytes: &[u8], at: usize) -> Resu
 }
 
 /// Where the row that begins at `at` ends, or its first cell that isn't spelled.
-pub fn skip_row(header: &Header<'_>, bytes: &[u8], at: usize) -> Result<usize, Place>
+pub fn skip_row(header: &PlacedHeader<'_>, bytes: &[u8], at: usize) -> Result<usize, Place>
     requires { at ≤ length bytes.now }
     ensures exact { result ≡ end_of (row_at header.now.order header.now.columns bytes.now at) }
     ensures inside { IfOk result (λ past. past ≤ length bytes.now) }
@@ -70,7 +71,7 @@ pub fn sure_past(order: Order, column: &Column<'_>, bytes: &[u8], at: usize) -> 
 }
 
 /// The end of the row that is known to begin at `at`.
-pub fn sure_end(header: &Header<'_>, bytes: &[u8], at: usize) -> usize
+pub fn sure_end(header: &PlacedHeader<'_>, bytes: &[u8], at: usize) -> usize
     requires inside { at ≤ length bytes.now }
     requires read { IsOk (row_at header.now.order header.now.columns bytes.now at) }
     ensures value { result ≡ past_of (row_at header.now.order header.now.columns bytes.now at) }
@@ -86,7 +87,7 @@ pub fn sure_end(header: &Header<'_>, bytes: &[u8], at: usize) -> usize
 }
 
 /// The end of the row that is known to begin at `at`, by the width of the rows where they have one.
-pub fn next_row(header: &Header<'_>, bytes: &[u8], at: usize, width: Option<usize>) -> usize
+pub fn next_row(header: &PlacedHeader<'_>, bytes: &[u8], at: usize, width: Option<usize>) -> usize
     requires inside { at ≤ length bytes.now }
     requires read { IsOk (row_at header.now.order header.now.columns bytes.now at) }
     requires fixed { IfSome width (λ w. width_of header.now.columns ≡ Some w) }
@@ -103,7 +104,7 @@ pub fn next_row(header: &Header<'_>, bytes: &[u8], at: usize, width: Option<usiz
 }
 
 /// How many bytes each row has, where that is the same for all and fits a number.
-pub fn row_width(header: &Header<'_>) -> Option<usize>
+pub fn row_width(header: &PlacedHeader<'_>) -> Option<usize>
     ensures found { IfSome result (λ w. width_of header.now.columns ≡ Some w) }
     ensures known { (w : ℕ) → width_of header.now.columns ≡ Some w → w < 2 ^ 64 → result ≡ Some w }
 {

@@ -1,6 +1,7 @@
 pub mod AgreeingAnswers
 pub mod CyclesAnswers
 pub mod Elsewhere
+pub mod Feedings
 pub mod Lines
 pub mod MadeIndexes
 pub mod PlainRows

@@ -3,14 +3,15 @@
 ghost use Rattle.std.specs.Prelude.{◌≡◌, IfOk, Some, map, string_bytes};
 ghost use Rattle.vpf_source.specs.Files.{Files};
 ghost use Rattle.vpf_replies.specs.Halting.{ComesTo, TellsFault};
-ghost use Rattle.vpf_table_commands.specs.Accept.{accepted_text, table_request, table_bytes_answer, table_answer};
+ghost use Rattle.vpf_replies.specs.Answer.{done};
+ghost use Rattle.vpf_table_commands.specs.Accept.{summary_text, table_request, table_answer};
 
+use crate::feeding::sum_up;
 use crate::words::one_file;
 use std::alloc::{AllocError, Global};
-use vpf_replies::{Halt, Reply, Stop, Verdict, fault, required_file};
+use vpf_feed::Summary;
+use vpf_replies::{Halt, Reply, Stop, Verdict, required_size};
 use vpf_source::{Name, Tree};
-use vpf_table::TableView;
-use vpf_triplet::PlaceError;
 
 /// A file of which it is asked whether it is a table.
 #[derive(Debug, Drop)]
@@ -32,32 +33,22 @@ impl TableRequest {
 }
 
 /// That a file is a table, with its numbers of rows and columns.
-fn accepted_text(alloc: Global, table: &TableView<'_>) -> Result<String, AllocError>
-    ensures { IfOk result (λ text. string_bytes text ≡ accepted_text table.now) }
+fn accepted(alloc: Global, summary: Summary) -> Result<Reply, AllocError>
+    ensures { IfOk result (λ reply. reply ≡ done (summary_text summary)) }
 {
-    let rows = table.len();
-    let columns = table.header().len();
-    format!(in alloc; "accepted rows {rows} columns {columns}\n")
+    let Summary { rows, columns, .. } = summary;
+    let text = format!(in alloc; "accepted rows {rows} columns {columns}\n")?;
+    Ok(Reply::new(alloc, Verdict::Done, text))
 }
 
-/// The reply over the bytes of a file of this name.
-fn accept(alloc: Global, name: &str, bytes: &[u8]) -> Result<Reply, AllocError>
-    ensures { IfOk result (λ reply. reply ≡ table_bytes_answer name.now bytes.now) }
-{
-    match TableView::open(alloc, bytes, None) {
-        Ok(table) => Ok(Reply::new(alloc, Verdict::Done, accepted_text(alloc, &table)?)),
-        Err(PlaceError::Place(place)) => fault(alloc, name, place),
-        Err(PlaceError::NoMemory) => Err(AllocError),
-    }
-}
-
-/// Does `table`: tells that a file is a table, with its numbers of rows and columns.
+/// Does `table`: tells that a file is a table, with its numbers of rows and columns. The file is read in pieces, up to its first fault.
 pub fn table<T: Tree>(alloc: Global, request: &TableRequest, tree: &mut T) -> Result<Reply, Halt>
     ensures told { (files : Files) → T.files tree.old ≡ Some files → ComesTo (λ answer. answer ≡ table_answer files request.now) result }
     ensures fault { TellsFault result (Halt.Stop Stop.TreeFault) (T.faults tree.old) (T.faults tree.new) }
     ensures files { T.files tree.new ≡ T.files tree.old }
 {
     let name = request.file.as_str();
-    let bytes = required_file(alloc, tree, name)?;
-    Ok(accept(alloc, name, &bytes)?)
+    let size = required_size(alloc, tree, name)?;
+    let summary = sum_up(alloc, tree, name, size)?;
+    Ok(accepted(alloc, summary)?)
 }

@@ -3,6 +3,7 @@
 
 mod accepting;
 mod cycling;
+mod feeding;
 mod indexing;
 pub mod laws;
 mod selecting;

@@ -79,15 +79,12 @@ fn opens_with_an_index(rt: HostRuntime) -> Result<(), Fail> {
 #[test]
 fn reads_like_another_table(rt: HostRuntime) -> Result<(), Fail> {
     let alloc = rt.alloc();
+    let cut = Err(Place::in_table(4, Code::HeaderCut));
     for (own, bytes, want) in [
         (FIXED, FIXED, Ok(3)),
         (FIXED, &FIXED[..52], Ok(1)),
         (FIXED, &FIXED[..55], Err(Place::in_table(52, Code::CellCut))),
-        (
-            FIXED,
-            &FIXED[..45],
-            Err(Place::in_table(4, Code::HeaderCut)),
-        ),
+        (FIXED, &FIXED[..45], cut),
         (FIXED, VARYING, Ok(3)),
         (VARYING, BIG, Ok(1)),
     ] {
@@ -128,21 +125,12 @@ fn has_row(table: &TableView<'_>, k: u32, want: &[u8]) -> bool {
 #[test]
 fn finds_rows_and_cells(rt: HostRuntime) -> Result<(), Fail> {
     let alloc = rt.alloc();
+    let [fixed, varying] = [[b"ab".as_slice(), b"cd", b"ef"], [b"abc", b"", b"z"]];
     for (bytes, index, direct, texts) in [
-        (FIXED, None, true, [b"ab".as_slice(), b"cd", b"ef"]),
-        (
-            FIXED,
-            Some(FIXED_INDEX),
-            true,
-            [b"ab".as_slice(), b"cd", b"ef"],
-        ),
-        (VARYING, None, false, [b"abc".as_slice(), b"", b"z"]),
-        (
-            VARYING,
-            Some(VARYING_INDEX),
-            true,
-            [b"abc".as_slice(), b"", b"z"],
-        ),
+        (FIXED, None, true, fixed),
+        (FIXED, Some(FIXED_INDEX), true, fixed),
+        (VARYING, None, false, varying),
+        (VARYING, Some(VARYING_INDEX), true, varying),
     ] {
         let table = TableView::open(alloc, bytes, index)?;
         assert!(rt; !table.is_empty());
@@ -167,12 +155,8 @@ fn tells_limits(rt: HostRuntime) {
         let limit = Limit::of_code(code).map(|limit| (limit.what, limit.found));
         same(&rt, limit, want, code);
     }
-    same(
-        &rt,
-        ColumnAt::new(b"id").as_slice(),
-        b"id".as_slice(),
-        "name",
-    );
+    let column = ColumnAt::new(b"id");
+    same(&rt, column.as_slice(), b"id".as_slice(), "name");
 }
 
 /// Row numbers have 2 bytes up to 32,767 rows, and then 4.

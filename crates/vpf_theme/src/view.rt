@@ -91,6 +91,16 @@ impl<'a> ThemeView<'a> {
         Ok(ThemeView { layout, bytes })
     }
 
+    /// The same view once more: nothing is read, and no memory is taken.
+    pub fn again(&self) -> ThemeView<'a>
+        ensures { result ≡ self.now }
+    {
+        ThemeView {
+            layout: self.layout,
+            bytes: self.bytes,
+        }
+    }
+
     /// The kind of the column.
     pub fn kind(&self) -> Kind
         ensures { result ≡ self.now.kind }

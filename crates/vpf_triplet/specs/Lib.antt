@@ -8,3 +8,5 @@ pub mod Spelling
 pub mod Canonical
 pub mod Faults
 pub mod Deciding
+pub use Rattle.vpf_base.specs.Bytes
+pub use Rattle.vpf_base.specs.Results

@@ -3,9 +3,9 @@ use Rattle.std.proofs.Common.{◌≡◌, ℕ, ◌+◌, ◌*◌, Bool, true, fals
 use Rattle.std.specs.Int.{w32}
 use Rattle.std.proofs.lemmas.Bool.{lt-ltb, ltb-true, ltb-false}
 use Rattle.std.proofs.lemmas.List.{length-drop}
-use Rattle.vpf_base.specs.Results.{◌>>=◌}
-use Rattle.vpf_base.specs.Bytes.{IsBytes}
-use Rattle.vpf_base.proofs.Results.{failed, err_is, no_ok}
+use Rattle.vpf_triplet.specs.Results.{◌>>=◌}
+use Rattle.vpf_triplet.specs.Bytes.{IsBytes}
+use Rattle.vpf_triplet.proofs.Results.{failed, err_is, no_ok}
 use Rattle.vpf_triplet.specs.declared.orders.Order.{Order}
 use Rattle.vpf_triplet.specs.declared.kinds.Kind.{Kind}
 use Rattle.vpf_triplet.specs.declared.kinds.Kind.TheVariants as kinds

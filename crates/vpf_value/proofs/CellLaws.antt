@@ -6,9 +6,9 @@ use Rattle.std.proofs.Math.Facts.{Fits-of_z, sfits_to_z}
 use Rattle.std.proofs.lemmas.Bool.{ltb-false}
 use Rattle.std.proofs.lemmas.Int.{to_z-of_z, of_z-to_z}
 use Rattle.std.proofs.lemmas.List.{take_at, drop_at, length-append, length-drop, length-take-le}
-use Rattle.vpf_base.proofs.ByteLists.{IsBytes-drop}
-use Rattle.vpf_base.specs.Bytes.{IsBytes}
-use Rattle.vpf_base.proofs.Results.{bind_ok, guarded, ok_is}
+use Rattle.vpf_triplet.proofs.ByteLists.{IsBytes-drop}
+use Rattle.vpf_triplet.specs.Bytes.{IsBytes}
+use Rattle.vpf_triplet.proofs.Results.{bind_ok, guarded, ok_is}
 use Rattle.vpf_triplet.specs.declared.orders.Order.{Order}
 use Rattle.vpf_triplet.specs.declared.kinds.Kind.{Kind}
 use Rattle.vpf_triplet.specs.declared.kinds.Kind.TheVariants as kinds

@@ -2,9 +2,9 @@
 use Rattle.std.specs.Prelude.{IfOk, IfErr, IsOkAnd, slice_range}
 use Rattle.std.proofs.Common.{◌≡◌, ℕ, ◌+◌, ◌-◌, ◌≤◌, List, length, take, drop, Result, Ok, Err, refl, sym, ap, ◌∙◌, arith, inl, inr, ◌⊎◌}
 use Rattle.std.proofs.lemmas.List.{take_at, drop_at, take-append-drop}
-use Rattle.vpf_base.proofs.ByteLists.{IsBytes-drop}
-use Rattle.vpf_base.specs.Bytes.{IsBytes}
-use Rattle.vpf_base.proofs.Results.{ok_not_err, one_err, ok_is}
+use Rattle.vpf_triplet.proofs.ByteLists.{IsBytes-drop}
+use Rattle.vpf_triplet.specs.Bytes.{IsBytes}
+use Rattle.vpf_triplet.proofs.Results.{ok_not_err, one_err, ok_is}
 use Rattle.vpf_triplet.specs.declared.orders.Order.{Order}
 use Rattle.vpf_triplet.specs.declared.kinds.Kind.{Kind}
 use Rattle.vpf_triplet.specs.declared.kinds.Count.{Count}

@@ -4,7 +4,7 @@ use Rattle.std.specs.Int.{w32}
 use Rattle.std.proofs.Common.{◌≡◌, ℕ, ◌+◌, ◌-◌, ◌*◌, ◌/◌, ◌≤◌, List, length, drop, take, Result, Ok, Err, refl, sym, ap, subst, ◌∙◌, arith}
 use Rattle.std.proofs.lemmas.Bool.{le-ltb}
 use Rattle.std.proofs.lemmas.List.{drop-drop, length-take-le}
-use Rattle.vpf_base.specs.Results.{◌>>=◌}
+use Rattle.vpf_triplet.specs.Results.{◌>>=◌}
 use Rattle.vpf_triplet.specs.declared.orders.Order.{Order}
 use Rattle.vpf_triplet.specs.declared.places.Place.{Place}
 use Rattle.vpf_triplet.specs.Numbers.{number_of}

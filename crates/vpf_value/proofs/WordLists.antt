@@ -2,8 +2,8 @@
 use Rattle.std.specs.Prelude.{All}
 use Rattle.std.proofs.Common.{◌≡◌, ℕ, zero, suc, ◌+◌, ◌-◌, ◌*◌, ◌<◌, ◌≤◌, List, length, get_or, drop, take, refl, sym, ap, ◌∙◌, arith}
 use Rattle.std.proofs.lemmas.List.{drop-drop, drop-take}
-use Rattle.vpf_base.proofs.ByteLists.{IsBytes-drop}
-use Rattle.vpf_base.specs.Bytes.{IsBytes}
+use Rattle.vpf_triplet.proofs.ByteLists.{IsBytes-drop}
+use Rattle.vpf_triplet.specs.Bytes.{IsBytes}
 use Rattle.vpf_triplet.specs.declared.orders.Order.{Order}
 use Rattle.vpf_triplet.specs.Numbers.{number_of}
 use Rattle.vpf_value.specs.declared.coords.WordWidth.{WordWidth}

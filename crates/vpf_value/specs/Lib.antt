@@ -9,3 +9,7 @@ pub mod Faults
 pub mod Deciding
 pub mod Fitting
 pub mod Turning
+pub use Rattle.vpf_triplet.specs.declared.kinds.Kind
+pub use Rattle.vpf_triplet.specs.declared.kinds.Count
+pub use Rattle.vpf_triplet.specs.Kinds
+pub use Rattle.vpf_triplet.specs.declared.triplets.Triplet

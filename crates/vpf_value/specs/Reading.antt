@@ -1,7 +1,7 @@
 -- Reading a cell from the front of bytes, with the code of the first fault.
 use Rattle.std.specs.Prelude.{◌≡◌, ℕ, ◌+◌, ◌-◌, ◌*◌, ◌≤◌, List, length, take, drop, Result, Ok, Err, nat_lt, if◌then◌else◌}
 use Rattle.std.specs.Int.{w16, w32, w64, cast_signed}
-use Rattle.vpf_base.specs.Results.{◌>>=◌}
+use Rattle.vpf_triplet.specs.Results.{◌>>=◌}
 use Rattle.vpf_triplet.specs.declared.orders.Order.{Order}
 use Rattle.vpf_triplet.specs.declared.kinds.Kind.{Kind}
 use Rattle.vpf_triplet.specs.declared.kinds.Kind.TheVariants as kinds

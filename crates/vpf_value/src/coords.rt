@@ -1,7 +1,7 @@
 //! Lists of coordinates, whose words stay in the file.
 
 ghost use Rattle.std.specs.Prelude.{◌≡◌, ◌+◌, ◌*◌, ◌≤◌, length, drop};
-ghost use Rattle.vpf_base.specs.Bytes.{IsBytes};
+ghost use Rattle.vpf_triplet.specs.Bytes.{IsBytes};
 ghost use Rattle.vpf_triplet.specs.Numbers.{number_of};
 ghost use Rattle.vpf_value.specs.Words.{word_bytes, tuple_len, number_width};
 

@@ -1,7 +1,7 @@
 //! Laws about the definitions of cells alone.
 
 ghost use Rattle.std.specs.Prelude.{◌≡◌, ◌≢◌, ◌≤◌, ◌<◌, ◌↔◌, ℕ, List, ◌++◌, length, take, Some, Ok, Err, IsTrue};
-ghost use Rattle.vpf_base.specs.Bytes.{IsBytes};
+ghost use Rattle.vpf_triplet.specs.Bytes.{IsBytes};
 ghost use Rattle.vpf_triplet.specs.declared.orders.Order.{Order};
 ghost use Rattle.vpf_triplet.specs.declared.kinds.Kind.{Kind};
 ghost use Rattle.vpf_triplet.specs.declared.kinds.Count.{Count};

@@ -15,5 +15,6 @@ pub use comparing::same;
 pub use coords::{Coords, WordWidth};
 pub use fitting::fits;
 pub use turning::{WordSize, word_size};
+pub use vpf_triplet as triplet;
 pub use widths::cell_width;
 pub use writing::{put_cell, spelled_len};

@@ -14,7 +14,7 @@ use Rattle.vpf_findings.specs.declared.errors.FindError.TheVariants as found
 use Rattle.vpf_findings.specs.Findings.{Disagreement, disagreement_of}
 use Rattle.vpf_findings.specs.Firsts.{Tells}
 use Rattle.vpf_findings.specs.FirstLaws.{or-none_both}
-use Rattle.vpf_table.specs.Grid.{Row, Grid}
+use Rattle.vpf_prims.specs.Grid.{Row, Grid}
 use Rattle.vpf_prims.specs.declared.rows.Edge.{Edge}
 use Rattle.vpf_prims.specs.Roles.{edge_roles}
 use Rattle.vpf_prims.specs.Columns.{columns_finding}

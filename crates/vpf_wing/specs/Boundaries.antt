@@ -11,7 +11,7 @@ use Rattle.vpf_darts.specs.MapLists.{is_among, dart_place}
 use Rattle.vpf_findings.specs.declared.finding.TableName.TheVariants as tables
 use Rattle.vpf_findings.specs.Findings.{Disagreement}
 use Rattle.vpf_findings.specs.Firsts.{◌or◌}
-use Rattle.vpf_table.specs.Grid.{Row, Grid}
+use Rattle.vpf_prims.specs.Grid.{Row, Grid}
 use Rattle.vpf_prims.specs.declared.edges.Ranges.{Ranges}
 use Rattle.vpf_prims.specs.declared.placing.TableAt.{TableAt}
 use Rattle.vpf_prims.specs.declared.rows.Edge.{Edge}

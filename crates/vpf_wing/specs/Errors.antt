@@ -1,7 +1,7 @@
 -- What an error of an edge table tells.
 use Rattle.std.specs.Prelude.{◌≡◌, true, false, Some}
 use Rattle.vpf_head.specs.Head.{varies_in}
-use Rattle.vpf_table.specs.Grid.{Grid}
+use Rattle.vpf_prims.specs.Grid.{Grid}
 use Rattle.vpf_findings.specs.Findings.{disagreement_of}
 use Rattle.vpf_findings.specs.declared.errors.FindError.{FindError}
 use Rattle.vpf_findings.specs.declared.errors.FindError.TheVariants as found

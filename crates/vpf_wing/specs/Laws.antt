@@ -4,7 +4,7 @@ use Rattle.vpf_value.specs.Values.{Value}
 use Rattle.vpf_darts.specs.declared.darts.Dart.{Dart}
 use Rattle.vpf_darts.specs.declared.darts.TileDart.{TileDart}
 use Rattle.vpf_darts.specs.Maps.{IsMap}
-use Rattle.vpf_table.specs.Grid.{Grid}
+use Rattle.vpf_prims.specs.Grid.{Grid}
 use Rattle.vpf_prims.specs.declared.rows.Edge.{Edge}
 use Rattle.vpf_prims.specs.Edges.{EdgesAt, HaveWings}
 use Rattle.vpf_prims.specs.Primitives.{Library, Primitives, edge_count, untiled}

@@ -11,8 +11,8 @@ use crate::following::nexts;
 use std::alloc::Global;
 use vpf_darts::{Listing, cycles_of};
 use vpf_findings::{FindError, TableName};
+use vpf_prims::table::TableView;
 use vpf_prims::{EdgeColumns, Ranges, TableAt, edges_of};
-use vpf_table::TableView;
 
 /// The edge table of an untiled coverage, where it alone is read.
 const UNTILED_EDGES: TableAt = TableAt {

@@ -1,5 +1,5 @@
 //! The wings of edges: the next dart round a face, what disagrees in them first, and the boundary cycles of an untiled edge table
-//! (MIL-STD-2407, 5.2.2, winged-edge topology).
+//! (MIL-STD-2407, 5.2.2, winged-edge topology); and the cycles past edges that are left out (`kept`).
 #![tactic(auto)]
 
 mod boundaries;

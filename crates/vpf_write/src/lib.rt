@@ -1,5 +1,5 @@
-//! Tables of a Vector Product Format library as they are written: from lists of cells, and from their views in either byte
-//! order.
+//! Tables of a Vector Product Format library as they are written: from lists of cells, from their views in either byte order,
+//! from rows made one by one (`made`), and from another table with some cells changed (`revise`).
 #![tactic(auto)]
 
 mod cell_list;

@@ -7,6 +7,9 @@ use std::test::Fail;
 use vpf_head::{Column, Key};
 use vpf_triplet::{Code, Count, Kind, Order};
 
+/// A description, and no narrative.
+const PLAIN: (&[u8], Option<&[u8]>) = (b"T", None);
+
 /// Ends the trial unless a table of this description and narrative, with these columns, is refused at an offset in the file of its canonical text.
 fn check(
     rt: &impl Abort,
@@ -65,8 +68,7 @@ fn refuses_tables(rt: HostRuntime) -> Result<(), Fail> {
     for (description, narrative, at, code) in tables {
         check(&rt, rt.alloc(), (description, narrative), &[ID], (at, code))?;
     }
-    let none: (&[u8], Option<&[u8]>) = (b"T", None);
-    check(&rt, rt.alloc(), none, &[], (10, Code::NoData))?;
+    check(&rt, rt.alloc(), PLAIN, &[], (10, Code::NoData))?;
     // Refused behind a part that is read as another.
     let dash: (&[u8], Option<&[u8]>) = (b"T", Some(b"-"));
     check(&rt, rt.alloc(), dash, &[named(b"")], (10, Code::NameEmpty))?;
@@ -81,7 +83,7 @@ fn check_column(
     at: usize,
     code: Code,
 ) -> Result<(), AllocError> {
-    check(rt, alloc, (b"T", None), &[column], (at, code))
+    check(rt, alloc, PLAIN, &[column], (at, code))
 }
 
 #[test]
@@ -99,8 +101,7 @@ fn refuses_names(rt: HostRuntime) -> Result<(), Fail> {
         (b"ID".as_slice(), Code::NameRepeat),
         (b"\t", Code::ItemByte),
     ] {
-        let table: (&[u8], Option<&[u8]>) = (b"T", None);
-        check(&rt, rt.alloc(), table, &[ID, named(name)], (28, code))?;
+        check(&rt, rt.alloc(), PLAIN, &[ID, named(name)], (28, code))?;
     }
     Ok(())
 }
@@ -168,13 +169,7 @@ fn refuses_the_first_of_two(rt: HostRuntime) -> Result<(), Fail> {
         values: Some(b"-"),
         ..ID
     };
-    let table: (&[u8], Option<&[u8]>) = (b"T", None);
-    check(
-        &rt,
-        rt.alloc(),
-        table,
-        &[ID, second],
-        (39, Code::ItemSeparator),
-    )?;
+    let want = (39, Code::ItemSeparator);
+    check(&rt, rt.alloc(), PLAIN, &[ID, second], want)?;
     Ok(())
 }

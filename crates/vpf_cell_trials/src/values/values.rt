@@ -1,37 +1,8 @@
-//! Widths, equal values, and what fits.
+//! Equal values, and what fits.
 
 use super::{DATE, L, LARGEST_PART, M, ONE, STAR};
 use vpf_triplet::{Count, Kind, Order, Triplet};
-use vpf_value::{Cell, WordSize, cell_at, cell_width, fits, same, word_size};
-
-#[test]
-fn knows_widths(rt: HostRuntime) {
-    let cases: [(Kind, Count, Option<usize>); 20] = [
-        (Kind::T, Count::Fixed(7), Some(7)),
-        (Kind::L, Count::Fixed(0), Some(0)),
-        (Kind::M, Count::Fixed(u32::MAX), Some(4_294_967_295)),
-        (Kind::N, STAR, None),
-        (Kind::T, STAR, None),
-        (Kind::F, ONE, Some(4)),
-        (Kind::R, ONE, Some(8)),
-        (Kind::S, ONE, Some(2)),
-        (Kind::I, ONE, Some(4)),
-        (Kind::D, ONE, Some(20)),
-        (Kind::X, ONE, Some(0)),
-        (Kind::K, ONE, None),
-        (Kind::C, Count::Fixed(3), Some(24)),
-        (Kind::B, Count::Fixed(3), Some(48)),
-        (Kind::Z, Count::Fixed(3), Some(36)),
-        (Kind::Y, Count::Fixed(u32::MAX), Some(103_079_215_080)),
-        (Kind::C, STAR, None),
-        (Kind::B, STAR, None),
-        (Kind::Z, STAR, None),
-        (Kind::Y, STAR, None),
-    ];
-    for (kind, count, width) in cases {
-        assert_eq!(rt; cell_width(kind, count), width, "{kind},{count}");
-    }
-}
+use vpf_value::{Cell, cell_at, fits, same};
 
 fn coords_of(order: Order, kind: Kind, count: u32, bytes: &[u8]) -> Cell<'_> {
     match cell_at(order, kind, Count::Fixed(count), bytes, 0) {
@@ -147,24 +118,5 @@ fn knows_which_ids_and_coordinates_fit(rt: HostRuntime) {
     ];
     for (i, (kind, count, cell, want)) in cases.iter().enumerate() {
         assert_eq!(rt; fits(*kind, *count, cell), *want, "case {i}");
-    }
-}
-
-#[test]
-fn tells_the_words_of_kinds(rt: HostRuntime) {
-    for (kind, size) in [
-        (Kind::T, WordSize::One),
-        (Kind::D, WordSize::One),
-        (Kind::X, WordSize::One),
-        (Kind::S, WordSize::Two),
-        (Kind::I, WordSize::Four),
-        (Kind::F, WordSize::Four),
-        (Kind::C, WordSize::Four),
-        (Kind::Z, WordSize::Four),
-        (Kind::R, WordSize::Eight),
-        (Kind::B, WordSize::Eight),
-        (Kind::Y, WordSize::Eight),
-    ] {
-        assert_eq!(rt; word_size(kind), size);
     }
 }

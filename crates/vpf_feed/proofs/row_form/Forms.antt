@@ -14,7 +14,7 @@ use Rattle.vpf_triplet.specs.Reading.{triplet_at}
 use Rattle.vpf_head.specs.Head.{Col, is_data, holds_data}
 use Rattle.vpf_head.specs.Soundness.{IsCounted, IsInBounds}
 use Rattle.vpf_feed.specs.declared.row_form.form.Field.{Field}
-use Rattle.vpf_feed.specs.RowForm.Form.{field_of, fields_of, extent, IsCutEmpty}
+use Rattle.vpf_feed.specs.RowForm.Form.{form_field, form_fields, extent, IsCutEmpty}
 use Rattle.vpf_feed.specs.RowForm.Told.{told, told_many}
 use Rattle.vpf_feed.specs.RowForm.Walk.{sized_end}
 use Rattle.vpf_feed.proofs.row_form.Sizes.{told_is}
@@ -53,18 +53,18 @@ all_cons P x xs p h zero d l = p
 all_cons P x xs p h (suc k) d l = h k d (omega arith)
 
 -- the fields of columns whose counts are in bounds have bytes
-pub all_cut : (cs : List Col) → All IsCounted cs → All IsCutEmpty (fields_of cs)
+pub all_cut : (cs : List Col) → All IsCounted cs → All IsCutEmpty (form_fields cs)
 all_cut [] h = λ k d l. absurd (omega arith)
 all_cut (c ∷ cs) h = by (all_cut cs (λ k d l. h (suc k) d (omega arith))) (is_data c.kind) refl
   where
-    by : All IsCutEmpty (fields_of cs) → (b : Bool) → is_data c.kind ≡ b → All IsCutEmpty (cond b (field_of c ∷ fields_of cs) (fields_of cs))
-    by others true q = all_cons IsCutEmpty (field_of c) (fields_of cs) (λ o. cut_empty o c.kind c.count q (h 0 c (omega arith)).bounds) others
+    by : All IsCutEmpty (form_fields cs) → (b : Bool) → is_data c.kind ≡ b → All IsCutEmpty (cond b (form_field c ∷ form_fields cs) (form_fields cs))
+    by others true q = all_cons IsCutEmpty (form_field c) (form_fields cs) (λ o. cut_empty o c.kind c.count q (h 0 c (omega arith)).bounds) others
     by others false q = others
 
-pub some_field : (cs : List Col) → list_any holds_data cs ≡ true → length (fields_of cs) ≡ 0 → ⊥
+pub some_field : (cs : List Col) → list_any holds_data cs ≡ true → length (form_fields cs) ≡ 0 → ⊥
 some_field [] h = λ z. absurd cc
 some_field (c ∷ cs) h = by (λ q. some_field cs q) (is_data c.kind) h
   where
-    by : (list_any holds_data cs ≡ true → length (fields_of cs) ≡ 0 → ⊥) → (b : Bool) → (b || list_any holds_data cs) ≡ true → length (cond b (field_of c ∷ fields_of cs) (fields_of cs)) ≡ 0 → ⊥
+    by : (list_any holds_data cs ≡ true → length (form_fields cs) ≡ 0 → ⊥) → (b : Bool) → (b || list_any holds_data cs) ≡ true → length (cond b (form_field c ∷ form_fields cs) (form_fields cs)) ≡ 0 → ⊥
     by others true q = λ z. omega arith
     by others false q = others q

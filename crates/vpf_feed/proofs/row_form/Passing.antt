@@ -8,7 +8,7 @@ use Rattle.vpf_table.proofs.FixedWidth.{added}
 use Rattle.vpf_feed.specs.declared.row_form.form.Field.{Field}
 use Rattle.vpf_feed.specs.RowForm.Form.{cell_size}
 use Rattle.vpf_feed.specs.RowForm.Told.{told}
-use Rattle.vpf_feed.specs.RowForm.Walk.{row_left, rows_left, sized_end}
+use Rattle.vpf_feed.specs.RowForm.Walk.{row_left, rows_to_come, sized_end}
 use Rattle.vpf_feed.specs.RowForm.Widths.{told_row}
 use Rattle.vpf_feed.proofs.row_form.Sizes.{told_is}
 
@@ -44,11 +44,11 @@ row_whole o (f ∷ fs) at w rest e h =
     let past : at + a.0 + a.1 ≡ at + w = omega (arith, a.4) in
     row_by o f fs at a.0 rest first ∙ others ∙ ap (λ (n : ℕ). Ok (n, drop a.1 (drop a.0 rest))) past ∙ ap (λ (x : List ℕ). Ok (at + w, x)) (drop-drop a.1 a.0 rest ∙ ap (λ (n : ℕ). drop n rest) a.4)
 
-one_row : (m : ℕ) (o : Order) (fs : List Field) (done at w : ℕ) (rest : List ℕ) → 0 < length rest → row_left o fs at rest ≡ Ok (at + w, drop w rest) → rows_left (suc m) o fs done at rest ≡ rows_left m o fs (done + 1) (at + w) (drop w rest)
-unfolding rows_left
+one_row : (m : ℕ) (o : Order) (fs : List Field) (done at w : ℕ) (rest : List ℕ) → 0 < length rest → row_left o fs at rest ≡ Ok (at + w, drop w rest) → rows_to_come (suc m) o fs done at rest ≡ rows_to_come m o fs (done + 1) (at + w) (drop w rest)
+unfolding rows_to_come
 one_row m o fs done at w rest some e = rw (lt-leb (length rest) 0 some, e) refl
 
-some_rows : (k m : ℕ) (o : Order) (fs : List Field) (done at w : ℕ) (rest : List ℕ) → told_row o fs ≡ Some w → 0 < w → k ≤ m → k * w ≤ length rest → rows_left m o fs done at rest ≡ rows_left (m - k) o fs (done + k) (at + k * w) (drop (k * w) rest)
+some_rows : (k m : ℕ) (o : Order) (fs : List Field) (done at w : ℕ) (rest : List ℕ) → told_row o fs ≡ Some w → 0 < w → k ≤ m → k * w ≤ length rest → rows_to_come m o fs done at rest ≡ rows_to_come (m - k) o fs (done + k) (at + k * w) (drop (k * w) rest)
 some_rows zero m o fs done at w rest e some few inside =
     let a : m - 0 ≡ m = omega arith in
     let b : done + 0 ≡ done = omega arith in
@@ -67,7 +67,7 @@ some_rows (suc k) (suc m) o fs done at w rest e some few inside =
     one_row m o fs done at w rest (omega (arith, more)) first ∙ others ∙ rw (a, ← b, ← c, ← d) refl
 
 -- so many rows are passed; a width is needed where there is one
-pub rows_passed : (k m : ℕ) (o : Order) (fs : List Field) (done at w : ℕ) (rest : List ℕ) → (0 < k → 0 < w) → (0 < w → told_row o fs ≡ Some w) → k ≤ m → k * w ≤ length rest → rows_left m o fs done at rest ≡ rows_left (m - k) o fs (done + k) (at + k * w) (drop (k * w) rest)
+pub rows_passed : (k m : ℕ) (o : Order) (fs : List Field) (done at w : ℕ) (rest : List ℕ) → (0 < k → 0 < w) → (0 < w → told_row o fs ≡ Some w) → k ≤ m → k * w ≤ length rest → rows_to_come m o fs done at rest ≡ rows_to_come (m - k) o fs (done + k) (at + k * w) (drop (k * w) rest)
 rows_passed zero m o fs done at w rest wide told few inside =
     let a : m - 0 ≡ m = omega arith in
     let b : done + 0 ≡ done = omega arith in

@@ -33,7 +33,7 @@ use Rattle.vpf_feed.specs.declared.row_form.form.Field.{Field}
 use Rattle.vpf_feed.specs.declared.row_form.looking.Look.TheVariants as looks
 use Rattle.vpf_feed.specs.RowForm.Form.{extent, cell_size, IsCutEmpty}
 use Rattle.vpf_feed.specs.RowForm.Told.{told_many, told}
-use Rattle.vpf_feed.specs.RowForm.Walk.{sized_end, Tells}
+use Rattle.vpf_feed.specs.RowForm.Walk.{sized_end, TellsCell}
 
 -- ---- sizes that are told
 
@@ -160,7 +160,7 @@ fails_by : (r : CellAnswer) (code : Code) → extent r ≡ Err code → r ≡ Er
 fails_by (Ok x) code e = absurd cc
 fails_by (Err q) code e = let k : q ≡ code = cc in ap (λ (c : Code). Err c) k
 
-pub whole_tells : CellAndHeaderLaws → (o : Order) (f : Field) (bytes : List ℕ) (v : Value) (n : ℕ) → IsBytes bytes → IsCutEmpty f → cell_from o f.kind f.count bytes ≡ Ok (v, n) → Tells o f bytes (looks.Whole n)
+pub whole_tells : CellAndHeaderLaws → (o : Order) (f : Field) (bytes : List ℕ) (v : Value) (n : ℕ) → IsBytes bytes → IsCutEmpty f → cell_from o f.kind f.count bytes ≡ Ok (v, n) → TellsCell o f bytes (looks.Whole n)
 whole_tells laws o f bytes v zero fits cut e =
     let s = laws.cell_is_spelled o f.kind f.count bytes v 0 fits e in
     absurd (let z = ap extent (laws.cell_is_read o f.kind f.count v [] [] s.1) in let k = cut o in cc)
@@ -168,10 +168,10 @@ whole_tells laws o f bytes v (suc n) fits cut e =
     let s = laws.cell_is_spelled o f.kind f.count bytes v (suc n) fits e in
     (omega arith, s.0, λ more. ap extent (cell_goes_on laws o f.kind f.count bytes more v (suc n) fits e))
 
-pub refused_tells : CellAndHeaderLaws → (o : Order) (f : Field) (bytes : List ℕ) (code : Code) → IsBytes bytes → code ≢ codes.CellCut → cell_size o f bytes ≡ Err code → Tells o f bytes (looks.Refused code)
+pub refused_tells : CellAndHeaderLaws → (o : Order) (f : Field) (bytes : List ℕ) (code : Code) → IsBytes bytes → code ≢ codes.CellCut → cell_size o f bytes ≡ Err code → TellsCell o f bytes (looks.Refused code)
 refused_tells laws o f bytes code fits ne e = λ more. ap extent (cell_stays_refused laws o f.kind f.count bytes more code fits (fails_by (cell_from o f.kind f.count bytes) code e) ne)
 
-pub skip_tells : (o : Order) (f : Field) (bytes : List ℕ) (n : ℕ) → told o f.kind f.count bytes ≡ Some n → n < 2 ^ 40 → cell_size o f bytes ≡ Err codes.CellCut → Tells o f bytes (looks.Skip n)
+pub skip_tells : (o : Order) (f : Field) (bytes : List ℕ) (n : ℕ) → told o f.kind f.count bytes ≡ Some n → n < 2 ^ 40 → cell_size o f bytes ≡ Err codes.CellCut → TellsCell o f bytes (looks.Skip n)
 skip_tells o f bytes n t small e =
     let here : extent (cell_from o f.kind f.count bytes) ≡ sized_end n bytes = ap (λ (b : List ℕ). extent (cell_from o f.kind f.count b)) (sym (append-nil bytes)) ∙ told_is o f.kind f.count bytes [] n t ∙ ap (sized_end n) (append-nil bytes) in
     (by (ltb (length bytes) n) refl (sym here ∙ e), small, λ more. told_is o f.kind f.count bytes more n t)
@@ -180,5 +180,5 @@ skip_tells o f bytes n t small e =
     by true q f = ltb-true _ _ q
     by false q f = absurd cc
 
-pub keep_tells : CellAndHeaderLaws → (o : Order) (f : Field) (bytes : List ℕ) → IsBytes bytes → told o f.kind f.count bytes ≡ None → cell_size o f bytes ≡ Err codes.CellCut → Tells o f bytes looks.Keep
+pub keep_tells : CellAndHeaderLaws → (o : Order) (f : Field) (bytes : List ℕ) → IsBytes bytes → told o f.kind f.count bytes ≡ None → cell_size o f bytes ≡ Err codes.CellCut → TellsCell o f bytes looks.Keep
 keep_tells laws o f bytes fits t e = (few o f.kind f.count bytes (laws.cell_fault o f.kind f.count bytes codes.CellCut fits (fails_by (cell_from o f.kind f.count bytes) codes.CellCut e)) t, e)

@@ -8,13 +8,13 @@ use Rattle.vpf_head.specs.Head.{Col, is_data}
 use Rattle.vpf_feed.specs.declared.row_form.form.Field.{Field}
 
 -- what the cells of a column hold
-abbrev pub field_of : Col → Field
-field_of c = record { kind = c.kind; count = c.count }
+abbrev pub form_field : Col → Field
+form_field c = record { kind = c.kind; count = c.count }
 
 -- The cells of a row that hold something. The others have no bytes, and nothing refuses them.
-abbrev pub fields_of : List Col → List Field
-fields_of [] = []
-fields_of (c ∷ cs) = if is_data c.kind then field_of c ∷ fields_of cs else fields_of cs
+abbrev pub form_fields : List Col → List Field
+form_fields [] = []
+form_fields (c ∷ cs) = if is_data c.kind then form_field c ∷ form_fields cs else form_fields cs
 
 -- how many bytes a cell takes, without its value
 abbrev pub extent : CellAnswer → Result ℕ Code

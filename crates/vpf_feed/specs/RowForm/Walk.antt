@@ -23,9 +23,9 @@ row_left o [] at rest = Ok (at, rest)
 row_left o (f ∷ fs) at rest = passed at rest (cell_size o f rest) >>= λ r. row_left o fs r.0 r.1
 
 -- how many rows there are in all, where so many are done and so many more may be begun: the next at `at`, where a byte is left
-unfoldable pub rows_left : ℕ → Order → List Field → ℕ → ℕ → List ℕ → Result ℕ Place
-rows_left zero o fs done at rest = if nat_le (length rest) 0 then Ok done else Err (fault at (codes.LimitRows (most_rows + 1)))
-rows_left (suc n) o fs done at rest = if nat_le (length rest) 0 then Ok done else row_left o fs at rest >>= λ r. rows_left n o fs (done + 1) r.0 r.1
+unfoldable pub rows_to_come : ℕ → Order → List Field → ℕ → ℕ → List ℕ → Result ℕ Place
+rows_to_come zero o fs done at rest = if nat_le (length rest) 0 then Ok done else Err (fault at (codes.LimitRows (most_rows + 1)))
+rows_to_come (suc n) o fs done at rest = if nat_le (length rest) 0 then Ok done else row_left o fs at rest >>= λ r. rows_to_come n o fs (done + 1) r.0 r.1
 
 -- where a row ends in these bytes, and what follows it there
 abbrev pub with_rest : List ℕ → Result ℕ Place → Result (ℕ × List ℕ) Place
@@ -37,12 +37,12 @@ abbrev pub sized_end : ℕ → List ℕ → Result ℕ Code
 sized_end n bytes = if nat_lt (length bytes) n then Err codes.CellCut else Ok n
 
 -- what the bytes of a cell so far tell of it, whatever follows
-abbrev pub Tells : Order → Field → List ℕ → Look → Type 0
+abbrev pub TellsCell : Order → Field → List ℕ → Look → Type 0
 -- it is whole
-Tells o f bytes (looks.Whole n) = (0 < n) × (n ≤ length bytes) × ((more : List ℕ) → cell_size o f (bytes ++ more) ≡ Ok n)
+TellsCell o f bytes (looks.Whole n) = (0 < n) × (n ≤ length bytes) × ((more : List ℕ) → cell_size o f (bytes ++ more) ≡ Ok n)
 -- it has more bytes than that, whatever they say
-Tells o f bytes (looks.Skip n) = (length bytes < n) × (n < 2 ^ 40) × ((more : List ℕ) → cell_size o f (bytes ++ more) ≡ sized_end n (bytes ++ more))
+TellsCell o f bytes (looks.Skip n) = (length bytes < n) × (n < 2 ^ 40) × ((more : List ℕ) → cell_size o f (bytes ++ more) ≡ sized_end n (bytes ++ more))
 -- the next bytes have to be looked at, together with these few
-Tells o f bytes looks.Keep = (length bytes < 13) × (cell_size o f bytes ≡ Err codes.CellCut)
+TellsCell o f bytes looks.Keep = (length bytes < 13) × (cell_size o f bytes ≡ Err codes.CellCut)
 -- no bytes that follow make it one
-Tells o f bytes (looks.Refused code) = (more : List ℕ) → cell_size o f (bytes ++ more) ≡ Err code
+TellsCell o f bytes (looks.Refused code) = (more : List ℕ) → cell_size o f (bytes ++ more) ≡ Err code

@@ -1,10 +1,11 @@
 //! The form of rows.
 
-ghost use Rattle.std.specs.Prelude.{◌≡◌, ◌∷◌, ◌++◌, List, IfOk, OnOk};
+ghost use Rattle.std.specs.Prelude.{◌≡◌, ◌<◌, ◌^◌, ◌∷◌, ◌++◌, ℕ, List, IfOk, OnOk, Some};
 ghost use Rattle.vpf_head.specs.Head.{Col};
 ghost use Rattle.vpf_head.specs.Views.{col};
-ghost use Rattle.vpf_feed.specs.RowForm.Form.{fields_of};
+ghost use Rattle.vpf_feed.specs.RowForm.Form.{form_fields};
 ghost use Rattle.vpf_feed.specs.RowForm.Rows.{IsForm};
+ghost use Rattle.vpf_feed.specs.RowForm.Widths.{told_row};
 
 use crate::row_form::widths::row_width;
 use std::alloc::{AllocError, Global};
@@ -29,7 +30,7 @@ pub struct RowForm {
 
 /// Appends the cells of a column, where they hold something.
 fn push_field(fields: &mut Vec<Field>, column: &Column<'_>) -> Result<(), AllocError>
-    ensures { OnOk result ((columns : List Col) → fields.new.items ++ fields_of columns ≡ fields.old.items ++ fields_of (col column.now ∷ columns)) }
+    ensures { OnOk result ((columns : List Col) → fields.new.items ++ form_fields columns ≡ fields.old.items ++ form_fields (col column.now ∷ columns)) }
 {
     let Column { kind, count, .. } = *column;
     match kind {
@@ -40,7 +41,7 @@ fn push_field(fields: &mut Vec<Field>, column: &Column<'_>) -> Result<(), AllocE
 }
 
 fn fields_in(alloc: Global, header: &Header<'_>) -> Result<Vec<Field>, AllocError>
-    ensures { IfOk result (λ fields. fields.items ≡ fields_of header.now.columns) }
+    ensures { IfOk result (λ fields. fields.items ≡ form_fields header.now.columns) }
 {
     let mut fields = Vec::new(alloc);
     for i in 0..header.len() {
@@ -53,7 +54,9 @@ impl RowForm {
     /// The form of the rows of a header.
     pub fn of(alloc: Global, header: &Header<'_>) -> Result<RowForm, AllocError>
         ensures order { IfOk result (λ form. form.order ≡ header.now.order) }
-        ensures fields { IfOk result (λ form. form.fields.items ≡ fields_of header.now.columns) }
+        ensures fields { IfOk result (λ form. form.fields.items ≡ form_fields header.now.columns) }
+        // Rows of one width are known to be.
+        ensures width { IfOk result (λ form. (w : ℕ) → told_row header.now.order (form_fields header.now.columns) ≡ Some w → w < 2 ^ 64 → form.width ≡ w) }
         ensures sound { IfOk result IsForm }
     {
         let _columns = header.len();

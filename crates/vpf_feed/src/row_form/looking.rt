@@ -5,7 +5,7 @@ ghost use Rattle.vpf_base.specs.Bytes.{IsBytes};
 ghost use Rattle.vpf_triplet.specs.declared.places.Code.TheVariants as codes;
 ghost use Rattle.vpf_feed.specs.RowForm.Form.{cell_size, IsCutEmpty};
 ghost use Rattle.vpf_feed.specs.RowForm.Told.{value_size, told_many, told};
-ghost use Rattle.vpf_feed.specs.RowForm.Walk.{Tells};
+ghost use Rattle.vpf_feed.specs.RowForm.Walk.{TellsCell};
 
 use crate::row_form::form::Field;
 use crate::staying::laws::cells_and_headers;
@@ -74,10 +74,10 @@ pub fn told(order: Order, field: Field, bytes: &[u8]) -> Option<u64>
 /// What bytes tell that are no cell.
 fn look_again(order: Order, field: Field, bytes: &[u8], code: Code) -> Look
     requires { cell_size order field bytes.now ≡ Err code }
-    ensures { Tells order field bytes.now result }
+    ensures { TellsCell order field bytes.now result }
 {
     cells_and_headers();
-    has_bytes(bytes);
+    bytes_are_bytes(bytes);
     match code {
         Code::CellCut => match told(order, field, bytes) {
             Some(len) => Look::Skip(len),
@@ -88,17 +88,17 @@ fn look_again(order: Order, field: Field, bytes: &[u8], code: Code) -> Look
 }
 
 /// What a slice of bytes holds are bytes.
-pub fn has_bytes(bytes: &[u8])
+pub fn bytes_are_bytes(bytes: &[u8])
     ensures { IsBytes bytes.now }
 {}
 
 /// What these first bytes of a cell tell of it.
 pub fn look_at(order: Order, field: Field, bytes: &[u8]) -> Look
     requires { IsCutEmpty field }
-    ensures { Tells order field bytes.now result }
+    ensures { TellsCell order field bytes.now result }
 {
     cells_and_headers();
-    has_bytes(bytes);
+    bytes_are_bytes(bytes);
     match cell_at(order, field.kind, field.count, bytes, 0) {
         Ok((_, past)) => Look::Whole(past),
         Err(place) => look_again(order, field, bytes, place.code),

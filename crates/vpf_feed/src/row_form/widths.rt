@@ -1,6 +1,6 @@
 //! Rows of one width.
 
-ghost use Rattle.std.specs.Prelude.{◌≡◌, ◌<◌, IfSome, Some};
+ghost use Rattle.std.specs.Prelude.{◌≡◌, ◌<◌, ◌^◌, ℕ, IfSome, Some};
 ghost use Rattle.vpf_feed.specs.RowForm.Widths.{told_row};
 
 use crate::row_form::form::Field;
@@ -9,7 +9,8 @@ use vpf_triplet::Order;
 
 /// How many bytes each row of these cells takes, where that is told and fits a number.
 fn told_width(order: Order, fields: &[Field]) -> Option<u64>
-    ensures { IfSome result (λ width. told_row order fields.now ≡ Some width) }
+    ensures told { IfSome result (λ width. told_row order fields.now ≡ Some width) }
+    ensures known { (w : ℕ) → told_row order fields.now ≡ Some w → w < 2 ^ 64 → result ≡ Some w }
 {
     let none: &[u8] = &[];
     let mut sum: u64 = 0;
@@ -20,9 +21,10 @@ fn told_width(order: Order, fields: &[Field]) -> Option<u64>
     Some(sum)
 }
 
-/// How many bytes each row of these cells takes; 0 where that isn't told.
+/// How many bytes each row of these cells takes; 0 where that isn't told, or fits no number.
 pub fn row_width(order: Order, fields: &[Field]) -> u64
-    ensures { 0 < result → told_row order fields.now ≡ Some result }
+    ensures told { 0 < result → told_row order fields.now ≡ Some result }
+    ensures known { (w : ℕ) → told_row order fields.now ≡ Some w → w < 2 ^ 64 → result ≡ w }
 {
     match told_width(order, fields) {
         Some(width) => width,

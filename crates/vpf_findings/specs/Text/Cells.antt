@@ -2,9 +2,9 @@
 use Rattle.std.specs.Prelude.{ℕ, suc, ◌%◌, ◌==◌, List, [], ◌∷◌, drop, Option, Some, None, codes, if◌then◌else◌}
 use Rattle.std.specs.Int.{w64, to_be_bytes}
 use Rattle.std.specs.Fmt.{decimal, signed_decimal}
-use Rattle.vpf_triplet.specs.declared.kinds.Kind.{Kind}
-use Rattle.vpf_triplet.specs.declared.kinds.Kind.TheVariants as kinds
-use Rattle.vpf_triplet.specs.declared.triplets.Triplet.{Triplet}
+use Rattle.vpf_value.specs.Kind.{Kind}
+use Rattle.vpf_value.specs.Kind.TheVariants as kinds
+use Rattle.vpf_value.specs.Triplet.{Triplet}
 use Rattle.vpf_value.specs.declared.coords.WordWidth.{WordWidth}
 use Rattle.vpf_value.specs.declared.coords.WordWidth.TheVariants.{Four, Eight}
 use Rattle.vpf_value.specs.Values.{Value, TextOf, Word4Of, Word8Of, NumberOf, DateOf, Nothing, TripletOf, WordsOf}

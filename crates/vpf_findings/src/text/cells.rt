@@ -7,7 +7,7 @@ ghost use Rattle.vpf_findings.specs.Text.Cells.{tuple_len_of, separator, cell_te
 use crate::text::bytes::{Hex, Quoted};
 use std::alloc::AllocError;
 use std::fmt;
-use vpf_triplet::{Kind, Triplet};
+use vpf_value::triplet::{Kind, Triplet};
 use vpf_value::{Cell, Coords, WordWidth};
 
 /// A part of a triplet id.

@@ -32,8 +32,8 @@ use Rattle.vpf_feature_files.specs.Reading.{read_schema}
 use Rattle.vpf_feature_files.specs.Schemas.{Schema}
 use Rattle.vpf_feature_agreement.specs.Agreeing.{FeaturesAgree, FeaturesDecide, features_finding}
 use Rattle.vpf_feature_reading.specs.Laws.{IsReadSchema}
-use Rattle.vpf_featured.specs.Finding.{featured_finding, in_its_file, placed_finding, tables_or_features_finding}
-use Rattle.vpf_featured.specs.Reading.{FeaturedCoverage}
+use Rattle.vpf_library_commands.specs.Finding.{featured_finding, in_its_file, placed_finding, tables_or_features_finding}
+use Rattle.vpf_library_commands.specs.Reading.{FeaturedCoverage}
 use Rattle.vpf_library_commands.specs.declared.requesting.MakeRequest.{MakeRequest}
 use Rattle.vpf_library_commands.specs.Agreeing.{CoverageDecides}
 use Rattle.vpf_library_commands.specs.Check.{coverage_finding}

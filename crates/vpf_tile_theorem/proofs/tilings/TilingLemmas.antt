@@ -40,7 +40,7 @@ use Rattle.vpf_replies.specs.Answer.{Answer, done}
 use Rattle.vpf_replies.specs.Listings.{listing_text}
 use Rattle.vpf_feature_files.specs.Schemas.{Schema}
 use Rattle.vpf_features.specs.Finding.{Named}
-use Rattle.vpf_featured.specs.Reading.{FeaturedCoverage, no_features}
+use Rattle.vpf_library_commands.specs.Reading.{FeaturedCoverage, no_features}
 use Rattle.vpf_library_commands.specs.declared.requesting.MakeRequest.{MakeRequest}
 use Rattle.vpf_library_commands.specs.declared.checking.CheckRequest.{CheckRequest}
 use Rattle.vpf_library_commands.specs.Agreeing.{AgreeingIsRead, CheckCounts, CoverageDecides, IsAgreeing}

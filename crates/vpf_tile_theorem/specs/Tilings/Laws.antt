@@ -10,7 +10,7 @@ use Rattle.vpf_library_commands.specs.declared.requesting.MakeRequest.{MakeReque
 use Rattle.vpf_replies.specs.Making.{made_answer}
 use Rattle.vpf_library_commands.specs.Make.{make_request}
 use Rattle.vpf_library_commands.specs.Tile.{TileParts, tile_answer}
-use Rattle.vpf_featured.specs.Reading.{no_features}
+use Rattle.vpf_library_commands.specs.Reading.{no_features}
 use Rattle.vpf_tile_theorem.specs.Tilings.Cutting.{IsCutFrom, cut_files, cut_plan}
 use Rattle.vpf_tile_theorem.specs.Tilings.Tilings.{HasNames, HoldsTiled, HoldsTiling, LacksTheRest, StandsAlone, made_request}
 

@@ -18,7 +18,7 @@ use Rattle.vpf_replies.specs.Listings.{listing_text}
 use Rattle.vpf_feature_files.specs.Schemas.{FeatureTable, Schema}
 use Rattle.vpf_feature_reading.specs.Laws.{LacksIndexes, LacksTables}
 use Rattle.vpf_feature_reading.specs.Rebuilt.{rebuilt}
-use Rattle.vpf_featured.specs.Reading.{FeaturedCoverage}
+use Rattle.vpf_library_commands.specs.Reading.{FeaturedCoverage}
 use Rattle.vpf_library_commands.specs.declared.checking.CheckRequest.{CheckRequest}
 use Rattle.vpf_library_commands.specs.declared.requesting.MakeRequest.{MakeRequest}
 use Rattle.vpf_library_commands.specs.Agreeing.{IsAgreeing}

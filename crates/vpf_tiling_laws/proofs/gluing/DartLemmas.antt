@@ -8,7 +8,7 @@ use Rattle.vpf_prims.specs.Primitives.{Primitives, untiled, edges_in, edge_count
 use Rattle.vpf_wing.specs.Links.{tail_node, tile_darts}
 use Rattle.vpf_wing.specs.DartLaws.{never_both}
 use Rattle.vpf_follow.specs.Following.{face_name, is_home}
-use Rattle.vpf_cross.specs.CarriedLines.{first_tile, node_carried}
+use Rattle.vpf_trace.specs.CarriedLines.{first_tile, node_carried}
 use Rattle.vpf_tiling.specs.Presence.{copy_in, face_of, has_edge, is_present, present_edges, tail_of, untiled_links}
 use Rattle.vpf_tiling.specs.PresenceLaws.{no_edge_zero}
 use Rattle.vpf_tiling.specs.Plans.{IsTileable}

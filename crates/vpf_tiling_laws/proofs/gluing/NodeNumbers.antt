@@ -7,7 +7,7 @@ use Rattle.vpf_prims.specs.Numbering.{IsRowOf}
 use Rattle.vpf_prims.specs.Primitives.{Primitives, absent_node, untiled}
 use Rattle.vpf_wing.specs.Walks.{LeadsTo, Steps, least_after}
 use Rattle.vpf_wing.specs.DartLaws.{flip-flip, flip-has, stands_in}
-use Rattle.vpf_cross.specs.CarriedLines.{node_carried}
+use Rattle.vpf_trace.specs.CarriedLines.{node_carried}
 use Rattle.vpf_tiling.specs.Ranks.{is_least, numbered}
 use Rattle.vpf_tiling.specs.RankLaws.{numbered_many}
 use Rattle.vpf_tiling.specs.Presence.{coverage_map, dart_name, next_of, tail_of, untiled_links}

@@ -11,7 +11,7 @@ use Rattle.vpf_tiling.specs.Presence.{untiled_links, coverage_map, next_of, tail
 use Rattle.vpf_tiling.specs.Tiles.{tiled_face, reference_to}
 use Rattle.vpf_tiling_laws.specs.Tiled.Names.{dart_behind}
 use Rattle.vpf_wing.specs.WellFormed.{IsWellFormed, IsDartOf}
-use Rattle.vpf_cross.specs.Agreeing.{IsCopy, IsFirstCopy, GoesOnHere}
+use Rattle.vpf_trace.specs.Agreeing.{IsCopy, IsFirstCopy, GoesOnHere}
 use Rattle.vpf_tiling.specs.Plans.{IsTileable}
 use Rattle.vpf_tiling_laws.proofs.tiled.Parts.{HasLinks, OfTiled, TiledLoops, OneInside, InsidePlain, OutsidePart, SamePart, Follows, FollowApart, HomeFlip, HomeSign, HomeMark, HomeCarried, GoesOn, HasNexts, NextsApart}
 use Rattle.vpf_wing.specs.DartLaws.{never_both, same_some, flip-has}

@@ -14,7 +14,7 @@ use Rattle.vpf_wing.specs.Nexts.{tail, face, wing, next_dart}
 use Rattle.vpf_wing.specs.Places.{next_place, least_place}
 use Rattle.vpf_wing.specs.WellFormed.{IsWellFormed}
 use Rattle.vpf_wing.specs.DartLaws.{IsThere, has-there, sign-cases, code-parts}
-use Rattle.vpf_cross.specs.Example.{plain_table}
+use Rattle.vpf_trace.specs.Example.{plain_table}
 use Rattle.vpf_tiling.specs.Presence.{untiled_links, face_of}
 use Rattle.vpf_tiling.specs.Plans.{IsPlan, HasPlaces, IsTileable}
 use Rattle.vpf_tiling_laws.specs.Tiled.Example.{coverage, plan}

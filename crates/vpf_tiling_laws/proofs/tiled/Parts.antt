@@ -10,8 +10,8 @@ use Rattle.vpf_wing.specs.Links.{Beyond, link_of, links_of, tail_node, local_nex
 use Rattle.vpf_wing.specs.Walks.{LeadsTo}
 use Rattle.vpf_wing.specs.WellFormed.{IsDartOf, StartsRing, GoesRound, IsAtNode, HasCycles, HasLoops}
 use Rattle.vpf_follow.specs.Following.{beyond_tile, is_inside, is_home, is_outside, follow, home_copy}
-use Rattle.vpf_cross.specs.Agreeing.{GoesOnHere, AgreesAcross}
-use Rattle.vpf_cross.specs.CarriedLines.{first_tile, node_carried, universe_carried}
+use Rattle.vpf_trace.specs.Agreeing.{GoesOnHere, AgreesAcross}
+use Rattle.vpf_trace.specs.CarriedLines.{first_tile, node_carried, universe_carried}
 use Rattle.vpf_tiling.specs.Presence.{untiled_links, is_present, has_edge, face_of, copy_in, local_edge, tile_map}
 use Rattle.vpf_tiling.specs.Tiles.{tiled_library, tiled_edge, tiled_edges, tiled_wing, tiled_node, tiled_face}
 use Rattle.vpf_tiling.specs.Plans.{IsTileable}

@@ -14,10 +14,10 @@ use Rattle.vpf_prims.specs.References.{id_of}
 use Rattle.vpf_wing.specs.Links.{link_of, node_by, is_minus}
 use Rattle.vpf_tiling.specs.Presence.{untiled_links, next_of, tail_of, head_of, home, is_present, has_node, present_edges, held_faces, held_entities, local_node, copy_in}
 use Rattle.vpf_tiling.specs.Tiles.{tiled_edge, tiled_edges, numbered_node, numbered_entity, tiled_primitives, tiled_library, is_made}
-use Rattle.vpf_cross.specs.Agreeing.{AreInhabited}
+use Rattle.vpf_trace.specs.Agreeing.{AreInhabited}
 use Rattle.vpf_findings.specs.Firsts.{unless}
 use Rattle.vpf_findings.specs.FirstLaws.{over_none}
-use Rattle.vpf_cross.specs.CarriedLines.{first_passing, first_tile, node_carried}
+use Rattle.vpf_trace.specs.CarriedLines.{first_passing, first_tile, node_carried}
 use Rattle.vpf_prims.specs.Numbering.{IsRowOf, IsReference, IsEdgeOf}
 use Rattle.vpf_prims.specs.Libraries.{IsLibrary}
 use Rattle.vpf_wing.specs.WellFormed.{IsWellFormed}

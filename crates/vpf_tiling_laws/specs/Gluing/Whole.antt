@@ -12,7 +12,7 @@ use Rattle.vpf_prims.specs.Primitives.{EntityPrimitive, FacePrimitive, Library, 
 use Rattle.vpf_prims.specs.Primitives.{untiled}
 use Rattle.vpf_wing.specs.Links.{Beyond, DartLinks, links_of, tail_node, tile_darts}
 use Rattle.vpf_follow.specs.Following.{face_name, is_home, library_map}
-use Rattle.vpf_cross.specs.CarriedLines.{first_tile, node_carried, universe_carried}
+use Rattle.vpf_trace.specs.CarriedLines.{first_tile, node_carried, universe_carried}
 use Rattle.vpf_tiling.specs.Ranks.{numbered_from, up_to}
 use Rattle.vpf_tiling.specs.Presence.{containing_face, coverage_map, dart_name, face_of, held_entities, held_faces, local_face, present_edges, tail_of}
 use Rattle.vpf_tiling.specs.Presence.{untiled_links}

@@ -8,7 +8,7 @@ use Rattle.vpf_prims.specs.Primitives.{Primitives, untiled}
 use Rattle.vpf_wing.specs.Links.{links_of}
 use Rattle.vpf_wing.specs.WellFormed.{IsWellFormed}
 use Rattle.vpf_follow.specs.Following.{follow, home_copy, library_map}
-use Rattle.vpf_cross.specs.Agreeing.{LibraryAgrees}
+use Rattle.vpf_trace.specs.Agreeing.{LibraryAgrees}
 use Rattle.vpf_tiling.specs.Presence.{untiled_links, coverage_map, next_of, is_present, copy_in, dart_name, absent_darts, tile_map}
 use Rattle.vpf_tiling.specs.Tiles.{tiled_library}
 use Rattle.vpf_trace.specs.Tracing.{tile_lines, traced_map}
