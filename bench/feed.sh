@@ -12,7 +12,8 @@ for kind in fixed varying; do
     printf '\tvpf table\t%s\ttable\t%s\n' "$vpf" $kind.tab
     printf '\tcat | wc -c\tsh\t-c\tcat %s | wc -c\n' $kind.tab
     [ -z "${OLD:-}" ] || printf '\tthe other build\t%s\ttable\t%s\n' "$OLD" $kind.tab
-  } | in_turn 9
+  } > asked
+  in_turn 9 < asked
   set -- $medians
   ratio "table to cat | wc -c" "$1" "$2"
   [ -z "${OLD:-}" ] || ratio "table to that of the other build" "$1" "$3"

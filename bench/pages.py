@@ -2,7 +2,8 @@
 
 DEFINITIONS: each word stands in a module of `specs/` that is named beside it, and the modules to read are all that the contract of `run` reaches, definition by definition.
 ARCHITECTURE: each crate stands in one layer, above none that it names, and has a row with the crates right below it. Each crate has a README. REFUSALS:
-each code of FORMAT, and each refusal and bound of COMMANDS, has a row. Links of the READMEs and of docs/ lead to files and headings that are there."""
+each code of FORMAT, and each refusal and bound of COMMANDS, has a row. HEADLINE and CALLING: what is quoted is the source's. README: at most 130 lines, of at most 100
+characters but for rows of tables. No sentence has more than 50 words, but for the headline. Links of the READMEs and of docs/ lead to files and headings that are there."""
 import functools
 import pathlib
 import re
@@ -168,8 +169,55 @@ def see_links():
                 lacks.append(f"{path}: {link} names no heading")
 
 
+def quoted(text):
+    """The indented blocks of a page, without their indentation."""
+    return [re.sub(r"^    ", "", block, flags=re.M).strip("\n") for block in re.findall(r"(?:^(?:    .*)?\n)+", text, re.M) if block.strip()]
+
+
+def see_quotes():
+    plain = lambda text: " ".join(re.sub(r"^\s*//(?!/).*$", "", text, flags=re.M).split())
+    for name, folder, starts in (("HEADLINE.md", "vpf_run", ("ensures",)), ("CALLING.md", "vpf_calling", ("pub fn", "fn", "///")), ("../README.md", "vpf_calling", ("fn",))):
+        sources = [plain(path.read_text()) for path in pathlib.Path("crates", folder, "src").glob("*.rt")]
+        blocks = [block for block in quoted(page(name)) if block.startswith(starts)]
+        lacks.extend(f"{name}: {block.splitlines()[0]} .. isn't so in the source" for block in blocks if not any(plain(block) in source for source in sources))
+        if not blocks:
+            lacks.append(f"{name} quotes nothing")
+
+
+def sentences(text):
+    """The sentences of a page: those of its paragraphs, of the items of its lists and of the cells of its tables."""
+    text = re.sub(r"```.*?```", "", text, flags=re.S)
+    parts, block = [], []
+    for line in text.splitlines() + [""]:
+        if not line.strip() or line.startswith(("#", "    ", "!", "|")) or re.match(r"\s*([-*]|\d+\.) ", line):
+            parts.append(" ".join(block))
+            block = [line] if re.match(r"\s*([-*]|\d+\.) ", line) else []
+            parts.extend(line.split("|") if line.startswith("|") else [])
+        else:
+            block.append(line)
+    return [it for part in parts for it in re.split(r"(?<=[.?!:])\s+(?=[A-Z`\[(])", part)]
+
+
+def see_sentences():
+    for path in [pathlib.Path("README.md"), pathlib.Path("CONTRIBUTING.md"), *sorted(pathlib.Path("docs").glob("*.md"))]:
+        for it in sentences(path.read_text()):
+            # the headline stands word for word
+            if len(it.split()) > 50 and not it.startswith("For every well-formed untiled coverage and plan"):
+                lacks.append(f"{path}: {len(it.split())} words: {' '.join(it.split()[:8])} ..")
+
+
+def see_front():
+    lines = pathlib.Path("README.md").read_text().splitlines()
+    lacks.extend(f"README: line {k} is too long" for k, line in enumerate(lines, 1) if len(line) > 100 and not line.startswith("|"))
+    if len(lines) > 130:
+        lacks.append(f"README has {len(lines)} lines")
+
+
 see_definitions()
 see_architecture()
+see_quotes()
+see_sentences()
+see_front()
 see_readmes()
 see_refusals()
 see_links()

@@ -6,6 +6,7 @@ ghost use Rattle.vpf_run.specs.declared.command.Command.TheVariants.{Drill};
 ghost use Rattle.vpf_run.specs.Commands.{command_of};
 ghost use Rattle.vpf_run.specs.Statuses.{Ends, EndsAsDone, EndsAsUsage, code_of};
 
+use crate::help::{HELP, is_help};
 use crate::running::run;
 use crate::status::Status;
 use std::env::Env;
@@ -37,9 +38,10 @@ pub fn words<R: Env + AllocGlobal>(rt: &R) -> Result<Vec<String>, Status>
 }
 
 /// Tells a person on standard error, in one line, what ended a run early: the file or the output with the system's word on it, or that memory
-/// ran out. A run that came to its end tells nothing there.
+/// ran out. Where help is asked for, the commands are told, a line each. Any other run tells nothing there.
 fn tell<R: Eprint, F: Files, O: Print>(
     rt: &R,
+    words: &[String],
     status: Status,
     tree: &FolderTree<F>,
     out: &StdSink<O>,
@@ -48,6 +50,7 @@ fn tell<R: Eprint, F: Files, O: Print>(
         (Status::TreeFault, Some(trouble), _) => eprintln!(rt; "vpf: {trouble}"),
         (Status::SinkFault, _, Some(trouble)) => eprintln!(rt; "vpf: standard output: {trouble}"),
         (Status::NoMemory, _, _) => eprintln!(rt; "{RAN_OUT}"),
+        (Status::Usage, _, _) if is_help(words) => eprintln!(rt; "{HELP}"),
         _ => Ok(()),
     }
 }
@@ -60,7 +63,7 @@ fn run_here<R: Files + Print + Eprint + AllocGlobal>(rt: &R, words: &[String]) -
     let mut tree = FolderTree::new(rt.alloc(), rt);
     let mut out = StdSink::new(rt);
     let status = run(rt.alloc(), words, &mut tree, &mut out);
-    let _told = tell(rt, status, &tree, &out);
+    let _told = tell(rt, words, status, &tree, &out);
     status
 }
 

@@ -1,0 +1,2 @@
+pub mod Learnings
+pub mod Havings
