@@ -2,7 +2,7 @@
 
 DEFINITIONS: each word stands in a module of `specs/` that is named beside it, and the modules to read are all that the contract of `run` reaches, definition by definition.
 ARCHITECTURE: each crate stands in one layer, above none that it names, and has a row with the crates right below it. Each crate has a README. REFUSALS:
-each code of FORMAT, and each refusal and bound of COMMANDS, has a row. HEADLINE and CALLING: what is quoted is the source's. README: at most 130 lines, of at most 100
+each code of FORMAT, each rule of AGREEMENT, and each refusal and bound of COMMANDS, has a row. HEADLINE and CALLING: what is quoted is the source's. README: at most 130 lines, of at most 100
 characters but for rows of tables. No sentence has more than 50 words, but for the headline. Links of the READMEs and of docs/ lead to files and headings that are there."""
 import functools
 import pathlib
@@ -148,6 +148,8 @@ def see_refusals():
         row = f"`limit {code[6:]} " if code.startswith("limit-") else f"`{code}`"
         if row not in told:
             lacks.append(f"REFUSALS: no row of {code}")
+    rules = told.partition("| Rule |")[2]
+    lacks.extend(f"REFUSALS: no row of rule {k}" for k in sorted(set(re.findall(r"^\| ([1-8]) \|", page("AGREEMENT.md"), re.M))) if f"\n| {k} |" not in rules)
     lacks.extend(f"REFUSALS: no row of {line}" for line in sorted(set(re.findall(r"`((?:refused|limit) [a-z-]+) ", asked))) if f"`{line} " not in told)
 
 

@@ -5,7 +5,7 @@ ghost use Rattle.vpf_base.specs.Limits.{most_rows};
 ghost use Rattle.vpf_feed.specs.RowForm.Rows.{IsForm};
 ghost use Rattle.vpf_feed.specs.Walks.{walk_comes, next_comes, within_comes, between_comes, skipping_comes, bytes_most, IsWalk, IsInCell, IsBetween, IsSkipping};
 
-use crate::row_form::{Field, Look, RowForm, bytes_are_bytes, look_at};
+use crate::row_form::{Field, Look, RowForm, bytes_are_bytes, look_at, whole_row};
 use crate::staying::laws::cells_and_headers;
 use vpf_base::limits::MOST_ROWS;
 use vpf_triplet::{Code, Place};
@@ -235,6 +235,34 @@ fn pass_rows(form: &RowForm, walk: Walk, rest: &[u8]) -> (Walk, usize)
     (on, used as usize)
 }
 
+/// The row that begins with these bytes, where it is whole, and how many bytes it has; nothing where there are too many rows.
+fn pass_row(form: &RowForm, walk: Walk, rest: &[u8]) -> Option<(Walk, usize)>
+    requires form { IsForm form.now }
+    requires column { walk.column < length form.now.fields.items }
+    requires between { IsBetween form.now walk }
+    requires small { walk.here + length rest.now < bytes_most }
+    ensures comes { IfSome result (λ r. (more : List ℕ) → walk_comes form.now r.0 (drop r.1 rest.now ++ more) ≡ between_comes form.now walk (rest.now ++ more)) }
+    ensures sound { IfSome result (λ r. IsWalk form.now r.0) }
+    ensures here { IfSome result (λ r. r.0.here ≡ walk.here + r.1) }
+    ensures used { IfSome result (λ r. (0 < r.1) × (r.1 ≤ length rest.now)) }
+{
+    let used = whole_row(form, rest)?;
+    if used == 0 || walk.done == MOST_ROWS {
+        return None;
+    }
+    let past = walk.here + used as u64;
+    let kept = walk.kept;
+    let on = Walk {
+        done: walk.done + 1,
+        column: walk.column,
+        at: past,
+        here: past,
+        hand: Hand::Between,
+        kept,
+    };
+    Some((on, used))
+}
+
 /// The cell that begins with these bytes, where it is whole, and how many bytes it has.
 fn pass_cell(form: &RowForm, walk: Walk, rest: &[u8]) -> Option<(Walk, usize)>
     requires form { IsForm form.now }
@@ -291,6 +319,9 @@ fn step_between(form: &RowForm, walk: Walk, rest: &[u8]) -> Result<(Walk, usize)
     let (on, used) = pass_rows(form, walk, rest);
     if used > 0 {
         return Ok((on, used));
+    }
+    if let Some(passed) = pass_row(form, walk, rest) {
+        return Ok(passed);
     }
     // A row begins with the first byte.
     let _first = first_of(rest);

@@ -1,7 +1,11 @@
 -- Rows of one width are passed by their number.
-use Rattle.std.proofs.Common.{◌≡◌, ℕ, zero, suc, ◌+◌, ◌-◌, ◌*◌, ◌<◌, ◌≤◌, List, [], ◌∷◌, length, drop, Option, Some, None, Ok, refl, sym, ap, ◌∙◌, arith}
+use Rattle.std.proofs.Common.{◌≡◌, ℕ, zero, suc, ◌+◌, ◌-◌, ◌*◌, ◌<◌, ◌≤◌, List, [], ◌∷◌, ◌++◌, length, drop, Option, Some, None, Result, Ok, refl, sym, ap, ◌∙◌, arith}
+use Rattle.std.specs.Prelude.{slice_get}
 use Rattle.std.proofs.lemmas.Bool.{lt-leb, le-ltb}
-use Rattle.std.proofs.lemmas.List.{drop-drop, length-drop}
+use Rattle.std.proofs.lemmas.List.{drop-append-le, drop-drop, drop_all, length-append, length-drop}
+use Rattle.vpf_base.proofs.Lists.{next_item}
+use Rattle.vpf_base.specs.Limits.{most_rows}
+use Rattle.vpf_triplet.specs.declared.places.Place.{Place}
 use Rattle.vpf_triplet.specs.declared.orders.Order.{Order}
 use Rattle.vpf_table.specs.Widths.{add_width}
 use Rattle.vpf_table.proofs.FixedWidth.{added}
@@ -75,3 +79,34 @@ rows_passed zero m o fs done at w rest wide told few inside =
     let d : at + 0 ≡ at = omega arith in
     rw (a, b, c, d) refl
 rows_passed (suc k) m o fs done at w rest wide told few inside = let some = wide (omega arith) in some_rows (suc k) m o fs done at w rest (told some) some few inside
+
+-- ---- whole rows of any width
+
+-- a cell whose size is told takes as many bytes as that
+pub told_whole : (o : Order) (f : Field) (bytes : List ℕ) (n : ℕ) → told o f.kind f.count bytes ≡ Some n → n ≤ length bytes → (more : List ℕ) → cell_size o f (bytes ++ more) ≡ Ok n
+told_whole o f bytes n t h more = told_is o f.kind f.count bytes more n t ∙ whole_cell n (bytes ++ more) (omega (arith, h, length-append bytes more))
+
+-- one cell more of a row
+pub cell_more : (o : Order) (all : List Field) (i used n at : ℕ) (f : Field) (bytes more : List ℕ) (whole : Result (ℕ × List ℕ) Place) → slice_get all i ≡ Some f → used ≤ length bytes → n ≤ length bytes - used
+    → ((rest : List ℕ) → cell_size o f (drop used bytes ++ rest) ≡ Ok n) → row_left o (drop i all) (at + used) (drop used bytes ++ more) ≡ whole
+    → row_left o (drop (i + 1) all) (at + (used + n)) (drop (used + n) bytes ++ more) ≡ whole
+cell_more o all i used n at f bytes more whole e inside room size h =
+    let left = next_item all i f e in
+    let first = row_by o f (drop (i + 1) all) (at + used) n (drop used bytes ++ more) (size more) in
+    let past : at + used + n ≡ at + (used + n) = omega arith in
+    let rest : drop n (drop used bytes ++ more) ≡ drop (used + n) bytes ++ more = drop-append-le n (drop used bytes) more (omega (arith, room, length-drop used bytes)) ∙ ap (λ (x : List ℕ). x ++ more) (drop-drop n used bytes) in
+    sym (rw (past, rest) at (sym h ∙ ap (λ (fs : List Field). row_left o fs (at + used) (drop used bytes ++ more)) left ∙ first))
+
+-- a row is whole with its last cell
+pub row_full : (o : Order) (all : List Field) (used at : ℕ) (bytes more : List ℕ) → row_left o (drop (length all) all) (at + used) (drop used bytes ++ more) ≡ Ok (at + used, drop used bytes ++ more)
+unfolding row_left
+row_full o all used at bytes more = rw (drop_all (length all) all (omega arith)) refl
+
+-- a row that is whole is passed
+pub row_passed_whole : (o : Order) (all : List Field) (done at n : ℕ) (bytes more : List ℕ) → done < most_rows → 0 < n → n ≤ length bytes → row_left o all at (bytes ++ more) ≡ Ok (at + n, drop n bytes ++ more)
+    → rows_to_come (most_rows - (done + 1)) o all (done + 1) (at + n) (drop n bytes ++ more) ≡ rows_to_come (most_rows - done) o all done at (bytes ++ more)
+row_passed_whole o all done at n bytes more few some inside e =
+    let m : most_rows - done ≡ suc (most_rows - (done + 1)) = omega arith in
+    let rest : drop n (bytes ++ more) ≡ drop n bytes ++ more = drop-append-le n bytes more inside in
+    let again : row_left o all at (bytes ++ more) ≡ Ok (at + n, drop n (bytes ++ more)) = e ∙ ap (λ (x : List ℕ). Ok (at + n, x)) (sym rest) in
+    sym (ap (λ (k : ℕ). rows_to_come k o all done at (bytes ++ more)) m ∙ one_row (most_rows - (done + 1)) o all done at n (bytes ++ more) (omega (arith, some, inside, length-append bytes more)) again ∙ ap (λ (x : List ℕ). rows_to_come (most_rows - (done + 1)) o all (done + 1) (at + n) x) rest)

@@ -46,3 +46,13 @@ TellsCell o f bytes (looks.Skip n) = (length bytes < n) × (n < 2 ^ 40) × ((mor
 TellsCell o f bytes looks.Keep = (length bytes < 13) × (cell_size o f bytes ≡ Err codes.CellCut)
 -- no bytes that follow make it one
 TellsCell o f bytes (looks.Refused code) = (more : List ℕ) → cell_size o f (bytes ++ more) ≡ Err code
+
+-- the cell at the front takes so many of the bytes, whatever follows
+pub record IsWholeCell (o : Order) (f : Field) (bytes : List ℕ) (n : ℕ) : Type 0 where
+  pub inside : n ≤ length bytes
+  pub size : (more : List ℕ) → cell_size o f (bytes ++ more) ≡ Ok n
+
+-- so does the row at the front, which begins at `at`
+pub record IsWholeRow (o : Order) (fs : List Field) (bytes : List ℕ) (n : ℕ) : Type 0 where
+  pub inside : n ≤ length bytes
+  pub row : (at : ℕ) (more : List ℕ) → row_left o fs at (bytes ++ more) ≡ Ok (at + n, drop n bytes ++ more)
