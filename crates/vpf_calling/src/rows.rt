@@ -32,7 +32,8 @@ fn rows_at(
     }
 }
 
-/// The numbers of the rows, from 1, whose cell in a column is what a word says. Nothing where the bytes are no table, the table has no such column, or the word is
+/// The numbers of the rows, from 1, whose cell in a column is what a word says. Nothing where the bytes are no table, the table has no such column,
+/// or the word is
 /// no value of it.
 pub fn rows_having(
     alloc: Global,

@@ -4,7 +4,7 @@ use Rattle.std.specs.Prelude.{Result, Ok, None}
 use Rattle.vpf_base.specs.Results.{Told}
 use Rattle.vpf_value.specs.Values.{Value}
 use Rattle.vpf_theme.specs.Agreeing.{scan_of}
-use Rattle.vpf_select.specs.Selecting.{row_in, selected}
+use Rattle.vpf_select.specs.Selecting.{row_refused, selected}
 use Rattle.vpf_select.specs.declared.selecting.SelectError.{SelectError}
 use Rattle.vpf_select.specs.declared.selecting.SelectError.TheVariants as errors
 
@@ -14,7 +14,7 @@ unfolding selected
 is_scan v cells = refl
 
 -- and so no row is refused
-pub none_refused : (error : SelectError) (row : ℕ) (v : Value) (cells : List Value) → error ≡ errors.Disagrees row → Told (row_in error) (selected None v cells) → ⊥
+pub none_refused : (error : SelectError) (row : ℕ) (v : Value) (cells : List Value) → error ≡ errors.Disagrees row → Told (row_refused error) (selected None v cells) → ⊥
 none_refused error row v cells is told = absurd (cc (sym (is_scan v cells) ∙ (rw is at told)))
 
 -- the rows that are selected are those of the scan

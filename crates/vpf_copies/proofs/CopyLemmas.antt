@@ -6,8 +6,8 @@ use Rattle.std.proofs.lemmas.Bool.{cases_lt, false≢true, ne_eqb, or_from, cond
 use Rattle.std.proofs.lemmas.List.{get_or_past}
 use Rattle.std.proofs.lemmas.List.FromFn.{length-range_with_len, length-map-range_with_len, get_or-map-range_with_len}
 use Rattle.std.proofs.lemmas.List.Sums.{length-filter, count_by-le-length}
-use Rattle.vpf_copies.specs.Lists.{list_at, lists_by, is_pair, is_paired, IsWithin, StandWithin}
-use Rattle.vpf_copies.specs.Presence.{Presence, AreCopies, is_one_of, has, present, items_in, tiles_of, local_number, rank}
+use Rattle.vpf_copies.specs.Lists.{list_at, lists_by, is_pair, is_paired, AreNumbersWithin, StandWithin}
+use Rattle.vpf_copies.specs.Presence.{Presence, AreCopies, is_one_of, has, presence_of, items_in, tiles_of, local_number, rank_up_to}
 use Rattle.vpf_copies.proofs.RisingLemmas.{up_is, filter_range}
 use Rattle.vpf_copies.proofs.FilterLemmas.{in_filter, not_in_filter, IsFound, found}
 
@@ -55,8 +55,8 @@ few_are p by_item c t =
 pub local_found : (p : Presence) (t i k : ℕ) (xs : List ℕ) → xs ≡ items_in p t → k < length xs → get_or xs k 0 ≡ i → Some (k + 1) ≡ local_number p t i
 local_found p t i k xs e h at =
     let f : IsFound (has p t) 1 k i = found (has p t) p.items 1 k i (subst (λ (ys : List ℕ). k < length ys) e h) (subst (λ (ys : List ℕ). get_or ys k 0 ≡ i) e at) in
-    let r : rank (has p t) i ≡ k + 1 = f.rank i (omega arith) in
-    sym (cond-true (has p t i) (Some (rank (has p t) i)) None f.passes ∙ ap (λ n. Some n) r)
+    let r : rank_up_to (has p t) i ≡ k + 1 = f.rank i (omega arith) in
+    sym (cond-true (has p t i) (Some (rank_up_to (has p t) i)) None f.passes ∙ ap (λ n. Some n) r)
 
 not_in : (x i : ℕ) (xs : List ℕ) → ((k : ℕ) → k < i → get_or xs k 0 < x) → ((k : ℕ) → i ≤ k → k < length xs → x < get_or xs k 0) → is_one_of xs x ≡ false
 not_in x i [] a b = refl
@@ -64,11 +64,11 @@ not_in x zero (y ∷ ys) a b = let gt : x < y = b 0 (omega arith) (omega arith) 
 not_in x (suc i) (y ∷ ys) a b = let lt : y < x = a 0 (omega arith) in or_from (eqb y x) (is_one_of ys x) (ne_eqb y x (λ e. absurd (omega arith))) (not_in x i ys (λ k h. a (suc k) (omega arith)) (λ k l h. b (suc k) (omega arith) (omega arith)))
 
 pub local_absent : (p : Presence) (t i k : ℕ) (xs : List ℕ) → is_one_of xs i ≡ has p t i → ((j : ℕ) → j < k → get_or xs j 0 < i) → ((j : ℕ) → k ≤ j → j < length xs → i < get_or xs j 0) → None ≡ local_number p t i
-local_absent p t i k xs e a b = sym (cond-false (has p t i) (Some (rank (has p t) i)) None (sym e ∙ not_in i k xs a b))
+local_absent p t i k xs e a b = sym (cond-false (has p t i) (Some (rank_up_to (has p t) i)) None (sym e ∙ not_in i k xs a b))
 
 -- ---- the presence of a test
 
-pub has_present : (items tiles : ℕ) (test : ℕ → ℕ → Bool) → IsWithin test tiles items → (t i : ℕ) → has (present items tiles test) t i ≡ test t i
+pub has_present : (items tiles : ℕ) (test : ℕ → ℕ → Bool) → AreNumbersWithin test tiles items → (t i : ℕ) → has (presence_of items tiles test) t i ≡ test t i
 has_present items tiles test w t i = elim (cases_lt tiles t) [
   | inl lt ↦ ap (λ xs. is_one_of xs i) (table_past items tiles test t lt) ∙ sym (false_from_ne_true (test t i) (λ h. (let le : t ≤ tiles = (w t i h).1 in absurd (omega arith))))
   | inr le ↦ ap (λ xs. is_one_of xs i) (table_at items tiles test t le) ∙ elim (cases_lt i 1) [
@@ -80,9 +80,9 @@ has_present items tiles test w t i = elim (cases_lt tiles t) [
   ]
 ]
 
-pub copies_are : (items tiles : ℕ) (test : ℕ → ℕ → Bool) (by_item : List (List ℕ)) → items < 2 ^ 32 → IsWithin test tiles items → by_item ≡ lists_by items tiles (λ i t. test t i) → AreCopies (present items tiles test) by_item
+pub copies_are : (items tiles : ℕ) (test : ℕ → ℕ → Bool) (by_item : List (List ℕ)) → items < 2 ^ 32 → AreNumbersWithin test tiles items → by_item ≡ lists_by items tiles (λ i t. test t i) → AreCopies (presence_of items tiles test) by_item
 copies_are items tiles test by_item few w e =
-    let p : Presence = present items tiles test in
+    let p : Presence = presence_of items tiles test in
     let same : test ≡ has p = fun_ext (λ t. fun_ext (λ i. sym (has_present items tiles test w t i))) in
     record {
       few = few;
@@ -106,16 +106,16 @@ turned_are ps turned tiles items e =
     let same : is_paired turned ≡ (λ i t. is_paired ps t i) = fun_ext (λ i. fun_ext (λ t. ap (λ xs. is_paired xs i t) e ∙ paired_turned ps i t)) in
     ap (lists_by items tiles) same
 
-pub pairs_stand : (ps : List (ℕ × ℕ)) (tiles items : ℕ) → IsWithin (is_paired ps) tiles items → StandWithin ps items
+pub pairs_stand : (ps : List (ℕ × ℕ)) (tiles items : ℕ) → AreNumbersWithin (is_paired ps) tiles items → StandWithin ps items
 pairs_stand ps tiles items w t i h = ((w t i h).2, (w t i h).3)
 
-pub turned_stand : (ps turned : List (ℕ × ℕ)) (tiles items : ℕ) → turned ≡ map (λ (p : ℕ × ℕ). let q : ℕ × ℕ = (p.1, p.0) in q) ps → IsWithin (is_paired ps) tiles items → StandWithin turned tiles
+pub turned_stand : (ps turned : List (ℕ × ℕ)) (tiles items : ℕ) → turned ≡ map (λ (p : ℕ × ℕ). let q : ℕ × ℕ = (p.1, p.0) in q) ps → AreNumbersWithin (is_paired ps) tiles items → StandWithin turned tiles
 turned_stand ps turned tiles items e w i t h =
     let r = w t i (sym (ap (λ xs. is_paired xs i t) e ∙ paired_turned ps i t) ∙ h) in
     (r.0, r.1)
 
 -- what has an item is one of the tiles, and the item is one of the items
-pub has_within : (p : Presence) (by_item : List (List ℕ)) → AreCopies p by_item → IsWithin (has p) p.tiles p.items
+pub has_within : (p : Presence) (by_item : List (List ℕ)) → AreCopies p by_item → AreNumbersWithin (has p) p.tiles p.items
 has_within p by_item c t i h =
     let from : 1 ≤ t = elim (cases_lt t 1) [
       | inl lt ↦ (let z : t ≡ 0 = omega arith in absurd (false≢true (sym (ap (λ xs. is_one_of xs i) (ap (list_at p.lists) z ∙ c.none)) ∙ h)))

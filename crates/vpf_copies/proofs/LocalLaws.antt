@@ -5,7 +5,7 @@ use Rattle.std.proofs.lemmas.List.{get_or_default}
 use Rattle.std.proofs.lemmas.List.Folds.{Any-from_list_any}
 use Rattle.vpf_prims.specs.Lists.{kth}
 use Rattle.vpf_copies.specs.Laws.{LocalsArePlaces, PlacesAreLocals}
-use Rattle.vpf_copies.specs.Presence.{Presence, has, is_one_of, items_in, local_number, rank}
+use Rattle.vpf_copies.specs.Presence.{Presence, has, is_one_of, items_in, local_number, rank_up_to}
 use Rattle.vpf_copies.proofs.CopyLemmas.{local_found}
 use Rattle.vpf_copies.proofs.FilterLemmas.{in_filter}
 
@@ -33,5 +33,5 @@ locals_are_places p t i k from to h = elim (cases_Bool (has p t i)) [
       let local : Some (s.0 + 1) ≡ local_number p t i = local_found p t i s.0 (items_in p t) refl s.1 s.2 in
       let place : s.0 + 1 ≡ k = some_is (s.0 + 1) k (local ∙ h) in
       ap (λ n. kth (items_in p t) n 0) (sym place) ∙ ap (λ n. get_or (0 ∷ items_in p t) n 0) (add-one s.0) ∙ s.2)
-  | inr not_there ↦ absurd (none_some k (sym (cond-false (has p t i) (Some (rank (has p t) i)) None not_there) ∙ h))
+  | inr not_there ↦ absurd (none_some k (sym (cond-false (has p t i) (Some (rank_up_to (has p t) i)) None not_there) ∙ h))
 ]

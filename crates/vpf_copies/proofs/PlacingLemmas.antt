@@ -8,9 +8,9 @@ use Rattle.std.proofs.lemmas.List.Folds.{list_any-append}
 use Rattle.vpf_prims.specs.Lists.{kth}
 use Rattle.vpf_copies.specs.declared.edges.EdgeNodes.{EdgeNodes}
 use Rattle.vpf_copies.specs.declared.edges.EdgeTiles.{EdgeTiles}
-use Rattle.vpf_copies.specs.Lists.{IsWithin, is_paired}
+use Rattle.vpf_copies.specs.Lists.{AreNumbersWithin, is_paired}
 use Rattle.vpf_copies.specs.Placing.{AreNodes, AreTiles, has_end, is_at, is_beside, is_end, is_side, no_nodes, no_tiles}
-use Rattle.vpf_copies.specs.Presence.{AreCopies, Presence, has, is_one_of, present, tiles_of}
+use Rattle.vpf_copies.specs.Presence.{AreCopies, Presence, has, is_one_of, presence_of, tiles_of}
 use Rattle.vpf_copies.proofs.RisingLemmas.{Rises}
 use Rattle.vpf_copies.proofs.FilterLemmas.{filter_up, in_filter, not_in_filter}
 use Rattle.vpf_copies.proofs.CopyLemmas.{has_within, has_present}
@@ -68,7 +68,7 @@ side_of s t h = elim (or_cases (eqb s.left t) (eqb s.right t) h) [ inl e ↦ inl
 pub edges_are : (sides : List EdgeTiles) (k : ℕ) (pairs : List (ℕ × ℕ)) → length sides ≤ k → ((t i : ℕ) → is_paired pairs t i ≡ (leb i k && is_beside sides t i)) → is_paired pairs ≡ is_beside sides
 edges_are sides k pairs end h = fun_ext (λ t. fun_ext (λ i. h t i ∙ all_put (is_beside sides t i) i k (λ b. (let last : i ≤ length sides = (beside_is sides t i b).last in omega arith))))
 
-pub edges_within : (sides : List EdgeTiles) (tiles : ℕ) → All (AreTiles tiles) sides → IsWithin (is_beside sides) tiles (length sides)
+pub edges_within : (sides : List EdgeTiles) (tiles : ℕ) → All (AreTiles tiles) sides → AreNumbersWithin (is_beside sides) tiles (length sides)
 edges_within sides tiles all t i h =
     let b = beside_is sides t i h in
     let are : AreTiles tiles (kth sides i no_tiles) = kth_all (AreTiles tiles) sides i no_tiles all b.first b.last in
@@ -107,9 +107,9 @@ passes_in test n t h = elim (cases_lt t 1) [
   ]
 ]
 
-pub two_tiles : (sides : List EdgeTiles) (tiles i : ℕ) → All (AreTiles tiles) sides → length (tiles_of (present (length sides) tiles (is_beside sides)) i) ≤ 2
+pub two_tiles : (sides : List EdgeTiles) (tiles i : ℕ) → All (AreTiles tiles) sides → length (tiles_of (presence_of (length sides) tiles (is_beside sides)) i) ≤ 2
 two_tiles sides tiles i all =
-    let p : Presence = present (length sides) tiles (is_beside sides) in
+    let p : Presence = presence_of (length sides) tiles (is_beside sides) in
     let s : EdgeTiles = kth sides i no_tiles in
     few_of_two s.left s.right (tiles_of p i) (filter_up (λ t. has p t i) tiles 1) (λ t h. (
     let there : is_beside sides t i ≡ true = sym (has_present (length sides) tiles (is_beside sides) (edges_within sides tiles all) t i) ∙ passes_in (λ t. has p t i) tiles t h in
@@ -163,7 +163,7 @@ end_within s v nodes are h = elim (or_cases (eqb s.start v) (eqb s.end v) h) [
 ]
 
 -- the nodes that edges begin or end at are within
-pub ends_within : (p : Presence) (by_item : List (List ℕ)) (ends : List EdgeNodes) (nodes : ℕ) → AreCopies p by_item → length ends ≡ p.items → All (AreNodes nodes) ends → IsWithin (has_end p ends) p.tiles nodes
+pub ends_within : (p : Presence) (by_item : List (List ℕ)) (ends : List EdgeNodes) (nodes : ℕ) → AreCopies p by_item → length ends ≡ p.items → All (AreNodes nodes) ends → AreNumbersWithin (has_end p ends) p.tiles nodes
 ends_within p by_item ends nodes c len all t v h =
     let x = any_of (λ e. has p t e && is_end (kth ends e no_nodes) v) p.items 1 h in
     let parts = and_parts (has p t x.0) (is_end (kth ends x.0 no_nodes) v) x.3 in

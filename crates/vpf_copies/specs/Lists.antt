@@ -21,8 +21,8 @@ abbrev pub is_paired : List (ℕ × ℕ) → ℕ → ℕ → Bool
 is_paired pairs k i = list_any (is_pair k i) pairs
 
 -- what pass a test of two numbers are two from 1 on, up to these
-abbrev pub IsWithin : (ℕ → ℕ → Bool) → (count most : ℕ) → Type 0
-IsWithin test count most = (k i : ℕ) → test k i ≡ true → (1 ≤ k) × (k ≤ count) × (1 ≤ i) × (i ≤ most)
+abbrev pub AreNumbersWithin : (ℕ → ℕ → Bool) → (count most : ℕ) → Type 0
+AreNumbersWithin test count most = (k i : ℕ) → test k i ≡ true → (1 ≤ k) × (k ≤ count) × (1 ≤ i) × (i ≤ most)
 
 -- the numbers in the lists are from 1 to the most
 abbrev pub StandWithin : List (ℕ × ℕ) → ℕ → Type 0

@@ -17,8 +17,8 @@ abbrev pub has : Presence → (tile item : ℕ) → Bool
 has p tile item = is_one_of (list_at p.lists tile) item
 
 -- the items are in the tiles where a test of a tile and an item says so
-abbrev pub present : (items tiles : ℕ) → (ℕ → ℕ → Bool) → Presence
-present items tiles test = record { items = items; tiles = tiles; lists = lists_by tiles items test }
+abbrev pub presence_of : (items tiles : ℕ) → (ℕ → ℕ → Bool) → Presence
+presence_of items tiles test = record { items = items; tiles = tiles; lists = lists_by tiles items test }
 
 -- the items of a tile: of all items, rising, those that it has
 abbrev pub items_in : Presence → ℕ → List ℕ
@@ -29,12 +29,12 @@ abbrev pub tiles_of : Presence → ℕ → List ℕ
 tiles_of p item = filter (λ tile. has p tile item) (range_with_len 1 p.tiles)
 
 -- how many of the numbers from 1 to this one pass a test
-abbrev pub rank : (ℕ → Bool) → ℕ → ℕ
-rank test k = count_by test (range_with_len 1 k)
+abbrev pub rank_up_to : (ℕ → Bool) → ℕ → ℕ
+rank_up_to test k = count_by test (range_with_len 1 k)
 
 -- the local number of an item in a tile, its rank among the items of the tile; none where it isn't there
 abbrev pub local_number : Presence → (tile item : ℕ) → Option ℕ
-local_number p tile item = if has p tile item then Some (rank (has p tile) item) else None
+local_number p tile item = if has p tile item then Some (rank_up_to (has p tile) item) else None
 
 -- the lists of a presence are those of the items that each tile has, and these are the lists of the tiles that have each item
 pub record AreCopies (p : Presence) (by_item : List (List ℕ)) : Type 0 where

@@ -34,15 +34,15 @@ impl Model for Copies {
 
 impl Copies {
     ghost use Rattle.std.specs.Prelude.{◌≡◌, ℕ, ◌<◌, ◌≤◌, ◌^◌, All, IfOk, length};
-    ghost use Rattle.vpf_copies.specs.Lists.{IsWithin, is_paired};
+    ghost use Rattle.vpf_copies.specs.Lists.{AreNumbersWithin, is_paired};
     ghost use Rattle.vpf_copies.specs.Placing.{AreNodes, AreTiles, has_end, is_at, is_beside};
-    ghost use Rattle.vpf_copies.specs.Presence.{has, is_one_of, items_in, local_number, present, tiles_of};
+    ghost use Rattle.vpf_copies.specs.Presence.{has, is_one_of, items_in, local_number, presence_of, tiles_of};
 
     /// Edges, which are in the tiles on their two sides. Both are given edge by edge, 0 for none.
     pub fn of_edges(alloc: Global, tiles: u32, sides: &[EdgeTiles]) -> Result<Copies, AllocError>
         requires few { length sides.now < 2 ^ 32 }
         requires within { All (AreTiles tiles) sides.now }
-        ensures copies { IfOk result (λ copies. copies ≡ present (length sides.now) tiles (is_beside sides.now)) }
+        ensures copies { IfOk result (λ copies. copies ≡ presence_of (length sides.now) tiles (is_beside sides.now)) }
         ensures has { IfOk result (λ copies. has copies ≡ is_beside sides.now) }
         ensures two { IfOk result (λ copies. (edge : ℕ) → length (tiles_of copies edge) ≤ 2) }
     {
@@ -59,7 +59,7 @@ impl Copies {
     pub fn of_places(alloc: Global, tiles: u32, places: &[u32]) -> Result<Copies, AllocError>
         requires few { length places.now < 2 ^ 32 }
         requires within { All (λ tile. tile ≤ tiles) places.now }
-        ensures copies { IfOk result (λ copies. copies ≡ present (length places.now) tiles (is_at places.now)) }
+        ensures copies { IfOk result (λ copies. copies ≡ presence_of (length places.now) tiles (is_at places.now)) }
         ensures has { IfOk result (λ copies. has copies ≡ is_at places.now) }
     {
         let mut pairs = Vec::new(alloc);
@@ -78,7 +78,7 @@ impl Copies {
     ) -> Result<Copies, AllocError>
         requires edges { length ends.now ≡ edges.now.items }
         requires within { All (AreNodes nodes) ends.now }
-        ensures copies { IfOk result (λ copies. copies ≡ present nodes edges.now.tiles (has_end edges.now ends.now)) }
+        ensures copies { IfOk result (λ copies. copies ≡ presence_of nodes edges.now.tiles (has_end edges.now ends.now)) }
         ensures has { IfOk result (λ copies. has copies ≡ has_end edges.now ends.now) }
     {
         let mut pairs = Vec::new(alloc);
@@ -95,8 +95,8 @@ impl Copies {
         items: u32,
         pairs: Vec<(u32, u32)>,
     ) -> Result<Copies, AllocError>
-        requires { IsWithin (is_paired pairs.items) tiles items }
-        ensures copies { IfOk result (λ copies. copies ≡ present items tiles (is_paired pairs.items)) }
+        requires { AreNumbersWithin (is_paired pairs.items) tiles items }
+        ensures copies { IfOk result (λ copies. copies ≡ presence_of items tiles (is_paired pairs.items)) }
         ensures has { IfOk result (λ copies. has copies ≡ is_paired pairs.items) }
     {
         let turned = turned(alloc, &pairs)?;

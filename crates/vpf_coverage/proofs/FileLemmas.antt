@@ -14,7 +14,7 @@ use Rattle.vpf_library_files.specs.Loading.Holding.{AreCoverageFiles, AreTiledFi
 use Rattle.vpf_library_files.specs.Loading.Laws.{FilesAreLibraries}
 use Rattle.vpf_coverage.specs.declared.opening.opening.OpenCoverage.{OpenCoverage}
 use Rattle.vpf_coverage.specs.Opening.Opened.{opened_coverage}
-use Rattle.vpf_coverage.specs.Opened.{IsCounted}
+use Rattle.vpf_coverage.specs.Opened.{HasCountedTiles}
 
 -- as many tiles as paths
 tiles_by_paths : (folder : List ℕ) (at : ℕ) (paths : List (List ℕ)) (tiles : List (Option TileTables)) (files : List File) → AreTilesFiles folder at paths tiles files → length tiles ≡ length paths
@@ -40,7 +40,7 @@ few_tiles lib cov c files (inr t) =
     subst HasFewTiles (sym t.is) (record { tiles = omega (arith, count); few = omega (arith, count, rows, few) })
 
 -- they are counted
-pub is_counted : FilesAreLibraries → (lib cov : List ℕ) (c : CoverageTables) (files : List File) → AreCoverageFiles lib cov c files → IsCounted c
+pub is_counted : FilesAreLibraries → (lib cov : List ℕ) (c : CoverageTables) (files : List File) → AreCoverageFiles lib cov c files → HasCountedTiles c
 is_counted law lib cov c files are =
     let few = few_tiles lib cov c files are in
     record { library = law lib cov c files are; tiles = few.tiles; few = few.few }

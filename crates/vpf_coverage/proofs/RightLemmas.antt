@@ -14,7 +14,7 @@ use Rattle.vpf_numbers.specs.Around.{around_of}
 use Rattle.vpf_numbers.specs.TableLines.{coverage_numbers, numbers_finding}
 use Rattle.vpf_coverage.specs.declared.opening.opening.OpenCoverage.{OpenCoverage}
 use Rattle.vpf_coverage.specs.Opening.Opened.{opened_coverage}
-use Rattle.vpf_coverage.specs.Opened.{AreAllRight, AreRightIn, IsCounted, IsPlaced}
+use Rattle.vpf_coverage.specs.Opened.{AreAllRight, AreRightIn, HasCountedTiles, IsPlaced}
 use Rattle.vpf_coverage.proofs.PlaceLemmas.{placed_length}
 
 -- what is found in a tile
@@ -22,7 +22,7 @@ abbrev pub tile_line : OpenCoverage → ℕ → Option Disagreement
 tile_line o t = in_tile (numbers_finding t (around_of (opened_coverage o))) (tile_at (opened_coverage o) t)
 
 -- what is found in all is what is found in one after another
-pub lines_whole : (o : OpenCoverage) → IsPlaced o → IsCounted (opened_coverage o) → first_over (tile_line o) 0 (length o.tiles.items) ≡ coverage_numbers (opened_coverage o)
+pub lines_whole : (o : OpenCoverage) → IsPlaced o → HasCountedTiles (opened_coverage o) → first_over (tile_line o) 0 (length o.tiles.items) ≡ coverage_numbers (opened_coverage o)
 unfolding in_tiles
 lines_whole o placed counted =
     let count : length (opened_coverage o).tiles ≡ length o.tiles.items = placed_length o.firsts.items o.tiles.items placed.alike in

@@ -4,7 +4,7 @@ use Rattle.std.specs.Option.{unwrap_or}
 use Rattle.vpf_prims.specs.Coverages.{CoverageTables}
 use Rattle.vpf_numbers.specs.TableLines.{coverage_numbers}
 use Rattle.vpf_coverage.specs.declared.coverage.Coverage.TheInside.{Inside}
-use Rattle.vpf_coverage.specs.Opened.{IsCounted}
+use Rattle.vpf_coverage.specs.Opened.{HasCountedTiles}
 
 -- the tables of its tiles; it is tiled where its tiles have paths
 abbrev pub coverage_of : Inside → CoverageTables
@@ -13,4 +13,4 @@ coverage_of c = record { is_tiled = is_some c.paths; paths = unwrap_or c.paths [
 -- nothing disagrees in its columns, ids, references and marks, and its tiles are those of a library
 pub record IsCoverage (c : Inside) : Type 0 where
   pub numbers : coverage_numbers (coverage_of c) ≡ None
-  pub counted : IsCounted (coverage_of c)
+  pub counted : HasCountedTiles (coverage_of c)

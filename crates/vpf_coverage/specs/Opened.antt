@@ -35,7 +35,7 @@ pub record IsPlaced (o : OpenCoverage) : Type 0 where
   pub few : All (λ first. first < 2 ^ 31) o.firsts.items
 
 -- the tiles of a coverage are those of a library, one more than they have paths, and not too many
-pub record IsCounted (c : CoverageTables) : Type 0 where
+pub record HasCountedTiles (c : CoverageTables) : Type 0 where
   pub library : IsLibrary (library_of c)
   pub tiles : length c.tiles ≡ length c.paths + 1
   pub few : length c.tiles < 2 ^ 31

@@ -7,7 +7,7 @@ ghost use Rattle.vpf_prims.specs.Libraries.{in_tile};
 ghost use Rattle.vpf_numbers.specs.Around.{around_of};
 ghost use Rattle.vpf_numbers.specs.TableLines.{coverage_numbers, numbers_finding};
 ghost use Rattle.vpf_coverage.specs.Opening.Opened.{opened_coverage};
-ghost use Rattle.vpf_coverage.specs.Opened.{AreAllRight, AreRightIn, IsCounted, IsPlaced};
+ghost use Rattle.vpf_coverage.specs.Opened.{AreAllRight, AreRightIn, HasCountedTiles, IsPlaced};
 
 use crate::opening::{OpenCoverage, views_at};
 use std::alloc::Global;
@@ -54,7 +54,7 @@ pub(crate) fn columns_of<'a>(
     opened: &OpenCoverage<'a>,
 ) -> Result<Vec<Option<TileColumns<'a>>>, FindError<'a>>
     requires placed { IsPlaced opened.now }
-    requires counted { IsCounted (opened_coverage opened.now) }
+    requires counted { HasCountedTiles (opened_coverage opened.now) }
     ensures first { Tells result (coverage_numbers (opened_coverage opened.now)) }
     ensures right { IfOk result (λ columns. AreAllRight opened.now.tiles.items columns.items) }
 {

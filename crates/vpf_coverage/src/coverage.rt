@@ -6,7 +6,7 @@ ghost use Rattle.vpf_prims.specs.Coverages.{CoverageTables};
 ghost use Rattle.vpf_library_files.specs.Loading.Holding.{AreCoverageFiles, AreOfCoverage};
 ghost use Rattle.vpf_numbers.specs.TableLines.{coverage_numbers};
 ghost use Rattle.vpf_coverage.specs.Opening.Opened.{opened_coverage};
-ghost use Rattle.vpf_coverage.specs.Opened.{IsCounted, IsPlaced};
+ghost use Rattle.vpf_coverage.specs.Opened.{HasCountedTiles, IsPlaced};
 
 use crate::columns::columns_of;
 use crate::opening::{OpenCoverage, open_files};
@@ -96,14 +96,14 @@ impl<'a> Coverage<'a> {
     }
 
     /// What is so of the columns, ids, references and marks of each coverage: nothing disagrees in them.
-    pub fn has_numbers(&self)
+    pub fn numbers_hold(&self)
         ensures { coverage_numbers self.now ≡ None }
     {
         let _tiles = &self.tiles;
     }
 
     /// What is so of the tiles of each coverage: they are numbered from 1, or there is one that isn't numbered; and some have tables.
-    pub fn is_library(&self)
+    pub fn tiles_make_library(&self)
         ensures { IsLibrary (library_of self.now) }
     {
         let _tiles = &self.tiles;
@@ -113,7 +113,7 @@ impl<'a> Coverage<'a> {
 /// The coverage of tables that were opened, where nothing disagrees in them.
 fn checked<'a>(alloc: Global, opened: OpenCoverage<'a>) -> Result<Coverage<'a>, FindError<'a>>
     requires placed { IsPlaced opened }
-    requires counted { IsCounted (opened_coverage opened) }
+    requires counted { HasCountedTiles (opened_coverage opened) }
     ensures first { Tells result (coverage_numbers (opened_coverage opened.entry)) }
     ensures coverage { IfOk result (λ coverage. coverage ≡ opened_coverage opened.entry) }
 {

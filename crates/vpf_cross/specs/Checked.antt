@@ -5,8 +5,8 @@ use Rattle.vpf_cross.specs.declared.checking.Checked.TheInside.{Inside}
 use Rattle.vpf_cross.specs.CrossFinding.{topology_finding}
 
 -- the coverage
-abbrev pub coverage_of : Inside → CoverageTables
-coverage_of c = c.coverage.now
+abbrev pub checked_coverage : Inside → CoverageTables
+checked_coverage c = c.coverage.now
 
 -- what follows the darts of a tiled coverage is kept, and nothing for one that isn't tiled
 abbrev pub KeepsFollowed : CoverageTables → Option CoverageTables → Type 0
@@ -15,5 +15,5 @@ KeepsFollowed c (Some followed) = (c.is_tiled ≡ true) × (followed ≡ c)
 
 -- nothing disagrees in its topology
 pub record IsChecked (c : Inside) : Type 0 where
-  pub agrees : topology_finding (coverage_of c) ≡ None
-  pub followed : KeepsFollowed (coverage_of c) c.followed
+  pub agrees : topology_finding (checked_coverage c) ≡ None
+  pub followed : KeepsFollowed (checked_coverage c) c.followed

@@ -51,8 +51,8 @@ tiled_edge_columns =
     ∷ column_named S (codes "tile_line") ∷ []
 
 -- an edge: its nodes, faces and wings, and its mark
-abbrev pub tiled_edge : ℕ → List Triplet → ℕ → Row
-tiled_edge k references mark = number_held k ∷ map reference_held references ++ (number_held mark ∷ [])
+abbrev pub example_tiled_edge : ℕ → List Triplet → ℕ → Row
+example_tiled_edge k references mark = number_held k ∷ map reference_held references ++ (number_held mark ∷ [])
 
 -- the faces, rings and nodes of either tile
 abbrev pub tile_with : Grid → PrimitiveTables
@@ -67,14 +67,14 @@ tile_with edg = record {
 -- the edges of the first tile, the second of which has this mark
 abbrev pub first_edges : ℕ → Grid
 first_edges mark = table_with tiled_edge_columns (
-    tiled_edge 1 (cross 1 2 1 ∷ plain 2 ∷ plain 2 ∷ plain 1 ∷ plain 2 ∷ cross 2 2 1 ∷ []) 0
-    ∷ tiled_edge 2 (plain 1 ∷ cross 2 2 2 ∷ cross 1 2 2 ∷ plain 2 ∷ cross 1 2 1 ∷ plain 1 ∷ []) mark ∷ [])
+    example_tiled_edge 1 (cross 1 2 1 ∷ plain 2 ∷ plain 2 ∷ plain 1 ∷ plain 2 ∷ cross 2 2 1 ∷ []) 0
+    ∷ example_tiled_edge 2 (plain 1 ∷ cross 2 2 2 ∷ cross 1 2 2 ∷ plain 2 ∷ cross 1 2 1 ∷ plain 1 ∷ []) mark ∷ [])
 
 -- those of the second
 abbrev pub second_edges : Grid
 second_edges = table_with tiled_edge_columns (
-    tiled_edge 1 (cross 2 1 2 ∷ plain 1 ∷ plain 2 ∷ plain 1 ∷ plain 2 ∷ cross 2 1 1 ∷ []) 0
-    ∷ tiled_edge 2 (cross 1 1 1 ∷ plain 2 ∷ plain 2 ∷ cross 1 1 2 ∷ plain 1 ∷ cross 1 1 1 ∷ []) 1 ∷ [])
+    example_tiled_edge 1 (cross 2 1 2 ∷ plain 1 ∷ plain 2 ∷ plain 1 ∷ plain 2 ∷ cross 2 1 1 ∷ []) 0
+    ∷ example_tiled_edge 2 (cross 1 1 1 ∷ plain 2 ∷ plain 2 ∷ cross 1 1 2 ∷ plain 1 ∷ cross 1 1 1 ∷ []) 1 ∷ [])
 
 -- the library of the two tiles, whose files stand behind that of the table of tiles
 abbrev pub tiles_with : ℕ → CoverageTables

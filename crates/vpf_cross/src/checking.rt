@@ -31,9 +31,9 @@ impl<'c, 'a> Model for Checked<'c, 'a> {
 
     ghost Value = { CoverageTables };
 
-    ghost use Rattle.vpf_cross.specs.Checked.{IsChecked, coverage_of};
+    ghost use Rattle.vpf_cross.specs.Checked.{IsChecked, checked_coverage};
 
-    ghost view = { coverage_of };
+    ghost view = { checked_coverage };
 
     ghost invariant = { IsChecked };
 }
@@ -125,7 +125,7 @@ impl<'c, 'a> Checked<'c, 'a> {
     }
 
     /// What is so of each: nothing disagrees in its topology.
-    pub fn agrees(&self)
+    pub fn topology_holds(&self)
         ensures { topology_finding self.now ≡ None }
     {
         let _coverage = self.coverage;

@@ -109,7 +109,7 @@ fn have_same_mark(
     ensures { result ≡ option_eq nat_eq (kth (primitives_of tile.now.tables).edges dart.edge absent_edge).mark
         (kth (primitives_of there.now.tables).edges home.edge absent_edge).mark }
 {
-    coverage.has_numbers();
+    coverage.numbers_hold();
     numbers_decide();
     tile.edge(dart.edge).line == there.edge(home.edge).line
 }

@@ -14,7 +14,7 @@ pub fn tiles_are_numbered(coverage: &Coverage<'_>)
     ensures few { HasFewEdges (library_of coverage.now) }
     ensures elsewhere { FacesAreElsewhere (coverage_links coverage.now) }
 {
-    coverage.is_library();
-    coverage.has_numbers();
+    coverage.tiles_make_library();
+    coverage.numbers_hold();
     numbers_decide();
 }

@@ -28,7 +28,7 @@ fn copy_in(followed: &Followed<'_, '_>, number: u32, home: TileDart) -> Option<T
     requires home { is_home (coverage_links followed.now) (tile_dart_code home) ≡ true }
     ensures { option_map tile_dart_code result ≡ copy_in_tile (coverage_links followed.now) number (tile_dart_code home) }
 {
-    followed.agrees();
+    followed.links_follow();
     // The number of its edge has 32 bits.
     let _edge = home.edge;
     if home.tile == number {

@@ -2,7 +2,7 @@
 use Rattle.std.proofs.Common.{◌≡◌, ℕ, zero, suc, true, false, not, ◌&&◌, sym, ap, ◌∙◌, inl, inr}
 use Rattle.std.proofs.lemmas.Bool.{cases_Bool, not-true, or_left, or_right}
 use Rattle.vpf_darts.specs.Darts.{flip}
-use Rattle.vpf_darts.specs.Laws.{ComesTo, FirstKeptDart}
+use Rattle.vpf_darts.specs.Laws.{ComesRoundTo, FirstKeptDart}
 use Rattle.vpf_darts.specs.Maps.{is_of_any}
 use Rattle.vpf_prims.specs.Primitives.{Primitives, untiled}
 use Rattle.vpf_wing.specs.DartLaws.{flip-has, never_both}
@@ -39,7 +39,7 @@ neither_within c plan t d n = record {
 
 -- a walk past absent edges ends with a face of the tile exactly where it began with one
 walk_side : (c : Primitives) (plan : ℕ → ℕ) → IsWellFormed c → (t k x y : ℕ) → (untiled_links c).has x ≡ true
-    → ComesTo (coverage_map c) (is_of_any flip (absent_darts c plan t)) k x y → is_within c plan t y ≡ is_within c plan t x
+    → ComesRoundTo (coverage_map c) (is_of_any flip (absent_darts c plan t)) k x y → is_within c plan t y ≡ is_within c plan t x
 walk_side c plan w t zero x y hx m = ap (is_within c plan t) (sym m.1)
 walk_side c plan w t (suc k) x y hx m = (
     let gone : is_present c plan t x ≡ false = not-true (is_present c plan t x) (sym (passed_is c plan t x hx) ∙ m.0) in

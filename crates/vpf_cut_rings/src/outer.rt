@@ -26,7 +26,7 @@ fn cycles_in(alloc: Global, cut: &Cut<'_, '_>, tile: u32) -> Result<Listing, All
     ensures { IfOk result (λ listing. IsListing (tile_map cut.now.source (plan_by cut.now.plan) tile).next
         (tile_map cut.now.source (plan_by cut.now.plan) tile).live (numbers_of listing)) }
 {
-    cut.is_planned();
+    cut.plan_holds();
     well_formed_has_map();
     let darts = darts_in(alloc, cut, tile)?;
     list_kept(alloc, &TileWalk { cut, tile }, &darts)
@@ -59,7 +59,7 @@ fn rings_of_cycles(
     ensures rings { IfOk result (λ rings. map ring_of rings.items ≡ outer_rings cut.now.source (plan_by cut.now.plan) tile) }
     ensures small { IfOk result (λ rings. All HasSmallNumbers rings.items) }
 {
-    cut.is_planned();
+    cut.plan_holds();
     outer_rings_begin_cycles();
     let mut rings = Vec::new(alloc);
     for i in 0..cycles.len() {

@@ -86,7 +86,7 @@ impl<'w, 'c, 'a> CutRings<'w, 'c, 'a> {
             ≡ map ring_of rings.old.items ++ face_rings self.now.source (plan_by self.now.plan) tile face) }
         ensures small { OnOk result (All HasSmallNumbers rings.new.items) }
     {
-        self.cut.is_planned();
+        self.cut.plan_holds();
         let number = self.cut.local_face(tile, face);
         for ring in self.by_face.in_tile(face) {
             let (_, start) = self.cut.source().ring(*ring);
@@ -103,7 +103,7 @@ impl<'w, 'c, 'a> CutRings<'w, 'c, 'a> {
         ensures few { IfOk result (λ rings. length rings.items < 2 ^ 26) }
         ensures small { IfOk result (λ rings. All HasSmallNumbers rings.items) }
     {
-        self.cut.is_planned();
+        self.cut.plan_holds();
         let _few = self.cut.source().rings();
         let mut rings = outer_rings(alloc, self.cut, tile)?;
         for face in self.cut.faces_in(tile) {

@@ -4,7 +4,7 @@ use Rattle.std.proofs.lemmas.Bool.{eq-eqb, ne_eqb}
 use Rattle.vpf_darts.specs.declared.darts.Dart.{Dart}
 use Rattle.vpf_darts.specs.declared.darts.TileDart.{TileDart}
 use Rattle.vpf_darts.specs.Darts.{code, dart_code, edge_in, flip, sign_of, tile_dart_code}
-use Rattle.vpf_darts.specs.Laws.{ComesTo, FirstKeptDart}
+use Rattle.vpf_darts.specs.Laws.{ComesRoundTo, FirstKeptDart}
 use Rattle.vpf_darts.specs.Maps.{DartMap, IsMap, is_of_any}
 use Rattle.vpf_prims.specs.Numbering.{IsRowOf}
 use Rattle.vpf_prims.specs.Primitives.{Primitives, cross}
@@ -135,7 +135,7 @@ pub is_passed_over : (c : Primitives) (plan : ℕ → ℕ) (t : ℕ) (d : TileDa
 is_passed_over c plan t d answer small h is =
     ap not (is ∙ sym (side_is c plan t d.edge d.minus) ∙ ap (is_present c plan t) (sym (same_code c d small h))) ∙ sym (passed_is c plan t (tile_dart_code d) h)
 
-kept_at_last : (m : DartMap) (passed : ℕ → Bool) (n x y : ℕ) → ComesTo m passed n x y → passed y ≡ false
+kept_at_last : (m : DartMap) (passed : ℕ → Bool) (n x y : ℕ) → ComesRoundTo m passed n x y → passed y ≡ false
 kept_at_last m passed zero x y h = subst (λ z. passed z ≡ false) h.1 h.0
 kept_at_last m passed (suc n) x y h = kept_at_last m passed n _ y h.1
 
@@ -210,7 +210,7 @@ node_there c plan t d node here there o on apart is number far =
     sym (with_home t o.home here there apart) ∙ node_reference c plan t d (dart_code o.next) o.home node here there on.next on.home is number far
 
 -- where the next of a dart is present in a tile, it is its next there
-comes_at_once : (m : DartMap) (passed : ℕ → Bool) (n x y : ℕ) → passed x ≡ false → ComesTo m passed n x y → x ≡ y
+comes_at_once : (m : DartMap) (passed : ℕ → Bool) (n x y : ℕ) → passed x ≡ false → ComesRoundTo m passed n x y → x ≡ y
 comes_at_once m passed zero x y kept h = h.1
 comes_at_once m passed (suc n) x y kept h = absurd (cc (sym h.0 ∙ kept))
 

@@ -13,7 +13,7 @@ use Rattle.vpf_prims.specs.Numbering.{IsRowOf}
 use Rattle.vpf_prims.specs.Primitives.{EdgePrimitive, Primitives, cross}
 use Rattle.vpf_prims.specs.References.{id_of, plain}
 use Rattle.vpf_tiling.specs.Presence.{has_node, head_of, local_node, present_edges, present_nodes}
-use Rattle.vpf_tiling.specs.PresenceLaws.{AtNode, at_node, no_node_zero, present_has, tail_in}
+use Rattle.vpf_tiling.specs.PresenceLaws.{AtNode, at_node, no_node_zero, present_has, tail_in_nodes}
 use Rattle.vpf_wing.specs.WellFormed.{IsWellFormed}
 use Rattle.vpf_tiling.specs.RankLaws.{count_is, numbered_append, numbered_many, rank_rises}
 use Rattle.vpf_tiling.specs.Ranks.{numbered, rank}
@@ -182,7 +182,7 @@ firsts_few c plan t k firsts all few f =
 pub node_within : (c : Primitives) (plan : ℕ → ℕ) (t n : ℕ) → IsWellFormed c → has_node c plan t n ≡ true → IsRowOf (length (present_nodes c plan t)) (local_node c plan t n)
 node_within c plan t n w h =
     let a : AtNode c plan t n = at_node c plan t n h in
-    let top : n ≤ length c.nodes = subst (λ k. k ≤ length c.nodes) a.tail (tail_in c w a.dart (present_has c plan t a.dart a.present)).to_last in
+    let top : n ≤ length c.nodes = subst (λ k. k ≤ length c.nodes) a.tail (tail_in_nodes c w a.dart (present_has c plan t a.dart a.present)).to_last in
     let many : length (present_nodes c plan t) ≡ rank (has_node c plan t) (suc (length c.nodes)) = count_is (has_node c plan t) (no_node_zero c plan w t) (length c.nodes) in
     let below : rank (has_node c plan t) n < rank (has_node c plan t) (suc (length c.nodes)) = rank_rises (has_node c plan t) n (length c.nodes) h top in
     (omega arith, omega arith)

@@ -6,12 +6,12 @@ use Rattle.std.proofs.lemmas.Bool.{and_parts, leb-true}
 use Rattle.std.proofs.lemmas.List.Elements.{All-filter, All-from_get_or, filter_passes}
 use Rattle.std.proofs.lemmas.List.FromFn.{get_or-range_with_len, length-range_with_len}
 use Rattle.std.proofs.lemmas.List.Sums.{count_by-le-length, length-filter}
-use Rattle.vpf_copies.specs.Presence.{Presence, items_in, local_number, rank}
+use Rattle.vpf_copies.specs.Presence.{Presence, items_in, local_number, rank_up_to}
 use Rattle.vpf_prims.specs.Numbering.{IsRowOf}
 use Rattle.vpf_prims.specs.Primitives.{Primitives}
 use Rattle.vpf_tiling.specs.Laws.{EdgesAreCounted, FacesAreCounted, NodesAreCounted}
 use Rattle.vpf_tiling.specs.Presence.{has_edge, has_node, holds_face, local_edge, local_face, local_node}
-use Rattle.vpf_tiling.specs.PresenceLaws.{AtNode, at_node, present_has, tail_in}
+use Rattle.vpf_tiling.specs.PresenceLaws.{AtNode, at_node, present_has, tail_in_nodes}
 use Rattle.vpf_tiling.specs.Ranks.{up_to}
 use Rattle.vpf_wing.specs.WellFormed.{IsWellFormed}
 use Rattle.vpf_cutting.specs.Cuts.{ArePresent}
@@ -45,8 +45,8 @@ few_pass test n xs is few =
 pub number_is : (n tiles : ℕ) (test : ℕ → ℕ → Bool) (p : Presence) → ArePresent n tiles test p → (t i : ℕ) → test t i ≡ true
     → local_number p t i ≡ Some (count_by (test t) (range_with_len 1 i))
 number_is n tiles test p is t i h =
-    ap (λ (q : ℕ → ℕ → Bool). cond (q t i) (Some (rank (q t) i)) None) is.tests
-    ∙ ap (λ b. cond b (Some (rank (test t) i)) None) h
+    ap (λ (q : ℕ → ℕ → Bool). cond (q t i) (Some (rank_up_to (q t) i)) None) is.tests
+    ∙ ap (λ b. cond b (Some (rank_up_to (test t) i)) None) h
 
 counted_to : (test : ℕ → Bool) (i : ℕ) → count_by test (range_with_len 1 i) ≤ i
 counted_to test i =
@@ -65,7 +65,7 @@ pub node_few : NodesAreCounted → (c : Primitives) (plan : ℕ → ℕ) (t n : 
     → local_node c plan t n < 2 ^ 24
 node_few law c plan t n w few h =
     let a : AtNode c plan t n = at_node c plan t n h in
-    let top : n ≤ length c.nodes = subst (λ k. k ≤ length c.nodes) a.tail (tail_in c w a.dart (present_has c plan t a.dart a.present)).to_last in
+    let top : n ≤ length c.nodes = subst (λ k. k ≤ length c.nodes) a.tail (tail_in_nodes c w a.dart (present_has c plan t a.dart a.present)).to_last in
     let is : local_node c plan t n ≡ count_by (has_node c plan t) (range_with_len 1 n) = law c plan w t n h in
     let to : count_by (has_node c plan t) (range_with_len 1 n) ≤ n = counted_to (has_node c plan t) n in
     omega arith

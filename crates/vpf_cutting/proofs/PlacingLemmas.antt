@@ -11,7 +11,7 @@ use Rattle.std.proofs.lemmas.List.Folds.{list_any-append}
 use Rattle.vpf_copies.specs.declared.edges.EdgeNodes.{EdgeNodes}
 use Rattle.vpf_copies.specs.declared.edges.EdgeTiles.{EdgeTiles}
 use Rattle.vpf_copies.specs.Placing.{AreNodes, AreTiles, has_end, is_at, is_beside, is_end, is_side, no_nodes, no_tiles}
-use Rattle.vpf_copies.specs.Presence.{Presence, has, present}
+use Rattle.vpf_copies.specs.Presence.{Presence, has, presence_of}
 use Rattle.vpf_darts.specs.Darts.{code, flip}
 use Rattle.vpf_prims.specs.Lists.{kth}
 use Rattle.vpf_prims.specs.Numbering.{IsRowOf}
@@ -290,7 +290,7 @@ nodes_at_ends c plan few p many is = fun_ext (λ t. fun_ext (λ n.
 
 -- copies that are made by a test
 pub copies_made : {E : Type 0} → (r : Result Presence E) (items count tiles : ℕ) (test wanted : ℕ → ℕ → Bool) → items ≡ count → count < 2 ^ 24 → test ≡ wanted
-    → IfOk r (λ copies. copies ≡ present items tiles test) → IfOk r (λ copies. has copies ≡ test) → IfOk r (ArePresent count tiles wanted)
+    → IfOk r (λ copies. copies ≡ presence_of items tiles test) → IfOk r (λ copies. has copies ≡ test) → IfOk r (ArePresent count tiles wanted)
 copies_made (Ok p) items count tiles test wanted many few same made tests = record {
   items = ap (λ (q : Presence). q.items) made ∙ many;
   tiles = ap (λ (q : Presence). q.tiles) made;

@@ -106,7 +106,7 @@ impl<'c, 'a> Cut<'c, 'a> {
     }
 
     /// What is so of each cut: its plan is one by which the coverage may be tiled.
-    pub fn is_planned(&self)
+    pub fn plan_holds(&self)
         ensures { IsPlanned self.now }
     {
         let _tile = self.tile;
@@ -255,7 +255,7 @@ impl<'c, 'a> Cut<'c, 'a> {
         ensures there { is_present self.now.source (plan_by self.now.plan) result (dart_code dart) ≡ true }
         ensures few { result < 2 ^ 31 }
     {
-        self.is_planned();
+        self.plan_holds();
         let face = self.face(dart);
         if face == 1 {
             self.tile_of_face(self.face(flip(dart)))

@@ -46,7 +46,7 @@ impl<'c, 'a> Cut<'c, 'a> {
         ensures start_row { IsRowOf (length (present_nodes self.now.source (plan_by self.now.plan) tile)) result.start }
         ensures end_row { IsRowOf (length (present_nodes self.now.source (plan_by self.now.plan) tile)) result.end }
     {
-        self.is_planned();
+        self.plan_holds();
         let plus = Dart { edge, minus: false };
         let minus = flip(plus);
         let start = self.head(minus);

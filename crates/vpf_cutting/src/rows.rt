@@ -89,7 +89,7 @@ impl<'c, 'a> Cut<'c, 'a> {
         ensures value { result ≡ tiled_node self.now.source (plan_by self.now.plan) tile (dart_code dart) }
         ensures small { HasSmallParts result }
     {
-        self.is_planned();
+        self.plan_holds();
         let node = self.head(dart);
         let here = self.local_node(tile, node);
         if onward.home == tile {
@@ -106,7 +106,7 @@ impl<'c, 'a> Cut<'c, 'a> {
         ensures value { result ≡ tiled_wing self.now.source (plan_by self.now.plan) tile (dart_code dart) }
         ensures small { HasSmallParts result }
     {
-        self.is_planned();
+        self.plan_holds();
         // A next dart that has its home here is the next one here.
         if onward.home == tile {
             well_formed_has_map();
@@ -125,7 +125,7 @@ impl<'c, 'a> Cut<'c, 'a> {
         ensures value { result ≡ tiled_face self.now.source (plan_by self.now.plan) tile face }
         ensures small { HasSmallParts result }
     {
-        self.is_planned();
+        self.plan_holds();
         if face == 1 {
             return plain(1);
         }

@@ -56,7 +56,7 @@ impl<'c, 'a> Cut<'c, 'a> {
         ensures next { dart_code result ≡ (tile_map self.now.source (plan_by self.now.plan) tile).next (dart_code dart) }
         ensures there { is_present self.now.source (plan_by self.now.plan) tile (dart_code result) ≡ true }
     {
-        self.is_planned();
+        self.plan_holds();
         well_formed_has_map();
         first_kept_dart();
         let from = TileDart {

@@ -8,7 +8,7 @@ use Rattle.vpf_darts.specs.declared.darts.Dart.{Dart}
 use Rattle.vpf_darts.specs.declared.darts.TileDart.{TileDart}
 use Rattle.vpf_darts.specs.Darts.{dart_code, tile_dart_code, flip, code, sign_of}
 use Rattle.vpf_darts.specs.Maps.{DartMap, IsMap, AreEdges, SameMap, is_of_any, without}
-use Rattle.vpf_darts.specs.MapLists.{MapLists, AreMapLists, is_among, dart_map, edges_of, next_of}
+use Rattle.vpf_darts.specs.MapLists.{MapLists, AreMapLists, is_among, dart_map, edges_of, list_next}
 use Rattle.vpf_darts.proofs.DartLemmas.{untiled, dart_code-half}
 use Rattle.vpf_darts.proofs.EdgeLemmas.{is_of_marked, edges_from-among}
 use Rattle.vpf_darts.proofs.NextLemmas.{numbers, among_bounds}
@@ -47,25 +47,25 @@ pushed_more xs x k f len before here d h = elim (cases_lt d k) [
 pub numbers-push : (next : List Dart) (x : Dart) → numbers (next ++ x ∷ []) ≡ numbers next ++ dart_code x ∷ []
 numbers-push next x = ap (λ xs. 0 ∷ 1 ∷ xs) (map-append dart_code next (x ∷ []))
 
-pub next_pushed : (next : List Dart) (x : Dart) (k : ℕ) (f : ℕ → ℕ) → length next ≡ k → ((d : ℕ) → d < k + 2 → next_of next d ≡ f d) → dart_code x ≡ f (k + 2) → (d : ℕ) → d < k + 1 + 2 → next_of (next ++ x ∷ []) d ≡ f d
+pub next_pushed : (next : List Dart) (x : Dart) (k : ℕ) (f : ℕ → ℕ) → length next ≡ k → ((d : ℕ) → d < k + 2 → list_next next d ≡ f d) → dart_code x ≡ f (k + 2) → (d : ℕ) → d < k + 1 + 2 → list_next (next ++ x ∷ []) d ≡ f d
 next_pushed next x k f len before here d h =
     let len' : length (map dart_code next) ≡ length next = length-map next dart_code in
     ap (λ xs. get_or xs d d) (numbers-push next x) ∙ pushed_more (numbers next) (dart_code x) (k + 2) f (omega arith) before here d (omega arith)
 
 -- before any dart is looked at
-pub next_at_start : (m : MapLists) → AreMapLists m → (lines : List Bool) → length lines ≡ length m.live → (d : ℕ) → d < 2 → next_of [] d ≡ (without (dart_map m) (edges_of lines)).next d
+pub next_at_start : (m : MapLists) → AreMapLists m → (lines : List Bool) → length lines ≡ length m.live → (d : ℕ) → d < 2 → list_next [] d ≡ (without (dart_map m) (edges_of lines)).next d
 next_at_start m h lines same zero lt = sym (outside_stays (dart_map m) (edges_of lines) h.is_map (are_lines m h lines same) 0 refl)
 next_at_start m h lines same (suc zero) lt = sym (outside_stays (dart_map m) (edges_of lines) h.is_map (are_lines m h lines same) 1 refl)
 next_at_start m h lines same (suc (suc d)) lt = absurd (omega arith)
 
 -- once all darts are looked at
-pub next_at_end : (m : MapLists) → AreMapLists m → (lines : List Bool) → length lines ≡ length m.live → (next : List Dart) (k : ℕ) → length next ≡ k → 2 * length lines ≤ k → ((d : ℕ) → d < k + 2 → next_of next d ≡ (without (dart_map m) (edges_of lines)).next d) → (d : ℕ) → next_of next d ≡ (without (dart_map m) (edges_of lines)).next d
+pub next_at_end : (m : MapLists) → AreMapLists m → (lines : List Bool) → length lines ≡ length m.live → (next : List Dart) (k : ℕ) → length next ≡ k → 2 * length lines ≤ k → ((d : ℕ) → d < k + 2 → list_next next d ≡ (without (dart_map m) (edges_of lines)).next d) → (d : ℕ) → list_next next d ≡ (without (dart_map m) (edges_of lines)).next d
 next_at_end m h lines same next k len all before d =
     let len' : length (map dart_code next) ≡ length next = length-map next dart_code in
     elim (cases_lt d (k + 2)) [
       | inl lt ↦ before d lt
       | inr ge ↦ (
-          let past : next_of next d ≡ d = get_or_past (numbers next) d d (omega arith) in
+          let past : list_next next d ≡ d = get_or_past (numbers next) d d (omega arith) in
           let dead : get_or (false ∷ m.live) (d / 2) false ≡ false = get_or_past (false ∷ m.live) (d / 2) false (omega arith) in
           past ∙ sym (outside_stays (dart_map m) (edges_of lines) h.is_map (are_lines m h lines same) d dead))
     ]
@@ -92,7 +92,7 @@ left_at live lines (suc k) same = left_read live lines k same
 abbrev pub lists_left : MapLists → List Bool → List Dart → MapLists
 lists_left m lines new = record { next = map dart_code new; tail = m.tail; face = m.face; live = map (λ p. p.0 && not p.1) (zip m.live lines) }
 
-pub same_map_left : (m : MapLists) (lines : List Bool) (new : List Dart) → length lines ≡ length m.live → length new ≡ length m.next → ((d : ℕ) → next_of new d ≡ (without (dart_map m) (edges_of lines)).next d) → SameMap (dart_map (lists_left m lines new)) (without (dart_map m) (edges_of lines))
+pub same_map_left : (m : MapLists) (lines : List Bool) (new : List Dart) → length lines ≡ length m.live → length new ≡ length m.next → ((d : ℕ) → list_next new d ≡ (without (dart_map m) (edges_of lines)).next d) → SameMap (dart_map (lists_left m lines new)) (without (dart_map m) (edges_of lines))
 same_map_left m lines new same len nexts = record {
   has = λ d. ap (λ n. is_among n d) (length-map new dart_code ∙ len) ∙ sym (has_without_all (dart_map m) (edges_of lines) d);
   next = nexts;
@@ -112,7 +112,7 @@ IsMap-same m n s h = record {
   flip_apart = λ d l e. h.flip_apart d (sym (s.has d) ∙ l) (sym (s.flip d) ∙ e);
 }
 
-pub are_lists_left : (m : MapLists) → AreMapLists m → (lines : List Bool) (new : List Dart) → length lines ≡ length m.live → length new ≡ length m.next → ((d : ℕ) → next_of new d ≡ (without (dart_map m) (edges_of lines)).next d) → AreMapLists (lists_left m lines new)
+pub are_lists_left : (m : MapLists) → AreMapLists m → (lines : List Bool) (new : List Dart) → length lines ≡ length m.live → length new ≡ length m.next → ((d : ℕ) → list_next new d ≡ (without (dart_map m) (edges_of lines)).next d) → AreMapLists (lists_left m lines new)
 are_lists_left m h lines new same len nexts =
     let next_len : length (map dart_code new) ≡ length m.next = length-map new dart_code ∙ len in
     let live_len : length (map (λ p. p.0 && not p.1) (zip m.live lines)) ≡ length m.live = length-left m.live lines same in

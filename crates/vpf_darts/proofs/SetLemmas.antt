@@ -5,12 +5,12 @@ use Rattle.std.proofs.lemmas.Bool.{cases_Bool}
 use Rattle.vpf_base.proofs.Booleans.{clash}
 use Rattle.vpf_darts.specs.Cycles.{count_of, BeginsWithLeast, FirstsRise, first_of}
 use Rattle.vpf_darts.specs.Maps.{DartMap, IsMap, turn, is_of_any, without}
-use Rattle.vpf_darts.specs.Laws.{IsRenaming, RenamingGivesAMap, RenamingKeepsRemoval, RemovalIsOfASet, RisingRenamingKeepsListing, Rises, ComesTo}
+use Rattle.vpf_darts.specs.Laws.{IsRenaming, RenamingGivesAMap, RenamingKeepsRemoval, RemovalIsOfASet, RisingRenamingKeepsListing, Rises, ComesRoundTo}
 use Rattle.vpf_darts.proofs.WithoutLemmas.{comes_from, live_turn, live_without_all, passes_over, removed_stays, flip_without_all}
 use Rattle.vpf_darts.proofs.RenameLemmas.{AllLive, takes_cycles, lists_live, live_from_count}
 
 -- a walk over two maps that turn alike comes to one dart
-pub one_end : (m : DartMap) (p q : ℕ → Bool) → ((x : ℕ) → p x ≡ q x) → (j k x y z : ℕ) → ComesTo m p j x y → ComesTo m q k x z → y ≡ z
+pub one_end : (m : DartMap) (p q : ℕ → Bool) → ((x : ℕ) → p x ≡ q x) → (j k x y z : ℕ) → ComesRoundTo m p j x y → ComesRoundTo m q k x z → y ≡ z
 one_end m p q same zero zero x y z a b = sym a.1 ∙ b.1
 one_end m p q same zero (suc k) x y z a b = absurd (clash (q x) b.0 (sym (same x) ∙ a.0))
 one_end m p q same (suc j) zero x y z a b = absurd (clash (p x) a.0 (same x ∙ b.0))
@@ -26,15 +26,15 @@ without-same_set m es fs h he hf same d = elim (cases_Bool (is_of_any m.flip es 
 ]
 
 -- a walk is renamed with the map
-pub renamed_walk : (m n : DartMap) (f back : ℕ → ℕ) → IsMap m → IsRenaming m n f back → (p q : ℕ → Bool) → ((x : ℕ) → m.live x ≡ true → q (f x) ≡ p x) → (k x y : ℕ) → m.live x ≡ true → ComesTo m p k x y → ComesTo n q k (f x) (f y)
+pub renamed_walk : (m n : DartMap) (f back : ℕ → ℕ) → IsMap m → IsRenaming m n f back → (p q : ℕ → Bool) → ((x : ℕ) → m.live x ≡ true → q (f x) ≡ p x) → (k x y : ℕ) → m.live x ≡ true → ComesRoundTo m p k x y → ComesRoundTo n q k (f x) (f y)
 renamed_walk m n f back h r p q same zero x y l c = (same x l ∙ c.0, ap f c.1)
 renamed_walk m n f back h r p q same (suc k) x y l c =
     let hx : m.has x ≡ true = h.live_has x l in
     let lf : m.live (m.flip x) ≡ true = h.flip_live x hx ∙ l in
     let is : f (turn m x) ≡ turn n (f x) = sym (r.next (m.flip x) lf) ∙ ap n.next (sym (r.flip x l)) in
     let lt : m.live (turn m x) ≡ true = live_turn m h x hx ∙ l in
-    let rest : ComesTo n q k (f (turn m x)) (f y) = renamed_walk m n f back h r p q same k (turn m x) y lt c.1 in
-    let rest' : ComesTo n q k (turn n (f x)) (f y) = rw is at rest in
+    let rest : ComesRoundTo n q k (f (turn m x)) (f y) = renamed_walk m n f back h r p q same k (turn m x) y lt c.1 in
+    let rest' : ComesRoundTo n q k (turn n (f x)) (f y) = rw is at rest in
     (same x l ∙ c.0, rest')
 
 pub and_left : (a b : Bool) → (a && not b) ≡ true → (a ≡ true) × (b ≡ false)
@@ -59,8 +59,8 @@ renaming_without m n f back es fs hm hn r he hf same =
           let k : (m.live d ≡ true) × (is_of_any m.flip es d ≡ false) = kept d l in
           let a = passes_over m es d hm he k.1 in
           let b = passes_over n fs (f d) hn hf (same d k.0 ∙ k.1) in
-          let w : ComesTo n (is_of_any n.flip fs) a.0 (f (m.next d)) (f ((without m es).next d)) = renamed_walk m n f back hm r (is_of_any m.flip es) (is_of_any n.flip fs) same a.0 (m.next d) _ (hm.next_live d ∙ k.0) a.2 in
-          let w' : ComesTo n (is_of_any n.flip fs) a.0 (n.next (f d)) (f ((without m es).next d)) = comes_from n (is_of_any n.flip fs) a.0 (f (m.next d)) (n.next (f d)) _ (sym (r.next d k.0)) w in
+          let w : ComesRoundTo n (is_of_any n.flip fs) a.0 (f (m.next d)) (f ((without m es).next d)) = renamed_walk m n f back hm r (is_of_any m.flip es) (is_of_any n.flip fs) same a.0 (m.next d) _ (hm.next_live d ∙ k.0) a.2 in
+          let w' : ComesRoundTo n (is_of_any n.flip fs) a.0 (n.next (f d)) (f ((without m es).next d)) = comes_from n (is_of_any n.flip fs) a.0 (f (m.next d)) (n.next (f d)) _ (sym (r.next d k.0)) w in
           one_end n (is_of_any n.flip fs) (is_of_any n.flip fs) (λ x. refl) b.0 a.0 (n.next (f d)) _ _ b.2 w');
       flip = λ d l. flip_without_all n fs (f d) ∙ r.flip d (kept d l).0 ∙ ap f (sym (flip_without_all m es d));
     }

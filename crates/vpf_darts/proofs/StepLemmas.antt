@@ -3,7 +3,7 @@ use Rattle.std.proofs.Common.{◌≡◌, ℕ, zero, suc, ◌<◌, ◌≤◌, Boo
 use Rattle.std.proofs.lemmas.Bool.{cases_Bool}
 use Rattle.vpf_base.proofs.Booleans.{clash}
 use Rattle.vpf_darts.specs.Maps.{DartMap, IsMap, AreEdges, turn, is_of_any, without}
-use Rattle.vpf_darts.specs.Laws.{ComesTo}
+use Rattle.vpf_darts.specs.Laws.{ComesRoundTo}
 use Rattle.vpf_darts.proofs.WithoutLemmas.{passes_over, comes_from}
 
 -- how many are passed over from x on, of the first n
@@ -11,7 +11,7 @@ abbrev pub steps_to : DartMap → (ℕ → Bool) → ℕ → ℕ → ℕ
 steps_to m passed zero x = zero
 steps_to m passed (suc n) x = cond (passed x) (suc (steps_to m passed n (turn m x))) zero
 
-pub steps_to_is : (m : DartMap) (passed : ℕ → Bool) (k n x y : ℕ) → k ≤ n → ComesTo m passed k x y → steps_to m passed n x ≡ k
+pub steps_to_is : (m : DartMap) (passed : ℕ → Bool) (k n x y : ℕ) → k ≤ n → ComesRoundTo m passed k x y → steps_to m passed n x ≡ k
 steps_to_is m passed zero zero x y h c = refl
 steps_to_is m passed zero (suc n) x y h c = rw c.0 refl
 steps_to_is m passed (suc k) zero x y h c = absurd (omega arith)
@@ -21,16 +21,16 @@ steps_to_is m passed (suc k) (suc n) x y h c = rw c.0 (ap suc (steps_to_is m pas
 pub record IsOnWay (m : DartMap) (passed : ℕ → Bool) (fuel x y : ℕ) : Type 0 where
   pub left : ℕ
   pub few : left ≤ fuel
-  pub comes : ComesTo m passed left x y
+  pub comes : ComesRoundTo m passed left x y
 
-pub one_more : (m : DartMap) (passed : ℕ → Bool) (fuel x y : ℕ) → (left : ℕ) → left ≤ fuel → ComesTo m passed left x y → passed x ≡ true → (IsOnWay m passed fuel (turn m x) y) × (steps_to m passed fuel (turn m x) < steps_to m passed fuel x)
+pub one_more : (m : DartMap) (passed : ℕ → Bool) (fuel x y : ℕ) → (left : ℕ) → left ≤ fuel → ComesRoundTo m passed left x y → passed x ≡ true → (IsOnWay m passed fuel (turn m x) y) × (steps_to m passed fuel (turn m x) < steps_to m passed fuel x)
 one_more m passed fuel x y zero few c p = absurd (clash (passed x) p c.0)
 one_more m passed fuel x y (suc k) few c p =
     let a : steps_to m passed fuel x ≡ suc k = steps_to_is m passed (suc k) fuel x y few c in
     let b : steps_to m passed fuel (turn m x) ≡ k = steps_to_is m passed k fuel (turn m x) y (omega arith) c.1 in
     (record { left = k; few = omega arith; comes = c.1 }, omega arith)
 
-pub arrived : (m : DartMap) (passed : ℕ → Bool) (left x y : ℕ) → ComesTo m passed left x y → passed x ≡ false → x ≡ y
+pub arrived : (m : DartMap) (passed : ℕ → Bool) (left x y : ℕ) → ComesRoundTo m passed left x y → passed x ≡ false → x ≡ y
 arrived m passed zero x y c p = c.1
 arrived m passed (suc k) x y c p = absurd (clash (passed x) c.0 p)
 

@@ -5,15 +5,15 @@ use Rattle.vpf_darts.specs.Cycles.{AreCycles, IsCycle, IsListing, first_of}
 use Rattle.vpf_darts.specs.Maps.{DartMap, IsMap, AreEdges, SameMap, turn, is_of_any, without, without_edge}
 
 -- y is the first of x, the next dart round its tail, and so on that is not passed over, and k are
-abbrev pub ComesTo : DartMap → (ℕ → Bool) → ℕ → ℕ → ℕ → Type 0
-ComesTo m passed zero x y = (passed x ≡ false) × (x ≡ y)
-ComesTo m passed (suc k) x y = (passed x ≡ true) × ComesTo m passed k (turn m x) y
+abbrev pub ComesRoundTo : DartMap → (ℕ → Bool) → ℕ → ℕ → ℕ → Type 0
+ComesRoundTo m passed zero x y = (passed x ≡ false) × (x ≡ y)
+ComesRoundTo m passed (suc k) x y = (passed x ≡ true) × ComesRoundTo m passed k (turn m x) y
 
 -- in a map without some edges, the next of a kept dart is the first kept dart among its next, the one
 -- after that round its tail, and so on
 abbrev pub FirstKeptDart : Type 0
 FirstKeptDart = (m : DartMap) (es : List ℕ) (d : ℕ) → IsMap m → AreEdges m es → is_of_any m.flip es d ≡ false
-    → (k : ℕ) × (k < 3 ^ length es) × ComesTo m (is_of_any m.flip es) k (m.next d) ((without m es).next d)
+    → (k : ℕ) × (k < 3 ^ length es) × ComesRoundTo m (is_of_any m.flip es) k (m.next d) ((without m es).next d)
 
 -- a map without any set of edges is a map
 abbrev pub RemovalLeavesAMap : Type 0

@@ -29,12 +29,12 @@ dart_map m = record {
 }
 
 -- the tail node of a dart
-abbrev pub tail_of : MapLists → ℕ → ℕ
-tail_of m dart = slice_index m.tail (dart_place dart)
+abbrev pub list_tail : MapLists → ℕ → ℕ
+list_tail m dart = slice_index m.tail (dart_place dart)
 
 -- the face of a dart: the right face of e+, the left face of e-
-abbrev pub face_of : MapLists → ℕ → ℕ
-face_of m dart = slice_index m.face (dart_place dart)
+abbrev pub list_face : MapLists → ℕ → ℕ
+list_face m dart = slice_index m.face (dart_place dart)
 
 -- the lists have two darts an edge, fewer than 2^32 edges, and are a map
 pub record AreMapLists (m : MapLists) : Type 0 where
@@ -61,8 +61,8 @@ abbrev pub lists_of : List Dart → List ℕ → List ℕ → MapLists
 lists_of next tail face = record { next = map dart_code next; tail = tail; face = face; live = replicate (length next / 2) true }
 
 -- the number of the next of the dart with this number, in a list of nexts
-abbrev pub next_of : List Dart → ℕ → ℕ
-next_of next d = slice_index_or (0 ∷ 1 ∷ map dart_code next) d d
+abbrev pub list_next : List Dart → ℕ → ℕ
+list_next next d = slice_index_or (0 ∷ 1 ∷ map dart_code next) d d
 
 -- dart is the least whose next an earlier dart has
 pub record IsFirstRepeat (m : DartMap) (dart : ℕ) : Type 0 where

@@ -4,7 +4,7 @@ ghost use Rattle.std.specs.Prelude.{◌≡◌, ℕ, ◌+◌, ◌^◌, ◌<◌, �
 ghost use Rattle.vpf_darts.specs.Cycles.{IsListing};
 ghost use Rattle.vpf_darts.specs.Darts.{tile_dart_code};
 ghost use Rattle.vpf_darts.specs.Listings.{numbers_of};
-ghost use Rattle.vpf_darts.specs.MapLists.{AreMapLists, IsInRange, dart_map, is_among, next_of};
+ghost use Rattle.vpf_darts.specs.MapLists.{AreMapLists, IsInRange, dart_map, is_among, list_next};
 ghost use Rattle.vpf_darts.specs.Ranks.{AddsCycle, IsClosed, IsRankedListing, IsRanking, marked};
 
 use crate::darts::{Dart, TileDart};
@@ -164,13 +164,13 @@ struct Permuted<'a> {
 
 impl Ranked for Permuted<'_> {
     ghost use Rattle.std.specs.Prelude.{◌+◌, length};
-    ghost use Rattle.vpf_darts.specs.MapLists.{is_among, next_of};
+    ghost use Rattle.vpf_darts.specs.MapLists.{is_among, list_next};
 
     ghost count = { λ s. length s.next.now + 2 };
 
     ghost code = { λ _ d. d };
 
-    ghost next = { λ s. next_of s.next.now };
+    ghost next = { λ s. list_next s.next.now };
 
     ghost live = { λ s. is_among (length s.next.now) };
 
@@ -200,8 +200,8 @@ impl Ranked for Permuted<'_> {
 pub fn cycles_of(alloc: Global, next: &[Dart]) -> Result<Listing, AllocError>
     requires few { length next.now + 2 ≤ 2 ^ 33 }
     requires in_range { All (IsInRange (length next.now)) next.now }
-    requires permutation { IsRanking (length next.now + 2) (next_of next.now) (is_among (length next.now)) }
-    ensures listing { IfOk result (λ listing. IsListing (next_of next.now) (is_among (length next.now)) (numbers_of listing)) }
+    requires permutation { IsRanking (length next.now + 2) (list_next next.now) (is_among (length next.now)) }
+    ensures listing { IfOk result (λ listing. IsListing (list_next next.now) (is_among (length next.now)) (numbers_of listing)) }
     ensures untiled { IfOk result (All (All (λ d. d.tile ≡ 0))) }
 {
     list_cycles(alloc, &Permuted { next })

@@ -3,7 +3,7 @@
 ghost use Rattle.std.specs.Prelude.{◌≡◌, ◌↔◌, ◌/◌, ◌^◌, ◌<◌, IsTrue, IfOk, IfErr, OnOk, length, true, vec_len};
 ghost use Rattle.vpf_darts.specs.Darts.{dart_code};
 ghost use Rattle.vpf_darts.specs.Maps.{IsMap};
-ghost use Rattle.vpf_darts.specs.MapLists.{AreMapLists, AreOfDarts, IsFirstRepeat, dart_map, lists_of, tail_of, face_of};
+ghost use Rattle.vpf_darts.specs.MapLists.{AreMapLists, AreOfDarts, IsFirstRepeat, dart_map, lists_of, list_tail, list_face};
 ghost use Rattle.vpf_darts.specs.MapError.{IfNotPermutation};
 
 use crate::darts::Dart;
@@ -147,7 +147,7 @@ impl Map {
     /// The node that the dart runs from.
     pub fn tail(&self, dart: Dart) -> u32
         requires { (dart_map self.now).has (dart_code dart) ≡ true }
-        ensures { result ≡ tail_of self.now (dart_code dart) }
+        ensures { result ≡ list_tail self.now (dart_code dart) }
     {
         self.tail[dart.number() - FIRST]
     }
@@ -155,7 +155,7 @@ impl Map {
     /// The face that the dart runs round: the right face of `e+`, the left face of `e-`.
     pub fn face(&self, dart: Dart) -> u32
         requires { (dart_map self.now).has (dart_code dart) ≡ true }
-        ensures { result ≡ face_of self.now (dart_code dart) }
+        ensures { result ≡ list_face self.now (dart_code dart) }
     {
         self.face[dart.number() - FIRST]
     }

@@ -4,7 +4,7 @@ ghost use Rattle.std.specs.Prelude.{◌≡◌, ℕ, ◌&&◌, not, IfOk, All, le
 ghost use Rattle.std.specs.List.{zip};
 ghost use Rattle.vpf_darts.specs.Darts.{dart_code};
 ghost use Rattle.vpf_darts.specs.Maps.{SameMap, without};
-ghost use Rattle.vpf_darts.specs.MapLists.{AreMapLists, IsInRange, dart_map, edges_of, next_of};
+ghost use Rattle.vpf_darts.specs.MapLists.{AreMapLists, IsInRange, dart_map, edges_of, list_next};
 
 use crate::darts::{Dart, TileDart};
 use crate::maps::{FIRST, Map};
@@ -55,7 +55,7 @@ fn next_left(kept: &Kept<'_>, dart: Dart) -> Dart
 fn nexts_left(alloc: Global, kept: &Kept<'_>) -> Result<Vec<Dart>, AllocError>
     ensures len { IfOk result (λ nexts. length nexts.items ≡ length kept.now.map.now.next) }
     ensures in_range { IfOk result (λ nexts. All (IsInRange (length kept.now.map.now.next)) nexts.items) }
-    ensures next { IfOk result (λ nexts. (d : ℕ) → next_of nexts.items d ≡ (without (dart_map kept.now.map.now) (edges_of kept.now.lines.now)).next d) }
+    ensures next { IfOk result (λ nexts. (d : ℕ) → list_next nexts.items d ≡ (without (dart_map kept.now.map.now) (edges_of kept.now.lines.now)).next d) }
 {
     let darts = 2 * kept.lines.len();
     let mut nexts = Vec::with_capacity(alloc, darts)?;

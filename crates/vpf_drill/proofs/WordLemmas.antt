@@ -12,7 +12,7 @@ use Rattle.std.proofs.lemmas.Int.Digits.{digits_value-lt}
 use Rattle.std.proofs.lemmas.Str.Parse.{without_leading_plus_none}
 use Rattle.vpf_base.proofs.Booleans.{both}
 use Rattle.vpf_base.proofs.Digits.{all_at, digit_is}
-use Rattle.vpf_drill.specs.Request.{CanBeAsked, RequestsCanBeAsked, are_few_digits, cells_of, is_side, number_in}
+use Rattle.vpf_drill.specs.Request.{CanBeAsked, RequestsCanBeAsked, are_few_digits, side_cells, is_grid_side, side_in}
 
 -- digits of base 10 are such
 all_are : (ds : List ℕ) → list_all is_ascii_digit ds ≡ true → AllDigits 10 ds
@@ -44,21 +44,21 @@ parsed ds (Err e) h p =
     absurd (p (subst (IsNumeral 10) (sym is.0) is.1, subst (λ bs. digits_value 10 bs < 2 ^ 32) (sym is.0) is.2))
 
 -- what is asked for can be
-side_is : (n : ℕ) → is_side n ≡ true → CanBeAsked n
+side_is : (n : ℕ) → is_grid_side n ≡ true → CanBeAsked n
 side_is n h =
     let outer = both (n % 2 == 0) (nat_le 2 n && nat_le n 200) h in
     let inner = both (nat_le 2 n) (nat_le n 200) outer.1 in
     record { even = eqb-true (n % 2) 0 outer.0; least = leb-true 2 n inner.0; most = leb-true n 200 inner.1 }
 
-cells_are : (o : Option ℕ) (n : ℕ) → cells_of o ≡ Some n → CanBeAsked n
+cells_are : (o : Option ℕ) (n : ℕ) → side_cells o ≡ Some n → CanBeAsked n
 cells_are None n e = absurd cc
-cells_are (Some m) n e = by (is_side m) refl e
+cells_are (Some m) n e = by (is_grid_side m) refl e
   where
-    by : (b : Bool) → is_side m ≡ b → cond b (Some m) None ≡ Some n → CanBeAsked n
+    by : (b : Bool) → is_grid_side m ≡ b → cond b (Some m) None ≡ Some n → CanBeAsked n
     by true side f = let same : m ≡ n = cc in subst CanBeAsked same (side_is m side)
     by false side f = absurd cc
 
 pub asked : RequestsCanBeAsked
-asked (word ∷ []) n e = cells_are (number_in word) n e
+asked (word ∷ []) n e = cells_are (side_in word) n e
 asked [] n e = absurd cc
 asked (word ∷ other ∷ words) n e = absurd cc

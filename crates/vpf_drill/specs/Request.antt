@@ -11,25 +11,25 @@ pub record CanBeAsked (n : ℕ) : Type 0 where
   pub most : n ≤ 200
 
 -- the same, as a test
-abbrev pub is_side : ℕ → Bool
-is_side n = n % 2 == 0 && (nat_le 2 n && nat_le n 200)
+abbrev pub is_grid_side : ℕ → Bool
+is_grid_side n = n % 2 == 0 && (nat_le 2 n && nat_le n 200)
 
 -- one to three digits
 abbrev pub are_few_digits : List ℕ → Bool
 are_few_digits word = nat_lt 0 (length word) && (nat_le (length word) 3 && list_all is_ascii_digit word)
 
 -- the number of a word of one to three digits
-abbrev pub number_in : List ℕ → Option ℕ
-number_in word = if are_few_digits word then Some (digits_value 10 word) else None
+abbrev pub side_in : List ℕ → Option ℕ
+side_in word = if are_few_digits word then Some (digits_value 10 word) else None
 
 -- a number of cells that a side may have
-abbrev pub cells_of : Option ℕ → Option ℕ
-cells_of None = None
-cells_of (Some n) = if is_side n then Some n else None
+abbrev pub side_cells : Option ℕ → Option ℕ
+side_cells None = None
+side_cells (Some n) = if is_grid_side n then Some n else None
 
 -- the request that the words after the verb spell, by its number of cells
 abbrev pub drill_request : List (List ℕ) → Option ℕ
-drill_request (word ∷ []) = cells_of (number_in word)
+drill_request (word ∷ []) = side_cells (side_in word)
 drill_request words = None
 
 -- what words ask for can be asked for

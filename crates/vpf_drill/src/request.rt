@@ -4,7 +4,7 @@ ghost use Rattle.std.specs.Prelude.{◌≡◌, map, string_bytes};
 ghost use Rattle.std.specs.Char.{is_ascii_digit};
 ghost use Rattle.std.specs.List.{list_all};
 ghost use Rattle.std.specs.Prelude.{Some};
-ghost use Rattle.vpf_drill.specs.Request.{CanBeAsked, are_few_digits, cells_of, drill_request, is_side, number_in};
+ghost use Rattle.vpf_drill.specs.Request.{CanBeAsked, are_few_digits, side_cells, drill_request, is_grid_side, side_in};
 
 use std::marker::Model;
 
@@ -41,14 +41,14 @@ fn are_few_digits(bytes: &[u8]) -> bool
 
 /// Whether a grid may have so many cells a side.
 fn is_side(cells: u32) -> bool
-    ensures { result ≡ is_side cells }
+    ensures { result ≡ is_grid_side cells }
 {
     cells % 2 == 0 && 2 <= cells && cells <= 200
 }
 
 /// The number of a word of one to three digits.
 fn number_in(word: &str) -> Option<u32>
-    ensures { result ≡ number_in word.now }
+    ensures { result ≡ side_in word.now }
 {
     if !are_few_digits(word.as_bytes()) {
         return None;
@@ -59,7 +59,7 @@ fn number_in(word: &str) -> Option<u32>
 impl DrillRequest {
     /// The request for so many cells, where a side may have them.
     fn of_cells(cells: u32) -> Option<Self>
-        ensures { result ≡ cells_of (Some cells) }
+        ensures { result ≡ side_cells (Some cells) }
     {
         if is_side(cells) {
             Some(DrillRequest { cells })

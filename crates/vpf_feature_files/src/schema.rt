@@ -68,7 +68,8 @@ fn table_in<'a>(alloc: Global, name: &str, bytes: &'a [u8]) -> Result<TableFile<
 
 /// The bytes are a schema table.
 fn check_bytes(alloc: Global, name: &str, bytes: &[u8]) -> Result<(), LoadStop>
-    ensures looks { (loaded : ℕ) → ReadsAs (λ _ fcs. IsSchemaIn bytes.now fcs) result loaded (graded name.now (looked_at name.now) (table_of bytes.now) loaded) }
+    ensures looks { (loaded : ℕ) → ReadsAs (λ _ fcs. IsSchemaIn bytes.now fcs) result loaded (graded name.now (looked_at name.now)
+        (table_of bytes.now) loaded) }
     ensures no_fault { ¬ IsErrOf result LoadStop.Fault }
 {
     let table = table_in(alloc, name, bytes)?;
@@ -127,7 +128,8 @@ fn view_of<'a>(alloc: Global, file: &'a File) -> Result<TableView<'a>, AllocErro
 /// The items of the schema table that name feature tables.
 fn items_of<'a>(alloc: Global, file: &'a File) -> Result<Vec<ItemName<'a>>, AllocError>
     requires { (folder : List ℕ) × (grid : Grid) × IsSchemaFile folder grid file.now }
-    ensures { (folder : List ℕ) (grid : Grid) → IsSchemaFile folder grid file.now → IfOk result (λ items. map item_text items.items ≡ feature_items (joins_in grid)) }
+    ensures { (folder : List ℕ) (grid : Grid) → IsSchemaFile folder grid file.now
+        → IfOk result (λ items. map item_text items.items ≡ feature_items (joins_in grid)) }
 {
     let table = view_of(alloc, file)?;
     let rows = schema_rows(alloc, &table)?;

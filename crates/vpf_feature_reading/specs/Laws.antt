@@ -47,13 +47,13 @@ pub record IsReadTable (table : FeatureTable) : Type 0 where
   pub indexes : AllByRecursion (λ index. IfSome index (λ (i : Index). IsOwnFile i.file)) table.indexes
 
 -- so are the schema table of a schema and its feature tables
-pub record AreReadTables (S : Schema) : Type 0 where
+pub record AreReadWithSchema (S : Schema) : Type 0 where
   pub schema : IfSome S.fcs IsReadGrid
   pub tables : AllByRecursion IsReadTable S.tables
 
 -- those of a schema that was read are such
 abbrev pub TablesAreRead : Type 0
-TablesAreRead = (folder : List ℕ) (S : Schema) → IsReadSchema folder S → AreReadTables S
+TablesAreRead = (folder : List ℕ) (S : Schema) → IsReadSchema folder S → AreReadWithSchema S
 
 -- a tree lacks the file of this name in the folder
 abbrev pub Lacks : Files → (folder file : List ℕ) → Type 0

@@ -1,4 +1,5 @@
-//! Trials of the crates on feature classes, over tables in memory: no function but tests. They stand apart, since a crate with tests is proved once more with them.
+//! Trials of the crates on feature classes, over tables in memory: no function but tests. They stand apart, since a crate with tests is proved once
+//! more with them.
 #![tactic(auto)]
 
 #[cfg(test)]

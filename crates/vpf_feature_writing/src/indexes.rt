@@ -65,7 +65,8 @@ fn add_index(
     files: &mut Vec<File>,
 ) -> Result<(), AddError>
     ensures { let table = table_seen view.now in
-        AddsMade (index_made folder.now table c (slice_get table.grid.head.columns c) (option_map index_seen index.now)) files.old.items files.new.items result }
+        AddsMade (index_made folder.now table c (slice_get table.grid.head.columns c)
+        (option_map index_seen index.now)) files.old.items files.new.items result }
 {
     let Some(index) = index else {
         return Ok(());

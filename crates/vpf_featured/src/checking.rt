@@ -167,7 +167,8 @@ pub fn open_agreeing<'a>(
 ) -> Result<Featured<'a>, FeatureFault<'a>>
     requires { AreOfFeatured lib.now cov.now files.now }
     // The first finding, or none.
-    ensures first { (read : FeaturedCoverage) → AreFeaturedFiles lib.now cov.now files.now read → TellsNamed result (featured_finding (within lib.now cov.now) read) }
+    ensures first { (read : FeaturedCoverage) → AreFeaturedFiles lib.now cov.now files.now read
+        → TellsNamed result (featured_finding (within lib.now cov.now) read) }
     // The coverage that was read.
     ensures coverage { (read : FeaturedCoverage) → AreFeaturedFiles lib.now cov.now files.now read → IfOk result (λ f. f.coverage ≡ read.coverage.coverage) }
     // Its features.

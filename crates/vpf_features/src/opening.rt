@@ -3,7 +3,8 @@
 ghost use Rattle.std.specs.Prelude.{◌≡◌, ℕ, List, Option, IfOk, map};
 ghost use Rattle.std.specs.Option.{option_map};
 ghost use Rattle.vpf_table.specs.Grid.{Grid};
-ghost use Rattle.vpf_feature_files.specs.Held.{AreIndexFiles, AreOfSchema, AreSchemaFiles, AreTableFiles, AreTablesFiles, IsIndexFile, IsIndexFileOption, IsSchemaFileOption};
+ghost use Rattle.vpf_feature_files.specs.Held.{AreIndexFiles, AreOfSchema, AreSchemaFiles, AreTableFiles};
+ghost use Rattle.vpf_feature_files.specs.Held.{AreTablesFiles, IsIndexFile, IsIndexFileOption, IsSchemaFileOption};
 ghost use Rattle.vpf_feature_files.specs.Schemas.{FeatureTable, Index, Schema as SchemaOf};
 ghost use Rattle.vpf_features.specs.Finding.{TellsNamed, tables_finding};
 ghost use Rattle.vpf_features.specs.Opened.{HasIndexFile, HasSchemaFile, HaveIndexFiles, IsOfTable, AreOfTables};

@@ -64,7 +64,8 @@ impl TableFeed {
         ensures refused { IfErr result (ForPlace (λ place. self.new ≡ refused place)) }
         ensures again { (place : Place) → self.old ≡ refused place → (result ≡ Err (errors.Place place)) × (self.new ≡ refused place) }
         // It is that of every file that begins with what was fed.
-        ensures every { (fed more : List ℕ) → HoldsFed self.old fed → IfErr result (ForPlace (λ place. summed (table_of (fed ++ (piece.now ++ more))) ≡ Err place)) }
+        ensures every { (fed more : List ℕ) → HoldsFed self.old fed
+            → IfErr result (ForPlace (λ place. summed (table_of (fed ++ (piece.now ++ more))) ≡ Err place)) }
         // What is taken is a table or ends too early.
         ensures waits { (fed : List ℕ) → HoldsFed self.old fed → order_bytes ≤ length (fed ++ piece.now) → OnOk result (MayBe (table_of (fed ++ piece.now))) }
         // Where memory ran out, nothing has changed.

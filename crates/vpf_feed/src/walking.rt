@@ -3,7 +3,8 @@
 ghost use Rattle.std.specs.Prelude.{◌≡◌, ◌<◌, ◌≤◌, ◌+◌, ◌*◌, ◌++◌, ◌∷◌, ℕ, List, IfOk, IfErr, IfSome, Err, Some, length, drop, slice_get};
 ghost use Rattle.vpf_base.specs.Limits.{most_rows};
 ghost use Rattle.vpf_feed.specs.RowForm.Rows.{IsForm};
-ghost use Rattle.vpf_feed.specs.Walks.{walk_comes, next_comes, within_comes, between_comes, skipping_comes, bytes_most, IsWalk, IsInCell, IsBetween, IsSkipping};
+ghost use Rattle.vpf_feed.specs.Walks.{walk_comes, next_comes, within_comes, between_comes, skipping_comes};
+ghost use Rattle.vpf_feed.specs.Walks.{bytes_most, IsWalk, IsInCell, IsBetween, IsSkipping};
 
 use crate::row_form::{Field, Look, RowForm, bytes_are_bytes, look_at, whole_row};
 use crate::staying::laws::cells_and_headers;
@@ -241,7 +242,8 @@ fn pass_row(form: &RowForm, walk: Walk, rest: &[u8]) -> Option<(Walk, usize)>
     requires column { walk.column < length form.now.fields.items }
     requires between { IsBetween form.now walk }
     requires small { walk.here + length rest.now < bytes_most }
-    ensures comes { IfSome result (λ r. (more : List ℕ) → walk_comes form.now r.0 (drop r.1 rest.now ++ more) ≡ between_comes form.now walk (rest.now ++ more)) }
+    ensures comes { IfSome result (λ r. (more : List ℕ) → walk_comes form.now r.0 (drop r.1 rest.now ++ more)
+        ≡ between_comes form.now walk (rest.now ++ more)) }
     ensures sound { IfSome result (λ r. IsWalk form.now r.0) }
     ensures here { IfSome result (λ r. r.0.here ≡ walk.here + r.1) }
     ensures used { IfSome result (λ r. (0 < r.1) × (r.1 ≤ length rest.now)) }
@@ -269,7 +271,8 @@ fn pass_cell(form: &RowForm, walk: Walk, rest: &[u8]) -> Option<(Walk, usize)>
     requires column { walk.column < length form.now.fields.items }
     requires begun { IsInCell form.now walk 0 }
     requires small { walk.here + length rest.now < bytes_most }
-    ensures comes { IfSome result (λ r. (more : List ℕ) → walk_comes form.now r.0 (drop r.1 rest.now ++ more) ≡ within_comes form.now walk 0 (rest.now ++ more)) }
+    ensures comes { IfSome result (λ r. (more : List ℕ) → walk_comes form.now r.0 (drop r.1 rest.now ++ more)
+        ≡ within_comes form.now walk 0 (rest.now ++ more)) }
     ensures sound { IfSome result (λ r. IsWalk form.now r.0) }
     ensures here { IfSome result (λ r. r.0.here ≡ walk.here + r.1) }
     ensures used { IfSome result (λ r. (0 < r.1) × (r.1 ≤ length rest.now)) }
@@ -288,7 +291,8 @@ fn step_within(form: &RowForm, walk: Walk, len: usize, rest: &[u8]) -> Result<(W
     requires within { IsInCell form.now walk len }
     requires some { 0 < length rest.now }
     requires small { walk.here + length rest.now < bytes_most }
-    ensures comes { IfOk result (λ r. (more : List ℕ) → walk_comes form.now r.0 (drop r.1 rest.now ++ more) ≡ within_comes form.now walk len (rest.now ++ more)) }
+    ensures comes { IfOk result (λ r. (more : List ℕ) → walk_comes form.now r.0 (drop r.1 rest.now ++ more)
+        ≡ within_comes form.now walk len (rest.now ++ more)) }
     ensures sound { IfOk result (λ r. IsWalk form.now r.0) }
     ensures here { IfOk result (λ r. r.0.here ≡ walk.here + r.1) }
     ensures used { IfOk result (λ r. (0 < r.1) × (r.1 ≤ length rest.now)) }

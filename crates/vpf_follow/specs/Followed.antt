@@ -8,11 +8,11 @@ use Rattle.vpf_follow.specs.FollowLines.{follows_finding}
 use Rattle.vpf_follow.specs.Homes.{AreHomes}
 
 -- the coverage
-abbrev pub coverage_of : Inside → CoverageTables
-coverage_of f = f.coverage.now
+abbrev pub followed_coverage : Inside → CoverageTables
+followed_coverage f = f.coverage.now
 
 -- nothing disagrees in what follows its darts, and these are its home darts, and how many darts there are
 pub record IsFollowed (f : Inside) : Type 0 where
-  pub agrees : in_tiles (follows_finding (links_of (library_of (coverage_of f)))) (coverage_of f) ≡ None
-  pub kept : AreHomes (links_of (library_of (coverage_of f))) (links_of (library_of (coverage_of f))).darts f.homes
-  pub count : f.darts ≡ length (links_of (library_of (coverage_of f))).darts
+  pub agrees : in_tiles (follows_finding (links_of (library_of (followed_coverage f)))) (followed_coverage f) ≡ None
+  pub kept : AreHomes (links_of (library_of (followed_coverage f))) (links_of (library_of (followed_coverage f))).darts f.homes
+  pub count : f.darts ≡ length (links_of (library_of (followed_coverage f))).darts

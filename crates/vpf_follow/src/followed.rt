@@ -31,9 +31,9 @@ impl<'c, 'a> Model for Followed<'c, 'a> {
 
     ghost Value = { CoverageTables };
 
-    ghost use Rattle.vpf_follow.specs.Followed.{coverage_of, IsFollowed};
+    ghost use Rattle.vpf_follow.specs.Followed.{followed_coverage, IsFollowed};
 
-    ghost view = { coverage_of };
+    ghost view = { followed_coverage };
 
     ghost invariant = { IsFollowed };
 }
@@ -100,7 +100,7 @@ impl<'c, 'a> Followed<'c, 'a> {
     }
 
     /// What is so of each: nothing disagrees in what follows its darts.
-    pub fn agrees(&self)
+    pub fn links_follow(&self)
         ensures { in_tiles (follows_finding (links_of (library_of self.now))) self.now ≡ None }
     {
         let _darts = self.darts;

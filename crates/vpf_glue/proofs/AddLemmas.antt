@@ -9,15 +9,15 @@ use Rattle.vpf_write.specs.Writing.{Writes, first_limit}
 use Rattle.vpf_write.specs.declared.writing.WriteError.{WriteError}
 use Rattle.vpf_write.specs.declared.writing.WriteError.TheVariants as stops
 use Rattle.vpf_table_files.specs.declared.errors.AddError.{AddError}
-use Rattle.vpf_table_files.specs.Adding.{Adds, AreAdded, Fails, NamedTable, named_limit, named_table}
+use Rattle.vpf_table_files.specs.Adding.{Adds, AreAdded, FailsAdding, NamedTable, named_limit, named_table}
 use Rattle.vpf_table_files.specs.AddLaws.{adds_then, fails_first, fails_then}
 
 -- the first table isn't added
-pub first_fails : (x : NamedTable) (xs : List NamedTable) (e : AddError) → Fails (x ∷ []) e → Fails (x ∷ xs) e
+pub first_fails : (x : NamedTable) (xs : List NamedTable) (e : AddError) → FailsAdding (x ∷ []) e → FailsAdding (x ∷ xs) e
 first_fails x xs e a = fails_first (x ∷ []) xs e a
 
 -- it is, and some of the others aren't
-pub next_fails : (x : NamedTable) (xs : List NamedTable) (old mid : List File) (e : AddError) → AreAdded (x ∷ []) old mid → Fails xs e → Fails (x ∷ xs) e
+pub next_fails : (x : NamedTable) (xs : List NamedTable) (old mid : List File) (e : AddError) → AreAdded (x ∷ []) old mid → FailsAdding xs e → FailsAdding (x ∷ xs) e
 next_fails x xs old mid e a b = fails_then (x ∷ []) xs old mid e a b
 
 -- or the others are or aren't

@@ -4,7 +4,7 @@ use Rattle.vpf_base.specs.Limits.{most_rows}
 use Rattle.vpf_renumbering.specs.TilingLawsWhole.{Whole}
 use Rattle.vpf_renumbering.specs.Glued.{first_darts, plus_darts}
 use Rattle.vpf_renumbering.specs.declared.glued_edges.glued.EdgeJoins.{EdgeJoins}
-use Rattle.vpf_renumbering.specs.GluedEdges.Glued.{AreRows}
+use Rattle.vpf_renumbering.specs.GluedEdges.Glued.{AreEdgeRows}
 use Rattle.vpf_glue.specs.declared.glued_tables.numbers.EdgeNumbers.{EdgeNumbers}
 use Rattle.vpf_glue.specs.GluedTables.Numbers.{AreSmall}
 
@@ -18,7 +18,7 @@ joined j right left = record {
   left_edge = j.left_edge;
 }
 
-pub small_names : (W : Whole) (j : EdgeJoins) (right left : ℕ) → AreRows W j → length (plus_darts W) ≤ most_rows → length (first_darts W) ≤ 2 * most_rows
+pub small_names : (W : Whole) (j : EdgeJoins) (right left : ℕ) → AreEdgeRows W j → length (plus_darts W) ≤ most_rows → length (first_darts W) ≤ 2 * most_rows
     → right < 2 ^ 25 → left < 2 ^ 25 → AreSmall (joined j right left)
 small_names W j right left rows few nodes r l =
     let a : j.start_node ≤ length (first_darts W) = rows.start_node.1 in

@@ -15,7 +15,7 @@ pub record IsEndForm (c : CoverageTables) (end : PairsLike) : Type 0 where
   pub like : IsOfTile (λ T. T.end) c end.table
 
 -- tables are written like those of tiles, with numbers for references
-pub record AreForms (c : CoverageTables) (forms : GluedForms) : Type 0 where
+pub record AreGluedForms (c : CoverageTables) (forms : GluedForms) : Type 0 where
   pub edg_ids : forms.edg.references ≡ I
   pub edg : IsOfTile (λ T. Some T.edg) c forms.edg.table
   pub fac_name : forms.fac.name ≡ codes "ring_ptr"

@@ -10,8 +10,8 @@ use Rattle.vpf_primitive_tables.specs.TileTables.Grids.{tiles_made}
 use Rattle.vpf_glue.specs.GluedTables.Grids.{first_tables, glued_tables, plan_grid}
 
 -- the table of tiles of the library
-abbrev pub tileref_table : Grid → NamedTable
-tileref_table tileref = table_within (codes "tileref") (codes "tileref.aft") (tiles_made tileref)
+abbrev pub glued_tileref : Grid → NamedTable
+glued_tileref tileref = table_within (codes "tileref") (codes "tileref.aft") (tiles_made tileref)
 
 -- the table of entity nodes, where there is one
 abbrev pub end_tables : (cov : List ℕ) → Option Grid → List NamedTable
@@ -27,16 +27,16 @@ abbrev pub last_tables : (cov : List ℕ) → Option Grid → Grid → List Name
 last_tables cov end plan = end_tables cov end ++ plan_table cov plan ∷ []
 
 -- the tables of a coverage of this name, and its plan
-abbrev pub coverage_tables : (cov : List ℕ) → PrimitiveTables → Grid → List NamedTable
-coverage_tables cov tables plan =
+abbrev pub glued_coverage_tables : (cov : List ℕ) → PrimitiveTables → Grid → List NamedTable
+glued_coverage_tables cov tables plan =
     table_within cov (codes "edg") tables.edg ∷ table_within cov (codes "fac") tables.fac ∷ table_within cov (codes "rng") tables.rng
     ∷ table_within cov (codes "cnd") tables.cnd ∷ last_tables cov tables.end plan
 
 -- all tables that gluing makes, like those of the first tile that has any; none where no tile has
-abbrev pub tables_like : (cov : List ℕ) → CoverageTables → Grid → Option PrimitiveTables → List NamedTable
-tables_like cov c tileref None = []
-tables_like cov c tileref (Some first) = tileref_table tileref ∷ coverage_tables cov (glued_tables first c) (plan_grid c)
+abbrev pub glued_tables_like : (cov : List ℕ) → CoverageTables → Grid → Option PrimitiveTables → List NamedTable
+glued_tables_like cov c tileref None = []
+glued_tables_like cov c tileref (Some first) = glued_tileref tileref ∷ glued_coverage_tables cov (glued_tables first c) (plan_grid c)
 
 -- what gluing a coverage of this name comes to: the files of these tables, or the first limit that one of them would pass
 abbrev pub glued_made : (cov : List ℕ) → CoverageTables → (tileref : Grid) → Result (List File) AddError
-glued_made cov c tileref = made_of_tables (tables_like cov c tileref (first_tables c))
+glued_made cov c tileref = made_of_tables (glued_tables_like cov c tileref (first_tables c))

@@ -12,12 +12,12 @@ ghost use Rattle.vpf_follow.specs.Following.{is_home};
 ghost use Rattle.vpf_renumbering.specs.Glued.{face_number, glued_edge};
 ghost use Rattle.vpf_primitive_tables.specs.TableForms.Forms.{edge_kinds_of, head_like};
 ghost use Rattle.vpf_glue.specs.GluedTables.Grids.{glued_edge_grid, glued_edge_row, row_in, whole_in};
-ghost use Rattle.vpf_glue.specs.GluedTables.Numbers.{AreSmall, numbers_of};
+ghost use Rattle.vpf_glue.specs.GluedTables.Numbers.{AreSmall, row_numbers};
 ghost use Rattle.vpf_glue.specs.Sources.{FitsEdges, IsFaceThere, IsOfTile};
 
 use crate::glued_tables::EdgeNumbers;
 use crate::glued_tables::laws::rows_of_tiles_fit;
-use crate::sources::{are_few, checked_of, is_right, row_in_tile};
+use crate::sources::{checked_of, edges_number_few, numbers_are_right, row_in_tile};
 use std::alloc::{AllocError, Global};
 use vpf_cross::Checked;
 use vpf_darts::TileDart;
@@ -38,7 +38,7 @@ fn edge_row<'c, 'a>(checked: &Checked<'c, 'a>, dart: TileDart) -> RowView<'c, 'a
     ensures row { result ≡ row_in (λ T. T.edg) checked.now (tile_in (tile_dart_code dart)) (edge_in (tile_dart_code dart)) }
     ensures fits { (like : Grid) → IsOfTile (λ T. Some T.edg) checked.now like → FitsEdges like result }
 {
-    is_right(checked);
+    numbers_are_right(checked);
     rows_of_tiles_fit();
     row_in_tile(checked, dart.tile, TableName::Edg, dart.edge)
 }
@@ -68,7 +68,7 @@ fn sides(
     ensures right_few { result.0 < 2 ^ 25 }
     ensures left_few { result.1 < 2 ^ 25 }
 {
-    is_right(checked_of(edges));
+    numbers_are_right(checked_of(edges));
     let (right, left) = edges.faces_of(dart);
     (face_number(faces, right), face_number(faces, left))
 }
@@ -81,10 +81,10 @@ fn names_of(
 ) -> EdgeNumbers
     requires home { is_home (links_of (library_of edges.now)) (tile_dart_code dart) ≡ true }
     requires same { faces.now ≡ edges.now }
-    ensures numbers { (k : ℕ) → result ≡ numbers_of (glued_edge (whole_in edges.now) k (tile_dart_code dart)) }
+    ensures numbers { (k : ℕ) → result ≡ row_numbers (glued_edge (whole_in edges.now) k (tile_dart_code dart)) }
     ensures small { AreSmall result }
 {
-    are_few(edges);
+    edges_number_few(edges);
     let joins = edges.edge(dart);
     let (right_face, left_face) = sides(edges, faces, dart);
     EdgeNumbers {

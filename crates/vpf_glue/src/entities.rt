@@ -14,7 +14,7 @@ ghost use Rattle.vpf_glue.specs.Forms.{IsEndForm};
 ghost use Rattle.vpf_glue.specs.Sources.{sources_of, table_in};
 
 use crate::glued_tables::laws::rows_of_tiles_fit;
-use crate::sources::{end_of, is_right};
+use crate::sources::{end_of, numbers_are_right};
 use std::alloc::{AllocError, Global};
 use vpf_primitive_tables::table_forms::{PairForm, row_of};
 use vpf_renumbering::glued_faces::GluedFaces;
@@ -38,9 +38,10 @@ fn put_rows<'a>(
     requires head { made.old.head ≡ head_like form.now.table (pair_kinds (codes "containing_face")) }
     ensures head { made.new.head ≡ made.old.head }
     ensures put { OnOk result ((rows : List Row) → Holds made.old rows → Holds made.new
-        (rows ++ numbered_from (before + 1) (glued_entity_row form.now.table.head.columns faces.now) (map (entity_source tile end.now.head.columns) end.now.rows))) }
+        (rows ++ numbered_from (before + 1) (glued_entity_row form.now.table.head.columns faces.now) (map
+        (entity_source tile end.now.head.columns) end.now.rows))) }
 {
-    is_right(faces.checked());
+    numbers_are_right(faces.checked());
     rows_of_tiles_fit();
     for k in 0..end.len() {
         let row = row_of(end, k + 1);

@@ -9,7 +9,7 @@ ghost use Rattle.vpf_glue.specs.GluedTables.Grids.{face_sources, glued_face_grid
 ghost use Rattle.vpf_glue.specs.Sources.{FitsPairs, IsOfTile};
 
 use crate::glued_tables::laws::rows_of_tiles_fit;
-use crate::sources::{is_right, row_in_tile};
+use crate::sources::{numbers_are_right, row_in_tile};
 use std::alloc::Global;
 use vpf_findings::TableName;
 use vpf_primitive_tables::table_forms::{PairForm, row_of};
@@ -23,7 +23,7 @@ fn universe_row<'t, 'a>(like: &'t TableView<'a>, faces: &GluedFaces<'_, '_, 'a>)
     ensures row { result ≡ slice_index_or (face_sources like.now faces.now) 0 [] }
     ensures fits { FitsPairs (codes "ring_ptr") like.now result }
 {
-    is_right(faces.checked());
+    numbers_are_right(faces.checked());
     rows_of_tiles_fit();
     row_of(like, 1)
 }
@@ -39,7 +39,7 @@ fn other_row<'c, 'a>(
     ensures row { result ≡ slice_index_or (face_sources like.now faces.now) (place + 1) [] }
     ensures fits { FitsPairs (codes "ring_ptr") like.now result }
 {
-    is_right(faces.checked());
+    numbers_are_right(faces.checked());
     rows_of_tiles_fit();
     let face = faces.face_at(place);
     row_in_tile(faces.checked(), face.tile, TableName::Fac, face.face)

@@ -13,8 +13,8 @@ ghost use Rattle.vpf_cross.specs.CarriedLines.{first_tile};
 ghost use Rattle.vpf_primitive_tables.specs.TableForms.Models.{PairsLike};
 ghost use Rattle.vpf_table_files.specs.Adding.{Adds, error_seen};
 ghost use Rattle.vpf_glue.specs.GluedTables.Grids.{glued_entity_grid, glued_tables, plan_grid};
-ghost use Rattle.vpf_glue.specs.Forms.{AreForms, IsEndForm, tables_by};
-ghost use Rattle.vpf_glue.specs.Tables.{coverage_tables, end_tables, glued_made, last_tables};
+ghost use Rattle.vpf_glue.specs.Forms.{AreGluedForms, IsEndForm, tables_by};
+ghost use Rattle.vpf_glue.specs.Tables.{glued_coverage_tables, end_tables, glued_made, last_tables};
 
 use crate::edges::write_edges;
 use crate::entities::write_entities;
@@ -23,7 +23,7 @@ use crate::glued_tables::{GluedForms, overfull, write_plan};
 use crate::nodes::write_nodes;
 use crate::plan::tiles_of_faces;
 use crate::rings::write_rings;
-use crate::sources::{first_end_of, first_of, is_right};
+use crate::sources::{first_end_of, first_of, numbers_are_right};
 use std::alloc::{AllocError, Global};
 use vpf_base::limits::MOST_ROWS;
 use vpf_cross::Checked;
@@ -39,7 +39,7 @@ use vpf_table_files::{AddError, add_table};
 use vpf_write::{WriteError, Written};
 
 /// What is so of each table of a tile: its header is sound.
-fn has_sound_header(tile: &Tile<'_>, name: TableName)
+fn header_stays_sound(tile: &Tile<'_>, name: TableName)
     ensures { IfSome (table_named tile.now name) (λ grid. IsSound grid.head) }
 {
     if let Some(table) = tile.table(name) {
@@ -54,12 +54,12 @@ fn forms_of<'c, 'a>(
 ) -> Result<GluedForms<'c, 'a>, AllocError>
     requires { tile_at checked.now (first_tile (library_of checked.now)) ≡ Some first.now }
     ensures tables { IfOk result (λ forms. tables_by forms checked.now ≡ glued_tables first.now.tables checked.now) }
-    ensures forms { IfOk result (AreForms checked.now) }
+    ensures forms { IfOk result (AreGluedForms checked.now) }
 {
-    is_right(checked);
-    has_sound_header(first, TableName::Edg);
-    has_sound_header(first, TableName::Fac);
-    has_sound_header(first, TableName::Cnd);
+    numbers_are_right(checked);
+    header_stays_sound(first, TableName::Edg);
+    header_stays_sound(first, TableName::Fac);
+    header_stays_sound(first, TableName::Cnd);
     GluedForms::new(first, first_end_of(checked))
 }
 
@@ -136,8 +136,8 @@ fn add_all<'c, 'a>(
     files: &mut Vec<File>,
 ) -> Result<(), AddError>
     requires same { faces.now ≡ edges.now }
-    requires forms { AreForms edges.now forms.now }
-    ensures { Adds (coverage_tables cov.now (tables_by forms.now edges.now) (plan_grid edges.now)) files.old.items files.new.items result }
+    requires forms { AreGluedForms edges.now forms.now }
+    ensures { Adds (glued_coverage_tables cov.now (tables_by forms.now edges.now) (plan_grid edges.now)) files.old.items files.new.items result }
 {
     let made = faces.rings(alloc)?;
     let rings = made.as_slice();
@@ -162,8 +162,8 @@ fn add_coverage<'c, 'a>(
     forms: &GluedForms<'c, 'a>,
     files: &mut Vec<File>,
 ) -> Result<(), AddError>
-    requires { AreForms checked.now forms.now }
-    ensures { Adds (coverage_tables cov.now (tables_by forms.now checked.now) (plan_grid checked.now)) files.old.items files.new.items result }
+    requires { AreGluedForms checked.now forms.now }
+    ensures { Adds (glued_coverage_tables cov.now (tables_by forms.now checked.now) (plan_grid checked.now)) files.old.items files.new.items result }
 {
     let count = edge_count(checked);
     if count > u64::from(MOST_ROWS) {

@@ -13,7 +13,7 @@ ghost use Rattle.vpf_glue.specs.GluedTables.Grids.{glued_node_grid, row_in};
 ghost use Rattle.vpf_glue.specs.Sources.{FitsPairs, IsOfTile};
 
 use crate::glued_tables::laws::rows_of_tiles_fit;
-use crate::sources::{checked_of, is_right, row_in_tile};
+use crate::sources::{checked_of, numbers_are_right, row_in_tile};
 use std::alloc::Global;
 use vpf_coverage::Coverage;
 use vpf_cross::Checked;
@@ -46,10 +46,11 @@ fn tail_of(coverage: &Coverage<'_>, dart: TileDart) -> u32
 /// The row of the node where a home dart begins, in the tile of the dart.
 fn node_row<'c, 'a>(checked: &Checked<'c, 'a>, dart: TileDart) -> RowView<'c, 'a>
     requires { is_home (links_of (library_of checked.now)) (tile_dart_code dart) ≡ true }
-    ensures row { result ≡ row_in (λ T. T.cnd) checked.now (tile_in (tile_dart_code dart)) (tail_node (links_of (library_of checked.now)) (tile_dart_code dart)) }
+    ensures row { result ≡ row_in (λ T. T.cnd) checked.now (tile_in (tile_dart_code dart)) (tail_node (links_of (library_of checked.now))
+        (tile_dart_code dart)) }
     ensures fits { (like : Grid) → IsOfTile (λ T. Some T.cnd) checked.now like → FitsPairs (codes "first_edge") like result }
 {
-    is_right(checked);
+    numbers_are_right(checked);
     rows_of_tiles_fit();
     let node = tail_of(checked.coverage(), dart);
     row_in_tile(checked, dart.tile, TableName::Cnd, node)

@@ -4,10 +4,10 @@ ghost use Rattle.std.specs.Prelude.{◌≡◌, ◌<◌, ◌^◌, All, length, ma
 ghost use Rattle.vpf_prims.specs.Libraries.{library_of};
 ghost use Rattle.vpf_write.specs.Writing.{Writes};
 ghost use Rattle.vpf_renumbering.specs.Glued.{glued_rings};
-ghost use Rattle.vpf_renumbering.specs.GluedFaces.Rings.{HasHomeStart, ring_of};
+ghost use Rattle.vpf_renumbering.specs.GluedFaces.Rings.{HasHomeStart, ring_said};
 ghost use Rattle.vpf_glue.specs.GluedTables.Grids.{glued_ring_grid, whole_in};
 
-use crate::sources::are_few;
+use crate::sources::edges_number_few;
 use std::alloc::Global;
 use vpf_primitive_tables::table_forms::RingForm;
 use vpf_renumbering::glued_edges::GluedEdges;
@@ -21,12 +21,12 @@ pub(crate) fn write_rings(
     edges: &GluedEdges<'_, '_, '_>,
     rings: &[GluedRing],
 ) -> Result<Written, WriteError>
-    requires rings { map (ring_of (whole_in edges.now)) rings.now ≡ glued_rings (whole_in edges.now) }
+    requires rings { map (ring_said (whole_in edges.now)) rings.now ≡ glued_rings (whole_in edges.now) }
     requires home { All (HasHomeStart (library_of edges.now)) rings.now }
     requires few { length rings.now < 2 ^ 26 }
     ensures { Writes (glued_ring_grid form.now edges.now) result }
 {
-    are_few(edges);
+    edges_number_few(edges);
     let mut made = form.begin(alloc)?;
     for (k, ring) in rings.iter().enumerate() {
         let edge = edges.edge_number(ring.start);

@@ -23,12 +23,12 @@ use vpf_renumbering::glued_edges::GluedEdges;
 use vpf_table::{RowView, TableView};
 
 /// What is so of each checked coverage: the tables of its tiles have the same columns, and their rows are numbered and name what is there.
-pub(crate) fn is_right(checked: &Checked<'_, '_>)
+pub(crate) fn numbers_are_right(checked: &Checked<'_, '_>)
     ensures { IsRight checked.now }
 {
     let coverage = checked.coverage();
-    coverage.is_library();
-    coverage.has_numbers();
+    coverage.tiles_make_library();
+    coverage.numbers_hold();
     numbers_decide();
 }
 
@@ -40,7 +40,7 @@ pub(crate) fn checked_of<'w, 'c, 'a>(edges: &GluedEdges<'w, 'c, 'a>) -> &'w Chec
 }
 
 /// What is so of the edges and the nodes of each glued coverage: they are few.
-pub(crate) fn are_few(edges: &GluedEdges<'_, '_, '_>)
+pub(crate) fn edges_number_few(edges: &GluedEdges<'_, '_, '_>)
     ensures edges { length (plus_darts (whole_in edges.now)) ≤ most_rows }
     ensures nodes { length (first_darts (whole_in edges.now)) ≤ 2 * most_rows }
 {

@@ -22,8 +22,8 @@ abbrev pub col : Column → Col
 col c = record { name = c.name.now; kind = c.kind; count = c.count; key = c.key; description = c.description.now; values = option_copied c.values; theme = option_copied c.theme; narrative = option_copied c.narrative }
 
 -- the parts of a header
-abbrev pub head_of : Inside → Head
-head_of h = record { order = h.order; description = h.description.now; narrative = option_copied h.narrative; columns = map col (values h.columns) }
+abbrev pub header_parts : Inside → Head
+header_parts h = record { order = h.order; description = h.description.now; narrative = option_copied h.narrative; columns = map col (values h.columns) }
 
 -- the header of these parts
 abbrev pub head_of_parts : Order → List ℕ → Option (List ℕ) → List Column → Head
@@ -41,7 +41,7 @@ AreNamed (e ∷ es) = (e.0.name.now ≡ e.1.name.now) × AreNamed es
 -- what is true of the fields of every header: it was read, so it is sound
 pub record IsHeaderInside (h : Inside) : Type 0 where
   pub named : AreNamed h.columns.entries
-  pub sound : IsSound (head_of h)
+  pub sound : IsSound (header_parts h)
 
 -- the keys of a map of columns, compared as names
 abbrev pub key_eq : ColumnName → ColumnName → Bool

@@ -44,9 +44,9 @@ impl<'a> Model for Header<'a> {
 
     ghost Value = { Head };
 
-    ghost use Rattle.vpf_head.specs.Views.{head_of, IsHeaderInside};
+    ghost use Rattle.vpf_head.specs.Views.{header_parts, IsHeaderInside};
 
-    ghost view = { head_of };
+    ghost view = { header_parts };
 
     ghost invariant = { IsHeaderInside };
 }

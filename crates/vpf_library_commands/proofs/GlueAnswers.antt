@@ -23,7 +23,7 @@ use Rattle.vpf_feature_writing.specs.Making.{features_made, made_then}
 use Rattle.vpf_featured.specs.Finding.{featured_finding}
 use Rattle.vpf_featured.specs.Reading.{FeaturedCoverage, read_featured}
 use Rattle.vpf_library_commands.specs.declared.requesting.MakeRequest.{MakeRequest}
-use Rattle.vpf_library_commands.specs.Glue.{first_table, gluing_answer, joined_answer, own_edges, tileref_answer}
+use Rattle.vpf_library_commands.specs.Glue.{first_table, gluing_answer, joined_answer, own_edges_name, tileref_answer}
 use Rattle.vpf_library_commands.specs.Made.{files_answer}
 use Rattle.vpf_library_commands.proofs.CheckAnswers.{IsReadStopped}
 
@@ -108,7 +108,7 @@ tiled_read files lib cov n =
     all_then IsTiledRead (read_tileref files lib n) _ (λ tileref k.
     all_then IsTiledRead (read_tiles files (within lib cov) (path_texts tileref.grid) k) _ (λ tiles m. some_tiled (has_some tiles) _ _ m refl))
 
-no_edges : (files : Files) (lib cov : List ℕ) (o : Option (List ℕ)) → files (own_edges lib cov) ≡ o → is_some o ≡ false
+no_edges : (files : Files) (lib cov : List ℕ) (o : Option (List ℕ)) → files (own_edges_name lib cov) ≡ o → is_some o ≡ false
     → read_coverage files lib cov 0 ≡ read_tiled files lib cov 0
 no_edges files lib cov None e h = rw e refl
 no_edges files lib cov (Some bytes) e h = absurd cc
@@ -117,17 +117,17 @@ value_tiled : (r : Read LoadedCoverage) (c : LoadedCoverage) → AllRead IsTiled
 value_tiled (Ok v, n) c h e = let same : v ≡ c = cc in subst IsTiledRead same h
 value_tiled (Err stop, n) c h e = absurd cc
 
-pub read_is_tiled : (files : Files) (lib cov : List ℕ) (c : LoadedCoverage) → is_some (files (own_edges lib cov)) ≡ false
+pub read_is_tiled : (files : Files) (lib cov : List ℕ) (c : LoadedCoverage) → is_some (files (own_edges_name lib cov)) ≡ false
     → (read_coverage files lib cov 0).0 ≡ Ok c → c.coverage.is_tiled ≡ true
 read_is_tiled files lib cov c none e =
     value_tiled (read_tiled files lib cov 0) c (tiled_read files lib cov 0)
-    (sym (ap (λ (r : Read LoadedCoverage). r.0) (no_edges files lib cov (files (own_edges lib cov)) refl none)) ∙ e)
+    (sym (ap (λ (r : Read LoadedCoverage). r.0) (no_edges files lib cov (files (own_edges_name lib cov)) refl none)) ∙ e)
 
 -- .. also with its features
 abbrev with_schema : LoadedCoverage → Schema → ℕ → Read FeaturedCoverage
 with_schema c schema n = came {V = FeaturedCoverage} (record { coverage = c; schema = schema }) n
 
-pub featured_is_tiled : (files : Files) (lib cov : List ℕ) (read : FeaturedCoverage) (n : ℕ) → is_some (files (own_edges lib cov)) ≡ false
+pub featured_is_tiled : (files : Files) (lib cov : List ℕ) (read : FeaturedCoverage) (n : ℕ) → is_some (files (own_edges_name lib cov)) ≡ false
     → read_featured files lib cov 0 ≡ (Ok read, n) → read.coverage.coverage.is_tiled ≡ true
 featured_is_tiled files lib cov read n none e =
     let first = both_ok (read_coverage files lib cov 0) (λ c m. read_schema files (within lib cov) m and_then with_schema c) read n e in

@@ -17,7 +17,7 @@ use Rattle.vpf_feature_files.specs.Schemas.{Schema}
 use Rattle.vpf_featured.specs.Reading.{FeaturedCoverage}
 use Rattle.vpf_featured.specs.declared.loading.FeaturedFiles.{FeaturedFiles}
 use Rattle.vpf_library_commands.specs.declared.tiling.TileFiles.{TileFiles}
-use Rattle.vpf_library_commands.specs.Tile.{TileParts, parts_of, plan_name, read_parts, read_untiled_featured}
+use Rattle.vpf_library_commands.specs.Tile.{TileParts, tile_parts, plan_name, read_parts, read_untiled_featured}
 use Rattle.vpf_library_commands.specs.TileFiles.{AreOfUntiledFeatured, ArePartsFiles, ArePartsOf, AreUntiledFeatured}
 
 -- ---- what stops a load
@@ -124,7 +124,7 @@ both_are lib cov files coverage features =
 
 -- what is read behind the table of tiles
 abbrev after_tileref : Files → (lib cov : List ℕ) → FeaturedCoverage → LoadedTable → ℕ → Read TileParts
-after_tileref held lib cov read t n = read_plan held (plan_name lib cov) n and_then λ p k. (Ok (parts_of read t p), k)
+after_tileref held lib cov read t n = read_plan held (plan_name lib cov) n and_then λ p k. (Ok (tile_parts read t p), k)
 
 -- .. and behind the coverage and its features
 abbrev after_featured : Files → (lib cov : List ℕ) → FeaturedCoverage → ℕ → Read TileParts
@@ -146,14 +146,14 @@ pub plan_stops : (held : Files) (lib cov : List ℕ) (read : FeaturedCoverage) (
 plan_stops held lib cov read t old m k n stop e f h =
     ends_next (read_untiled_featured held lib cov old) (after_featured held lib cov) read m stop n e
     (ends_next (read_tileref held lib m) (after_tileref held lib cov read) t k stop n f
-    (ends_first (read_plan held (plan_name lib cov) k) (λ p j. (Ok (parts_of read t p), j)) stop n h))
+    (ends_first (read_plan held (plan_name lib cov) k) (λ p j. (Ok (tile_parts read t p), j)) stop n h))
 
 parts_come : (held : Files) (lib cov : List ℕ) (read : FeaturedCoverage) (t p : LoadedTable) (old m k n : ℕ) → read_untiled_featured held lib cov old ≡ (Ok read, m)
-    → read_tileref held lib m ≡ (Ok t, k) → read_plan held (plan_name lib cov) k ≡ (Ok p, n) → read_parts held lib cov old ≡ (Ok (parts_of read t p), n)
+    → read_tileref held lib m ≡ (Ok t, k) → read_plan held (plan_name lib cov) k ≡ (Ok p, n) → read_parts held lib cov old ≡ (Ok (tile_parts read t p), n)
 parts_come held lib cov read t p old m k n e f g =
     goes_on (read_untiled_featured held lib cov old) (after_featured held lib cov) read m e
     ∙ (goes_on (read_tileref held lib m) (after_tileref held lib cov read) t k f
-    ∙ goes_on (read_plan held (plan_name lib cov) k) (λ p j. (Ok (parts_of read t p), j)) p n g)
+    ∙ goes_on (read_plan held (plan_name lib cov) k) (λ p j. (Ok (tile_parts read t p), j)) p n g)
 
 -- the files of the table of tiles that was read
 abbrev IsTilerefIn : (lib : List ℕ) → List File → List (List ℕ) → LoadedTable → Type 0
@@ -161,7 +161,7 @@ IsTilerefIn lib files paths table = LoadsTileref (tileref_name lib) files paths 
 
 -- the files are those of what was read
 their_files : (lib cov : List ℕ) (files : TileFiles) (read : FeaturedCoverage) (paths : List (List ℕ)) (t p : LoadedTable) → AreUntiledFeatured lib cov files.featured read
-    → IsTilerefIn lib files.tileref.items paths t → ArePlanFiles (plan_name lib cov) p.grid files.plan.items → ArePartsFiles lib cov files (parts_of read t p)
+    → IsTilerefIn lib files.tileref.items paths t → ArePlanFiles (plan_name lib cov) p.grid files.plan.items → ArePartsFiles lib cov files (tile_parts read t p)
 their_files lib cov files read paths t p are tiles plan = record { featured = are; tileref = rw tiles.all tiles.are; goes_on = tiles.goes_on; plan = plan }
 
 pub parts_read : (held : Files) (lib cov : List ℕ) (files : TileFiles) (paths : List (List ℕ)) (t : LoadedTable) (old m k n : ℕ)
@@ -171,7 +171,7 @@ pub parts_read : (held : Files) (lib cov : List ℕ) (files : TileFiles) (paths 
     → ((p : LoadedTable) (j : ℕ) → read_plan held (plan_name lib cov) k ≡ (Ok p, j) → ArePlanFiles (plan_name lib cov) p.grid files.plan.items)
     → ReadsValue (λ files parts. ArePartsFiles lib cov files parts) files n (read_parts held lib cov old)
 parts_read held lib cov files paths t old m k n read f tiles plan plan_are = record {
-  value = parts_of read.value t plan.value;
+  value = tile_parts read.value t plan.value;
   comes = parts_come held lib cov read.value t plan.value old m k n read.comes f plan.comes;
   is = their_files lib cov files read.value paths t plan.value read.is tiles (plan_are plan.value n plan.comes);
 }
@@ -181,4 +181,4 @@ pub parts_are : (lib cov : List ℕ) (files : TileFiles) (paths : List (List ℕ
     → IsTilerefIn lib files.tileref.items paths t → AreOfPlan (plan_name lib cov) files.plan.items → ArePartsOf lib cov files
 parts_are lib cov files paths t featured tiles plan =
     let p : LoadedTable = record { grid = plan.0; files = files.plan.items } in
-    (parts_of featured.0 t p, their_files lib cov files featured.0 paths t p featured.1 tiles plan.1)
+    (tile_parts featured.0 t p, their_files lib cov files featured.0 paths t p featured.1 tiles plan.1)

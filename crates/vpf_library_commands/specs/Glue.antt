@@ -20,8 +20,8 @@ use Rattle.vpf_library_commands.specs.declared.requesting.MakeRequest.{MakeReque
 use Rattle.vpf_library_commands.specs.Made.{files_answer}
 
 -- the file of the edges in a coverage's own folder, which a coverage in tiles doesn't have
-abbrev pub own_edges : (lib cov : List ℕ) → List ℕ
-own_edges lib cov = within (within lib cov) (codes "edg")
+abbrev pub own_edges_name : (lib cov : List ℕ) → List ℕ
+own_edges_name lib cov = within (within lib cov) (codes "edg")
 
 -- the table that was read of bytes
 abbrev pub table_read : Result Grid Place → Option Grid
@@ -52,6 +52,6 @@ joined_answer request (Err stop) = stop_answer stop
 -- the answer over the files of a tree: a coverage that has edges of its own isn't tiled, and nothing more of it is read
 abbrev pub glue_answer : Files → MakeRequest → Answer
 glue_answer files request =
-    if is_some (files (own_edges request.lib request.cov))
-    then refusal_answer (UntiledCoverage (own_edges request.lib request.cov))
+    if is_some (files (own_edges_name request.lib request.cov))
+    then refusal_answer (UntiledCoverage (own_edges_name request.lib request.cov))
     else joined_answer request (read_featured files request.lib request.cov 0).0

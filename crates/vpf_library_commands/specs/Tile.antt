@@ -53,8 +53,8 @@ read_untiled_featured files lib cov loaded =
     (Ok (record { coverage = coverage; schema = schema }), n)
 
 -- the parts of a coverage with its features, a table of tiles and a plan
-abbrev pub parts_of : FeaturedCoverage → (tileref plan : LoadedTable) → TileParts
-parts_of read tileref plan = record { coverage = read.coverage; schema = read.schema; tileref = tileref; plan = plan }
+abbrev pub tile_parts : FeaturedCoverage → (tileref plan : LoadedTable) → TileParts
+tile_parts read tileref plan = record { coverage = read.coverage; schema = read.schema; tileref = tileref; plan = plan }
 
 -- all files, in reading order
 abbrev pub read_parts : Files → (lib cov : List ℕ) → ℕ → Read TileParts
@@ -62,7 +62,7 @@ read_parts files lib cov loaded =
     read_untiled_featured files lib cov loaded and_then λ read n.
     read_tileref files lib n and_then λ tileref n.
     read_plan files (plan_name lib cov) n and_then λ plan n.
-    (Ok (parts_of read tileref plan), n)
+    (Ok (tile_parts read tileref plan), n)
 
 -- why a coverage isn't tiled, as it is printed
 abbrev pub refusal_reason : Refusal → List ℕ

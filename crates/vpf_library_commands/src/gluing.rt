@@ -13,7 +13,7 @@ ghost use Rattle.vpf_replies.specs.Refusals.{UntiledCoverage, refusal_answer};
 ghost use Rattle.vpf_featured.specs.Finding.{featured_finding, placed_finding};
 ghost use Rattle.vpf_featured.specs.Held.{AreFeaturedFiles, AreOfFeatured};
 ghost use Rattle.vpf_featured.specs.Reading.{FeaturedCoverage, read_featured};
-ghost use Rattle.vpf_library_commands.specs.Glue.{glue_answer, gluing_answer, joined_answer, own_edges};
+ghost use Rattle.vpf_library_commands.specs.Glue.{glue_answer, gluing_answer, joined_answer, own_edges_name};
 ghost use Rattle.vpf_library_commands.specs.Made.{files_answer};
 
 use crate::making::{made_in, with_features};
@@ -31,7 +31,7 @@ use vpf_table::laws::{opened_is_read, spelled_is_opened};
 
 /// The name of the edges in a coverage's own folder.
 fn own_edges(alloc: Global, lib: &str, cov: &str) -> Result<String, AllocError>
-    ensures { IfOk result (λ name. string_bytes name ≡ own_edges lib.now cov.now) }
+    ensures { IfOk result (λ name. string_bytes name ≡ own_edges_name lib.now cov.now) }
 {
     let folder = within(alloc, lib, cov)?;
     within(alloc, folder.as_str(), "edg")
@@ -113,7 +113,7 @@ fn read(alloc: Global, files: &FeaturedFiles, request: &MakeRequest) -> Result<R
 
 /// The reply over a coverage that isn't tiled.
 fn untiled(alloc: Global, request: &MakeRequest) -> Result<Reply, AllocError>
-    ensures { IfOk result (λ reply. reply ≡ refusal_answer (UntiledCoverage (own_edges request.now.lib request.now.cov))) }
+    ensures { IfOk result (λ reply. reply ≡ refusal_answer (UntiledCoverage (own_edges_name request.now.lib request.now.cov))) }
 {
     let edges = own_edges(alloc, request.lib.as_str(), request.cov.as_str())?;
     refuse(alloc, Refusal::Untiled(edges.as_str()))
@@ -121,7 +121,7 @@ fn untiled(alloc: Global, request: &MakeRequest) -> Result<Reply, AllocError>
 
 /// The reply over a coverage that has no edges of its own.
 fn joined<T: Tree>(alloc: Global, request: &MakeRequest, tree: &mut T) -> Result<Reply, Halt>
-    ensures told { (files : Files) → T.files tree.old ≡ Some files → is_some (files (own_edges request.now.lib request.now.cov)) ≡ false
+    ensures told { (files : Files) → T.files tree.old ≡ Some files → is_some (files (own_edges_name request.now.lib request.now.cov)) ≡ false
         → ComesTo (λ answer. answer ≡ joined_answer request.now (read_featured files request.now.lib request.now.cov 0).0) result }
     ensures fault { TellsFault result (Halt.Stop Stop.TreeFault) (T.faults tree.old) (T.faults tree.new) }
     ensures files { T.files tree.new ≡ T.files tree.old }
@@ -135,7 +135,8 @@ fn joined<T: Tree>(alloc: Global, request: &MakeRequest, tree: &mut T) -> Result
 }
 
 /// Does `glue`: checks a tiled coverage as `check` does, and makes the files of the untiled coverage that its tiles are joined into, with the table of
-/// tiles and a plan that names the tile of each face, so that `tile` can cut it again, and behind them those of its features; or tells why there is none: that it isn't tiled, the
+/// tiles and a plan that names the tile of each face, so that `tile` can cut it again, and behind them those of its features; or tells why there is
+/// none: that it isn't tiled, the
 /// first file that isn't taken, the first place that disagrees, or the first bound that a file would pass. All files are composed before the
 /// first is made (MIL-STD-2407, 5.2.3, tiled coverages and cross-tile topology).
 pub fn glue<T: Tree>(alloc: Global, request: &MakeRequest, tree: &mut T) -> Result<Reply, Halt>

@@ -2,7 +2,7 @@
 
 ghost use Rattle.std.specs.Prelude.{◌≡◌, IfOk, map, string_bytes};
 ghost use Rattle.vpf_source.specs.Names.Naming.{coverage_name, file_name};
-ghost use Rattle.vpf_library_commands.specs.Make.{is_inside, make_request, make_request_of};
+ghost use Rattle.vpf_library_commands.specs.Make.{is_in_folder, make_request, make_request_of};
 
 use std::alloc::{AllocError, Global};
 use vpf_source::Name;
@@ -21,7 +21,7 @@ pub struct MakeRequest {
 
 /// Whether the parts of the name of a folder are the first parts of this name.
 fn is_inside(folder: &str, name: &str) -> bool
-    ensures { result ≡ is_inside folder.now name.now }
+    ensures { result ≡ is_in_folder folder.now name.now }
 {
     let (folder, name) = (folder.as_bytes(), name.as_bytes());
     name.starts_with(folder)

@@ -48,7 +48,8 @@ fn cycles_of<'a>(
     request: &CheckRequest,
 ) -> Result<Listing, FeatureFault<'a>>
     requires { AreOfFeatured request.now.lib request.now.cov files.now }
-    ensures first { (read : FeaturedCoverage) → AreFeaturedFiles request.now.lib request.now.cov files.now read → TellsNamed result (read_finding request.now read) }
+    ensures first { (read : FeaturedCoverage) → AreFeaturedFiles request.now.lib request.now.cov files.now read
+        → TellsNamed result (read_finding request.now read) }
     ensures cycles { (read : FeaturedCoverage) → AreFeaturedFiles request.now.lib request.now.cov files.now read
         → IfOk result (λ listing. IsTrace (library_of read.coverage.coverage) (numbers_of listing)) }
 {

@@ -12,7 +12,7 @@ use Rattle.vpf_prims.specs.Columns.{RoleAt}
 use Rattle.vpf_prims.specs.Lines.{cell_range_line}
 use Rattle.vpf_prims.specs.References.{reference_in}
 use Rattle.vpf_prims.specs.Reading.{PrimitiveTables}
-use Rattle.vpf_numbers.specs.Around.{Around, count_in, grid_named, rows_in, rows_there, tables_around}
+use Rattle.vpf_numbers.specs.Around.{Around, count_in_tile, grid_named, rows_in, rows_there, tables_around}
 use Rattle.vpf_numbers.specs.RowLines.{beyond_line}
 use Rattle.vpf_numbers.specs.Beyond.{beyond_there, rows_around}
 
@@ -20,7 +20,7 @@ there_is : (f : PrimitiveTables → ℕ) (tables : Option PrimitiveTables) → i
 there_is f None = refl
 there_is f (Some tables) = refl
 
-there_are : (f : PrimitiveTables → ℕ) (tables : Option PrimitiveTables) → unwrap_or (option_map f tables) 0 ≡ count_in f tables
+there_are : (f : PrimitiveTables → ℕ) (tables : Option PrimitiveTables) → unwrap_or (option_map f tables) 0 ≡ count_in_tile f tables
 there_are f None = refl
 there_are f (Some tables) = refl
 

@@ -6,7 +6,7 @@ use Rattle.std.proofs.Math.Seq.{drop-cons}
 use Rattle.std.proofs.lemmas.Option.{get_or_from_slice_get}
 use Rattle.vpf_head.specs.Head.{Col}
 use Rattle.vpf_findings.specs.Findings.{Disagreement}
-use Rattle.vpf_numbers.specs.ColumnLines.{carried_finding, carried_lines, lacking_finding, named_line, role_lines, roles_finding}
+use Rattle.vpf_numbers.specs.ColumnLines.{carried_columns_finding, carried_lines, lacking_finding, named_line, role_lines, roles_finding}
 use Rattle.vpf_prims.specs.declared.placing.TableAt.{TableAt}
 use Rattle.vpf_prims.specs.declared.roles.Role.{Role as LentRole}
 use Rattle.vpf_prims.specs.Roles.{Role, role_of}
@@ -34,12 +34,12 @@ bare_passed roles columns c column h is has = rw (drop-cons columns c column, ge
 
 -- the lines on a column without a role say nothing
 pub carried_left : (at : TableAt) (columns there : List Col) (column : Col) (rest : List Col) → carried_lines at columns there column ≡ None
-    → carried_finding at columns there rest ≡ carried_finding at columns there (column ∷ rest)
+    → carried_columns_finding at columns there rest ≡ carried_columns_finding at columns there (column ∷ rest)
 carried_left at columns there column rest none = rw none refl
 
 -- they say something
 pub carried_stop : (at : TableAt) (columns there : List Col) (column : Col) (rest : List Col) (f : Disagreement) → carried_lines at columns there column ≡ Some f
-    → carried_finding at columns there (column ∷ rest) ≡ Some f
+    → carried_columns_finding at columns there (column ∷ rest) ≡ Some f
 carried_stop at columns there column rest f some = rw some refl
 
 -- the same of a column there

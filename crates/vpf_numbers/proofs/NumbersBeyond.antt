@@ -15,7 +15,7 @@ use Rattle.vpf_prims.specs.References.{reference_in, cell_at, is_from}
 use Rattle.vpf_prims.specs.Primitives.{Library, cross, edge_count, edges_in, face_count, faces_in, has_tables, is_there, node_count, nodes_in}
 use Rattle.vpf_prims.specs.Reading.{PrimitiveTables, primitives_of, edge_in_row, face_in_row, node_in_row}
 use Rattle.vpf_prims.specs.Numbering.{IsPlain, IsCross, IsReference, IsFace}
-use Rattle.vpf_numbers.specs.Around.{Around, count_in, edges_around, faces_around, nodes_around, tables_around}
+use Rattle.vpf_numbers.specs.Around.{Around, count_in_tile, edges_around, faces_around, nodes_around, tables_around}
 use Rattle.vpf_numbers.specs.RowLines.{beyond_line, cross_lines, face_lines, is_first}
 use Rattle.vpf_numbers.proofs.NumbersLines.{through, or_decides, unless_decides, from_some}
 
@@ -24,15 +24,15 @@ pub record IsSeen (A : Around) (L : Library) : Type 0 where
   pub tiled : L.is_tiled ≡ A.is_tiled
   pub tiles : (t : ℕ) → L.tile t ≡ option_map primitives_of (tables_around A t)
 
-nodes_said : (tables : Option PrimitiveTables) → length (nodes_in (option_map primitives_of tables)) ≡ count_in (λ (v : PrimitiveTables). length v.cnd.rows) tables
+nodes_said : (tables : Option PrimitiveTables) → length (nodes_in (option_map primitives_of tables)) ≡ count_in_tile (λ (v : PrimitiveTables). length v.cnd.rows) tables
 nodes_said None = refl
 nodes_said (Some tables) = length-map tables.cnd.rows (node_in_row tables.cnd.head.columns)
 
-faces_said : (tables : Option PrimitiveTables) → length (faces_in (option_map primitives_of tables)) ≡ count_in (λ (v : PrimitiveTables). length v.fac.rows) tables
+faces_said : (tables : Option PrimitiveTables) → length (faces_in (option_map primitives_of tables)) ≡ count_in_tile (λ (v : PrimitiveTables). length v.fac.rows) tables
 faces_said None = refl
 faces_said (Some tables) = length-map tables.fac.rows (face_in_row tables.fac.head.columns)
 
-edges_said : (tables : Option PrimitiveTables) → length (edges_in (option_map primitives_of tables)) ≡ count_in (λ (v : PrimitiveTables). length v.edg.rows) tables
+edges_said : (tables : Option PrimitiveTables) → length (edges_in (option_map primitives_of tables)) ≡ count_in_tile (λ (v : PrimitiveTables). length v.edg.rows) tables
 edges_said None = refl
 edges_said (Some tables) = length-map tables.edg.rows (edge_in_row tables.edg.head.columns)
 

@@ -20,7 +20,7 @@ use Rattle.vpf_prims.specs.Columns.{placed_line, role_line, column_of}
 use Rattle.vpf_prims.specs.Lines.{no_rows_line}
 use Rattle.vpf_prims.specs.Suiting.{SuitsRole, carried_columns}
 use Rattle.vpf_prims.proofs.ColumnLemmas.{place_within}
-use Rattle.vpf_numbers.specs.ColumnLines.{bare_line, beside_finding, carried_finding, carried_lines, form_line, lacking_finding, like_line, moved_line, named_line, role_lines, roles_finding}
+use Rattle.vpf_numbers.specs.ColumnLines.{bare_line, beside_finding, carried_columns_finding, carried_lines, form_line, lacking_finding, like_line, moved_line, named_line, role_lines, roles_finding}
 use Rattle.vpf_numbers.specs.Matching.{AreLike, HaveSameColumns, form_of}
 use Rattle.vpf_numbers.proofs.NumbersLines.{through, number_at, or_decides, unless_decides}
 use Rattle.vpf_numbers.proofs.PlaceLemmas.{IsSame, all_both, all_kept, all_of, all_same, own_place}
@@ -140,10 +140,10 @@ form_decides at column (Some other) = through (unless_decides (same_kind column.
 abbrev pub IsCarried : List Col → List Col → Col → Type 0
 IsCarried columns there column = IsSame columns there column.name × HasForm column (column_of there column.name)
 
-carried_decide : (at : TableAt) (columns there some : List Col) → (carried_finding at columns there some ≡ None) ↔ AllByRecursion (IsCarried columns there) some
+carried_decide : (at : TableAt) (columns there some : List Col) → (carried_columns_finding at columns there some ≡ None) ↔ AllByRecursion (IsCarried columns there) some
 carried_decide at columns there [] = (λ h. tt, λ h. refl)
 carried_decide at columns there (column ∷ some) =
-    or_decides (carried_lines at columns there column) (carried_finding at columns there some)
+    or_decides (carried_lines at columns there column) (carried_columns_finding at columns there some)
     (or_decides (named_line at columns there column.name) (form_line at column (column_of there column.name)) (named_decides at columns there column.name) (form_decides at column (column_of there column.name)))
     (carried_decide at columns there some)
 
@@ -164,7 +164,7 @@ Beside roles columns model = IfSome model (λ there. Carries roles columns there
 pub beside_decides : (at : TableAt) (roles : List Role) (columns : List Col) (model : Option (List Col)) → (beside_finding at roles columns model ≡ None) ↔ Beside roles columns model
 beside_decides at roles columns None = (λ h. tt, λ h. refl)
 beside_decides at roles columns (Some there) =
-    or_decides (carried_finding at columns there (carried_columns roles columns)) (lacking_finding at columns there (carried_columns roles there)) (carried_decide at columns there (carried_columns roles columns)) (lacking_decide at columns there (carried_columns roles there))
+    or_decides (carried_columns_finding at columns there (carried_columns roles columns)) (lacking_finding at columns there (carried_columns roles there)) (carried_decide at columns there (carried_columns roles columns)) (lacking_decide at columns there (carried_columns roles there))
 
 -- the form of a column that is there
 form_there : (column : Col) (there : Option Col) → is_some there ≡ true → HasForm column there → option_map form_of there ≡ Some (form_of column)

@@ -24,19 +24,19 @@ abbrev pub tables_around : Around → ℕ → Option PrimitiveTables
 tables_around A t = slice_index_or A.tiles t None
 
 -- how many rows a tile has of a table, by a count over its tables
-abbrev pub count_in : (PrimitiveTables → ℕ) → Option PrimitiveTables → ℕ
-count_in count None = 0
-count_in count (Some tables) = count tables
+abbrev pub count_in_tile : (PrimitiveTables → ℕ) → Option PrimitiveTables → ℕ
+count_in_tile count None = 0
+count_in_tile count (Some tables) = count tables
 
 -- the nodes of a tile, its faces and its edges
 abbrev pub nodes_around : Around → ℕ → ℕ
-nodes_around A t = count_in (λ (tables : PrimitiveTables). length tables.cnd.rows) (tables_around A t)
+nodes_around A t = count_in_tile (λ (tables : PrimitiveTables). length tables.cnd.rows) (tables_around A t)
 
 abbrev pub faces_around : Around → ℕ → ℕ
-faces_around A t = count_in (λ (tables : PrimitiveTables). length tables.fac.rows) (tables_around A t)
+faces_around A t = count_in_tile (λ (tables : PrimitiveTables). length tables.fac.rows) (tables_around A t)
 
 abbrev pub edges_around : Around → ℕ → ℕ
-edges_around A t = count_in (λ (tables : PrimitiveTables). length tables.edg.rows) (tables_around A t)
+edges_around A t = count_in_tile (λ (tables : PrimitiveTables). length tables.edg.rows) (tables_around A t)
 
 -- the columns of a table, or of another where it is absent
 abbrev pub columns_or : Option Grid → Option (List Col) → Option (List Col)

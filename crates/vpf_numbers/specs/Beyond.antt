@@ -10,7 +10,7 @@ use Rattle.vpf_findings.specs.Firsts.{◌or◌, unless}
 use Rattle.vpf_prims.specs.declared.placing.TableAt.{TableAt}
 use Rattle.vpf_prims.specs.Columns.{RoleAt, in_table}
 use Rattle.vpf_prims.specs.References.{is_from}
-use Rattle.vpf_numbers.specs.Around.{Around, count_in, grid_named, rows_in, tables_around}
+use Rattle.vpf_numbers.specs.Around.{Around, count_in_tile, grid_named, rows_in, tables_around}
 use Rattle.vpf_prims.specs.Reading.{PrimitiveTables}
 use Rattle.vpf_numbers.specs.RowLines.{cross_lines, plain_wanted}
 
@@ -26,7 +26,7 @@ beyond_there at there low k column cell allowed (Some t) (Some n) =
 
 -- how many rows a tile has of the table of this name
 abbrev pub rows_around : Around → TableName → ℕ → ℕ
-rows_around A name t = count_in (λ (tables : PrimitiveTables). rows_in (grid_named name tables)) (tables_around A t)
+rows_around A name t = count_in_tile (λ (tables : PrimitiveTables). rows_in (grid_named name tables)) (tables_around A t)
 
 -- the lines on a reference that may go on in another tile, to a row of its table of this name
 abbrev pub named_cross_lines : TableAt → Around → TableName → (last k : ℕ) → RoleAt → Row → Option Disagreement

@@ -55,9 +55,9 @@ abbrev pub carried_lines : TableAt → (columns there : List Col) → Col → Op
 carried_lines at columns there column = named_line at columns there column.name or form_line at column (column_of there column.name)
 
 -- the first finding on some columns without a role
-abbrev pub carried_finding : TableAt → (columns there : List Col) → List Col → Option Disagreement
-carried_finding at columns there [] = None
-carried_finding at columns there (column ∷ carried) = carried_lines at columns there column or carried_finding at columns there carried
+abbrev pub carried_columns_finding : TableAt → (columns there : List Col) → List Col → Option Disagreement
+carried_columns_finding at columns there [] = None
+carried_columns_finding at columns there (column ∷ carried) = carried_lines at columns there column or carried_columns_finding at columns there carried
 
 -- the first of some columns there that is absent here
 abbrev pub lacking_finding : TableAt → (columns there : List Col) → List Col → Option Disagreement
@@ -68,7 +68,7 @@ lacking_finding at columns there (column ∷ carried) = named_line at columns th
 abbrev pub beside_finding : TableAt → List Role → List Col → Option (List Col) → Option Disagreement
 beside_finding at roles columns None = None
 beside_finding at roles columns (Some there) =
-    carried_finding at columns there (carried_columns roles columns)
+    carried_columns_finding at columns there (carried_columns roles columns)
     or lacking_finding at columns there (carried_columns roles there)
 
 -- the first of the columns of a table that is to have none without a role

@@ -8,7 +8,7 @@ ghost use Rattle.vpf_findings.specs.Firsts.{Finds};
 ghost use Rattle.vpf_prims.specs.Roles.{role_of};
 ghost use Rattle.vpf_prims.specs.Suiting.{carried_columns};
 ghost use Rattle.vpf_numbers.specs.Around.{columns_in_view};
-ghost use Rattle.vpf_numbers.specs.ColumnLines.{bare_line, beside_finding, carried_finding, carried_lines, form_line, lacking_finding};
+ghost use Rattle.vpf_numbers.specs.ColumnLines.{bare_line, beside_finding, carried_columns_finding, carried_lines, form_line, lacking_finding};
 
 use crate::columns::{check_named, column_of, form_seen, is_same_form};
 use vpf_findings::{ColumnAt, Finding, Seen, SeenWord};
@@ -91,7 +91,7 @@ fn check_carried<'a>(
     there: &Header<'a>,
     roles: &[Role],
 ) -> Result<(), Finding<'a>>
-    ensures { Finds result (carried_finding at header.now.columns there.now.columns (carried_columns (map role_of roles.now) header.now.columns)) }
+    ensures { Finds result (carried_columns_finding at header.now.columns there.now.columns (carried_columns (map role_of roles.now) header.now.columns)) }
 {
     for c in 0..header.len() {
         let column = header.at(c);

@@ -48,7 +48,8 @@ fn check_moved<'a>(
     there: Option<&Column<'a>>,
     same: bool,
 ) -> Result<(), Finding<'a>>
-    ensures { Finds result (moved_line at name.now (option_map (λ column. col column.now) here.entry) (option_map (λ column. col column.now) there.entry) same) }
+    ensures { Finds result (moved_line at name.now (option_map (λ column. col column.now) here.entry) (option_map
+        (λ column. col column.now) there.entry) same) }
 {
     let absent = Seen::Word(SeenWord::Absent);
     match (here, there) {

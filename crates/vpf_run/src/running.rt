@@ -204,7 +204,8 @@ pub fn run<T: Tree, O: Sink>(alloc: Global, words: &[String], tree: &mut T, out:
         (record { files = T.files tree.new; written = O.written out.new }) }
 
     // `check` is done exactly where the files hold the coverage in the grammar of tables, its columns are right and its rows agree, in each
-    // tile and across the tiles, and the features that are read behind it agree: then it prints the numbers of primitives of all its tiles. (The files of a tree that tells them are of
+    // tile and across the tiles, and the features that are read behind it agree: then it prints the numbers of primitives of all its tiles. (The
+    // files of a tree that tells them are of
     // bytes.)
     ensures checked { (files : Files) (request : CheckRequest) (read : FeaturedCoverage) → command_of (map string_bytes words.now) ≡ Some (Check request)
         → T.files tree.old ≡ Some files → IsAgreeing files request read
@@ -226,7 +227,8 @@ pub fn run<T: Tree, O: Sink>(alloc: Global, words: &[String], tree: &mut T, out:
     // Where an untiled coverage agrees with its features, nothing speaks against its plan, no features are joined by numbers, and no file passes a bound,
     // `tile` makes the files of its tiled library: the tables of the tiles, each primitive in the tiles of its faces, in their order, and behind them the
     // files of the features, with thematic indexes built anew, and no others.
-    ensures tiled { (files : Files) (request : MakeRequest) (parts : TileParts) (tables : TileTables) → command_of (map string_bytes words.now) ≡ Some (Tile request)
+    ensures tiled { (files : Files) (request : MakeRequest) (parts : TileParts) (tables : TileTables)
+        → command_of (map string_bytes words.now) ≡ Some (Tile request)
         → T.files tree.old ≡ Some files → IsCutFrom files request parts tables
         → Carries (made_answer (cut_files request parts tables)) result (record { files = T.files tree.old; written = O.written out.old })
         (record { files = T.files tree.new; written = O.written out.new }) }

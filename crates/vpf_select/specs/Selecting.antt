@@ -36,13 +36,13 @@ selected None v cells = Ok (scan_of v cells)
 selected (Some t) v cells = tested v cells (rows_for t v)
 
 -- the row whose cell isn't the value; want of memory has none
-abbrev pub row_in : SelectError → Option ℕ
-row_in (errors.Disagrees row) = Some row
-row_in errors.NoMemory = None
+abbrev pub row_refused : SelectError → Option ℕ
+row_refused (errors.Disagrees row) = Some row
+row_refused errors.NoMemory = None
 
 -- Ok with the rows, and else the row whose cell isn't the value
 abbrev pub Selects : {V : Type 0} → (V → List ℕ) → Result V SelectError → Result (List ℕ) ℕ → Type 0
-Selects view result rows = Meets view row_in result rows
+Selects view result rows = Meets view row_refused result rows
 
 -- an index that is given is one of this column of the table
 abbrev pub IsOwn : Option Theme → Grid → ℕ → Type 0

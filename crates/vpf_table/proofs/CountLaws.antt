@@ -9,7 +9,7 @@ use Rattle.vpf_head.specs.Head.{Head}
 use Rattle.vpf_head.specs.Reading.{header_of}
 use Rattle.vpf_varindex.specs.Reading.{index_at}
 use Rattle.vpf_table.specs.declared.counted.Counted.{Counted}
-use Rattle.vpf_table.specs.Counts.{IsCountOf, HasCount}
+use Rattle.vpf_table.specs.Counts.{IsCountOf, IsCountedAs}
 use Rattle.vpf_table.specs.Grid.{Grid}
 use Rattle.vpf_table.specs.Opening.{row_spans, owned, opened_of}
 use Rattle.vpf_table.specs.Reading.{rows_at, table_of}
@@ -19,10 +19,10 @@ use Rattle.vpf_table.proofs.OpenLemmas.{table_read}
 use Rattle.vpf_table.proofs.Owning.{owned_is}
 
 -- the header that the bytes begin with is the one behind which was counted
-pub counted_so : (bytes : List ℕ) (h : Head) (start : ℕ) (c : Counted) → header_of bytes ≡ Ok (h, start) → IsCountOf bytes c → HasCount bytes h start c
+pub counted_so : (bytes : List ℕ) (h : Head) (start : ℕ) (c : Counted) → header_of bytes ≡ Ok (h, start) → IsCountOf bytes c → IsCountedAs bytes h start c
 counted_so bytes h start c e k =
     let same : (k.head, c.start) ≡ (h, start) = ok_is {x = (k.head, c.start)} {y = (h, start)} (sym k.begun ∙ e) in
-    subst (λ (x : Head × ℕ). HasCount bytes x.0 x.1 c) same k.counts
+    subst (λ (x : Head × ℕ). IsCountedAs bytes x.0 x.1 c) same k.counts
 
 -- the table of bytes that were counted
 pub counted_table : (bytes : List ℕ) (h : Head) (start : ℕ) (c : Counted) → header_of bytes ≡ Ok (h, start) → IsCountOf bytes c

@@ -7,14 +7,14 @@ use Rattle.vpf_table.specs.Reading.{row_at}
 use Rattle.vpf_table.specs.Walking.{row_of, past_of}
 
 -- what reading the cells of the columns that are left gives
-abbrev pub read_left : Inside → Result (Row × ℕ) Place
-read_left s = row_at s.header.now.order (drop s.column s.header.now.columns) s.bytes.now s.at
+abbrev pub cells_to_read : Inside → Result (Row × ℕ) Place
+cells_to_read s = row_at s.header.now.order (drop s.column s.header.now.columns) s.bytes.now s.at
 
 -- their values
 abbrev pub cells_left : Inside → Row
-cells_left s = row_of (read_left s)
+cells_left s = row_of (cells_to_read s)
 
 -- they are spelled there
 pub record AreCellsRead (s : Inside) : Type 0 where
-  pub read : read_left s ≡ Ok (row_of (read_left s), past_of (read_left s))
+  pub read : cells_to_read s ≡ Ok (row_of (cells_to_read s), past_of (cells_to_read s))
   pub inside : s.at ≤ length s.bytes.now

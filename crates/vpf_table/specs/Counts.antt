@@ -9,7 +9,7 @@ use Rattle.vpf_table.specs.Walking.{rows_of}
 use Rattle.vpf_table.specs.Widths.{width_of}
 
 -- from `start` on are rows, so many, and of this width where one is kept: it is wherever it fits a number
-pub record HasCount (bytes : List ℕ) (h : Head) (start : ℕ) (c : Counted) : Type 0 where
+pub record IsCountedAs (bytes : List ℕ) (h : Head) (start : ℕ) (c : Counted) : Type 0 where
   pub read : rows_at most_rows h.order h.columns bytes start ≡ Ok (rows_of (rows_at most_rows h.order h.columns bytes start))
   pub count : c.rows ≡ length (rows_of (rows_at most_rows h.order h.columns bytes start))
   pub fixed : IfSome c.width (λ w. width_of h.columns ≡ Some w)
@@ -20,4 +20,4 @@ pub record HasCount (bytes : List ℕ) (h : Head) (start : ℕ) (c : Counted) : 
 pub record IsCountOf (bytes : List ℕ) (c : Counted) : Type 0 where
   pub head : Head
   pub begun : header_of bytes ≡ Ok (head, c.start)
-  pub counts : HasCount bytes head c.start c
+  pub counts : IsCountedAs bytes head c.start c

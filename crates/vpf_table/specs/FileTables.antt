@@ -10,7 +10,7 @@ pub record FileTable : Type 0 where
   pub grid : Grid
 
 -- row k, counted from 0, begins at this offset
-pub record StandsAt (f : FileTable) (k at : ℕ) : Type 0 where
+pub record RowStandsAt (f : FileTable) (k at : ℕ) : Type 0 where
   pub inside : at ≤ length f.bytes
   pub read : IsOk (row_at f.grid.head.order f.grid.head.columns f.bytes at)
   pub item : slice_get f.grid.rows k ≡ Some (row_of (row_at f.grid.head.order f.grid.head.columns f.bytes at))

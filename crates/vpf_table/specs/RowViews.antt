@@ -11,8 +11,8 @@ abbrev pub read_row : Inside → Result (Row × ℕ) Place
 read_row r = row_at r.header.now.order r.header.now.columns r.bytes.now r.at
 
 -- its values
-abbrev pub cells_of : Inside → Row
-cells_of r = row_of (read_row r)
+abbrev pub row_cells : Inside → Row
+row_cells r = row_of (read_row r)
 
 -- a row is spelled there
 pub record IsRowRead (r : Inside) : Type 0 where

@@ -10,7 +10,7 @@ use vpf_triplet::{Code, Place};
 use vpf_varindex::IndexView;
 
 /// What a slice of bytes holds are bytes.
-pub fn has_bytes(bytes: &[u8])
+pub fn bytes_are_bytes(bytes: &[u8])
     ensures { IsBytes bytes.now }
 {}
 
@@ -19,7 +19,7 @@ pub fn index_has_bytes(index: Option<&[u8]>)
     ensures { IfSome (option_copied index.entry) IsBytes }
 {
     if let Some(bytes) = index {
-        has_bytes(bytes);
+        bytes_are_bytes(bytes);
     }
 }
 

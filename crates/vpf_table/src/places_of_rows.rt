@@ -7,7 +7,7 @@ use vpf_varindex::IndexView;
 
 impl<'a> TableFile<'a> {
     ghost use Rattle.std.specs.Prelude.{◌≡◌, ◌<◌, IfSome, Some, length};
-    ghost use Rattle.vpf_table.specs.FileTables.{StandsAt};
+    ghost use Rattle.vpf_table.specs.FileTables.{RowStandsAt};
     ghost use Rattle.vpf_table.specs.Opening.{row_spans};
     ghost use Rattle.vpf_table.specs.Widths.{width_of};
 
@@ -15,7 +15,7 @@ impl<'a> TableFile<'a> {
     fn fixed_place(&self, width: usize, k: u32) -> usize
         requires fixed { width_of self.now.grid.head.columns ≡ Some width }
         requires within { k < length self.now.grid.rows }
-        ensures { StandsAt self.now k result }
+        ensures { RowStandsAt self.now k result }
     {
         fixed_cells();
         let _end = self.bytes.len();
@@ -26,7 +26,7 @@ impl<'a> TableFile<'a> {
     fn indexed_place(&self, index: &IndexView<'_>, k: u32) -> usize
         requires own { index.now ≡ row_spans self.now.bytes self.now.grid }
         requires within { k < length self.now.grid.rows }
-        ensures { StandsAt self.now k result }
+        ensures { RowStandsAt self.now k result }
     {
         let _start = self.start;
         // A number of entries fits its type.
@@ -38,7 +38,7 @@ impl<'a> TableFile<'a> {
     /// Where row `k`, counted from 0, begins, by a walk from the first.
     fn walked_place(&self, k: u32) -> usize
         requires { k < length self.now.grid.rows }
-        ensures { StandsAt self.now k result }
+        ensures { RowStandsAt self.now k result }
     {
         let mut at = self.start;
         for _i in 0..k {
@@ -52,7 +52,7 @@ impl<'a> TableFile<'a> {
     pub(crate) fn place_of_row(&self, index: &Option<IndexView<'_>>, k: u32) -> usize
         requires own { IfSome index.now (λ entries. entries ≡ row_spans self.now.bytes self.now.grid) }
         requires within { k < length self.now.grid.rows }
-        ensures { StandsAt self.now k result }
+        ensures { RowStandsAt self.now k result }
     {
         if let Some(width) = self.width {
             return self.fixed_place(width, k);

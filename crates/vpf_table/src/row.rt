@@ -25,9 +25,9 @@ impl<'t, 'a> Model for RowView<'t, 'a> {
 
     ghost Value = { Row };
 
-    ghost use Rattle.vpf_table.specs.RowViews.{cells_of, IsRowRead};
+    ghost use Rattle.vpf_table.specs.RowViews.{row_cells, IsRowRead};
 
-    ghost view = { cells_of };
+    ghost view = { row_cells };
 
     ghost invariant = { IsRowRead };
 }

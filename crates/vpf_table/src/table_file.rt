@@ -9,7 +9,7 @@ ghost use Rattle.vpf_table.specs.Reading.{table_of};
 use crate::counted::Counted;
 use crate::counting::count_rows;
 use crate::fixed_rows::{FixedRows, fixed_rows, most_len};
-use crate::indexing::has_bytes;
+use crate::indexing::bytes_are_bytes;
 use crate::iteration::Rows;
 use crate::laws::cells_and_headers;
 use crate::placed_header::PlacedHeader;
@@ -152,7 +152,7 @@ impl<'a> TableFile<'a> {
         ensures read { IfSome result (λ found. header_of bytes.now ≡ Ok (found.0.value, found.1)) }
     {
         cells_and_headers();
-        has_bytes(self.bytes);
+        bytes_are_bytes(self.bytes);
         if !bytes.starts_with(&self.bytes[..self.start]) {
             return None;
         }
@@ -249,10 +249,10 @@ impl<'a> TableFile<'a> {
     }
 
     /// What the file holds are bytes.
-    pub(crate) fn has_bytes(&self)
+    pub(crate) fn bytes_are_bytes(&self)
         ensures { IsBytes self.now.bytes }
     {
-        has_bytes(self.bytes);
+        bytes_are_bytes(self.bytes);
     }
 
     /// The entries of an index, which must be these rows' own. Else its first fault.

@@ -2,7 +2,7 @@
 
 use crate::counted::Counted;
 use crate::fixed_rows::FixedRows;
-use crate::indexing::{has_bytes, index_has_bytes};
+use crate::indexing::{bytes_are_bytes, index_has_bytes};
 use crate::iteration::Rows;
 use crate::laws::{opened_is_spelled, refusals_are_first_faults, spelled_is_opened};
 use crate::row::RowView;
@@ -65,8 +65,8 @@ impl<'a> TableFile<'a> {
     {
         opened_is_spelled();
         refusals_are_first_faults();
-        self.has_bytes();
-        has_bytes(index);
+        self.bytes_are_bytes();
+        bytes_are_bytes(index);
         match self.own_index(index) {
             Ok(entries) => Ok(TableView {
                 file: self,
@@ -84,8 +84,8 @@ impl<'a> TableFile<'a> {
         ensures exact { opened_of self.entry.bytes (Some index.now) ≡ Ok result }
     {
         opened_is_spelled();
-        self.has_bytes();
-        has_bytes(index);
+        self.bytes_are_bytes();
+        bytes_are_bytes(index);
         let entries = self.known_index(index);
         TableView {
             file: self,
@@ -101,8 +101,8 @@ impl<'a> TableFile<'a> {
     {
         opened_is_spelled();
         refusals_are_first_faults();
-        self.has_bytes();
-        has_bytes(index);
+        self.bytes_are_bytes();
+        bytes_are_bytes(index);
         match self.own_index(index) {
             Ok(_entries) => Ok(()),
             Err(place) => Err(place),

@@ -5,7 +5,7 @@ use Rattle.std.specs.Str.{bytes_eq}
 use Rattle.vpf_theme.specs.declared.layout.Form.{Form}
 use Rattle.vpf_source.specs.Names.Naming.{file_name}
 use Rattle.vpf_table_commands.specs.declared.indexing.IndexRequest.{IndexRequest}
-use Rattle.vpf_table_commands.specs.Index.{IndexesElsewhere, IsElsewhere, form_of, index_request_of}
+use Rattle.vpf_table_commands.specs.Index.{IndexesElsewhere, IsElsewhere, form_named, index_request_of}
 
 made_elsewhere : (same : Bool) (request : IndexRequest) → bytes_eq request.file request.out ≡ same → IsElsewhere (if same then None else Some request)
 made_elsewhere true request e = tt
@@ -22,5 +22,5 @@ indexes_elsewhere [] = tt
 indexes_elsewhere (a ∷ []) = tt
 indexes_elsewhere (a ∷ b ∷ []) = tt
 indexes_elsewhere (a ∷ b ∷ c ∷ []) = tt
-indexes_elsewhere (file ∷ column ∷ kind ∷ out ∷ []) = of_elsewhere (file_name file) column (form_of kind) (file_name out)
+indexes_elsewhere (file ∷ column ∷ kind ∷ out ∷ []) = of_elsewhere (file_name file) column (form_named kind) (file_name out)
 indexes_elsewhere (a ∷ b ∷ c ∷ d ∷ e ∷ words) = tt

@@ -27,8 +27,8 @@ use Rattle.vpf_replies.specs.Tables.{on_table}
 use Rattle.vpf_replies.specs.Texts.{limit_text}
 
 -- the form of a thematic index that a word names
-abbrev pub form_of : List ℕ → Option Form
-form_of kind = if bytes_eq kind (codes "list") then Some forms.List else if bytes_eq kind (codes "bitmap") then Some forms.Bitmap else None
+abbrev pub form_named : List ℕ → Option Form
+form_named kind = if bytes_eq kind (codes "list") then Some forms.List else if bytes_eq kind (codes "bitmap") then Some forms.Bitmap else None
 
 -- the request of a file, a column, a form and another name for the index
 abbrev pub index_request_of : Option (List ℕ) → List ℕ → Option Form → Option (List ℕ) → Option IndexRequest
@@ -37,7 +37,7 @@ index_request_of file column form out = None
 
 -- the request that the words after the verb spell
 abbrev pub index_request : List (List ℕ) → Option IndexRequest
-index_request (file ∷ column ∷ kind ∷ out ∷ []) = index_request_of (file_name file) column (form_of kind) (file_name out)
+index_request (file ∷ column ∷ kind ∷ out ∷ []) = index_request_of (file_name file) column (form_named kind) (file_name out)
 index_request words = None
 
 -- the answer where an index is built so: its file, or that the column has none, or that it would be too long

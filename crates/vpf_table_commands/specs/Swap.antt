@@ -76,9 +76,9 @@ abbrev pub turned_answer : List ℕ → TableTurning → List ℕ → Answer
 turned_answer out turning bytes = made_answer (turned_files out turning bytes)
 
 -- the plan comes to this answer
-abbrev pub IsPlan : List ℕ → List ℕ → Plan → Answer → Type 0
-IsPlan out bytes (Turning turning) answer = HasRoom turning bytes × (answer ≡ turned_answer out turning bytes)
-IsPlan out bytes (Answered reply) answer = reply ≡ answer
+abbrev pub IsSwapPlan : List ℕ → List ℕ → Plan → Answer → Type 0
+IsSwapPlan out bytes (Turning turning) answer = HasRoom turning bytes × (answer ≡ turned_answer out turning bytes)
+IsSwapPlan out bytes (Answered reply) answer = reply ≡ answer
 
 -- Where a table is swapped, and what is made is swapped again, its canonical bytes and its index are made, whatever the names.
 abbrev pub SwappedTwiceIsCanonical : Type 0

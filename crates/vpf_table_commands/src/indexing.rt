@@ -6,7 +6,8 @@ ghost use Rattle.vpf_head.specs.Head.{Col};
 ghost use Rattle.vpf_source.specs.Names.Naming.{file_name};
 ghost use Rattle.vpf_replies.specs.Halting.{ComesTo, TellsFault};
 ghost use Rattle.vpf_replies.specs.Making.{made_answer};
-ghost use Rattle.vpf_table_commands.specs.Index.{built_answer, form_of, grid_index_answer, index_request_of, index_request, index_bytes_answer, index_answer};
+ghost use Rattle.vpf_table_commands.specs.Index.{built_answer, form_named, grid_index_answer};
+ghost use Rattle.vpf_table_commands.specs.Index.{index_request_of, index_request, index_bytes_answer, index_answer};
 
 use crate::words::{Word, word_of};
 use std::alloc::{AllocError, Global};
@@ -35,7 +36,7 @@ pub struct IndexRequest {
 
 /// The form of a thematic index that a word names.
 fn form_of(kind: &str) -> Option<Form>
-    ensures { result ≡ form_of kind.now }
+    ensures { result ≡ form_named kind.now }
 {
     match kind {
         "list" => Some(Form::List),
@@ -52,7 +53,7 @@ fn read_words(
     kind: &str,
     out: &str,
 ) -> Result<Option<IndexRequest>, AllocError>
-    ensures { IfOk result (λ request. request ≡ index_request_of (file_name file.now) column.now (form_of kind.now) (file_name out.now)) }
+    ensures { IfOk result (λ request. request ≡ index_request_of (file_name file.now) column.now (form_named kind.now) (file_name out.now)) }
 {
     let Some(file) = file_name(alloc, file)? else {
         return Ok(None);

@@ -10,7 +10,7 @@ ghost use Rattle.vpf_replies.specs.Answer.{limited};
 ghost use Rattle.vpf_replies.specs.Halting.{ComesTo, TellsFault};
 ghost use Rattle.vpf_replies.specs.Texts.{limit_text};
 ghost use Rattle.vpf_write.specs.Made.Files.{part_name};
-ghost use Rattle.vpf_table_commands.specs.Swap.{clashes, written_answer, other_order, turned, turned_answer, IsPlan};
+ghost use Rattle.vpf_table_commands.specs.Swap.{clashes, written_answer, other_order, turned, turned_answer, IsSwapPlan};
 ghost use Rattle.vpf_table_commands.specs.Swap.{swap_request_of, swap_request, swap_bytes_answer, swap_answer};
 
 use std::alloc::{AllocError, Global};
@@ -113,7 +113,7 @@ fn plan_table(
     bytes: &[u8],
 ) -> Result<Plan, AllocError>
     requires { IsTable table.now bytes.now }
-    ensures { IfOk result (λ plan. IsPlan out.now bytes.now plan (written_answer out.now (turned table.now))) }
+    ensures { IfOk result (λ plan. IsSwapPlan out.now bytes.now plan (written_answer out.now (turned table.now))) }
 {
     let order = other_order(table.header().order());
     match Turning::new(alloc, table, bytes, order)? {
@@ -124,7 +124,7 @@ fn plan_table(
 
 /// The plan for the bytes of a file.
 fn plan_file(alloc: Global, name: &str, out: &str, bytes: &[u8]) -> Result<Plan, AllocError>
-    ensures { IfOk result (λ plan. IsPlan out.now bytes.now plan (swap_bytes_answer name.now out.now bytes.now)) }
+    ensures { IfOk result (λ plan. IsSwapPlan out.now bytes.now plan (swap_bytes_answer name.now out.now bytes.now)) }
 {
     match TableView::open(alloc, bytes, None) {
         Ok(table) => plan_table(alloc, out, &table, bytes),

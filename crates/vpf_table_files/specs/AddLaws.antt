@@ -9,7 +9,7 @@ use Rattle.vpf_findings.specs.Firsts.{◌or◌}
 use Rattle.vpf_write.specs.Writing.{first_limit}
 use Rattle.vpf_table_files.specs.declared.errors.AddError.{AddError}
 use Rattle.vpf_table_files.specs.declared.errors.AddError.TheVariants as errors
-use Rattle.vpf_table_files.specs.Adding.{Adds, AreAdded, Fails, NamedTable, error_seen, files_made, files_of_table, first_limit_of, made_of_tables, named_limit, unless_limited}
+use Rattle.vpf_table_files.specs.Adding.{Adds, AreAdded, FailsAdding, NamedTable, error_seen, files_made, files_of_table, first_limit_of, made_of_tables, named_limit, unless_limited}
 
 -- the first limit of tables and others behind them
 limits-append : (xs ys : List NamedTable) → first_limit_of (xs ++ ys) ≡ (first_limit_of xs or first_limit_of ys)
@@ -38,12 +38,12 @@ added_then xs ys old mid new a b = (
 )
 
 -- some are added, and then others aren't
-pub fails_then : (xs ys : List NamedTable) (old mid : List File) (e : AddError) → AreAdded xs old mid → Fails ys e → Fails (xs ++ ys) e
+pub fails_then : (xs ys : List NamedTable) (old mid : List File) (e : AddError) → AreAdded xs old mid → FailsAdding ys e → FailsAdding (xs ++ ys) e
 fails_then xs ys old mid (errors.Limit name limit) a b = limits_later xs ys a.0 ∙ b
 fails_then xs ys old mid errors.NoMemory a b = b
 
 -- where some aren't, the others don't matter
-pub fails_first : (xs ys : List NamedTable) (e : AddError) → Fails xs e → Fails (xs ++ ys) e
+pub fails_first : (xs ys : List NamedTable) (e : AddError) → FailsAdding xs e → FailsAdding (xs ++ ys) e
 fails_first xs ys (errors.Limit name limit) a = limits-append xs ys ∙ ap (λ o. o or first_limit_of ys) a
 fails_first xs ys errors.NoMemory a = a
 
@@ -57,6 +57,6 @@ pub made_are : (tables : List NamedTable) (files : List File) → AreAdded table
 made_are tables files a = ap (unless_limited tables) a.0 ∙ ap Ok (sym a.1)
 
 -- and the limit that was passed is the first
-pub made_fail : (tables : List NamedTable) (e : AddError) → Fails tables e → Told (error_seen e) (made_of_tables tables)
+pub made_fail : (tables : List NamedTable) (e : AddError) → FailsAdding tables e → Told (error_seen e) (made_of_tables tables)
 made_fail tables (errors.Limit name limit) a = ap (unless_limited tables) a
 made_fail tables errors.NoMemory a = a

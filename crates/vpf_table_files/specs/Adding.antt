@@ -47,14 +47,14 @@ abbrev pub AreAdded : List NamedTable → (old new : List File) → Type 0
 AreAdded tables old new = (first_limit_of tables ≡ None) × (new ≡ old ++ files_made tables)
 
 -- this is why some tables aren't added: the first limit that one passes, or want of memory, of which nothing is said
-abbrev pub Fails : List NamedTable → AddError → Type 0
-Fails tables (errors.Limit name limit) = first_limit_of tables ≡ Some (name, limit)
-Fails tables errors.NoMemory = Unit {0}
+abbrev pub FailsAdding : List NamedTable → AddError → Type 0
+FailsAdding tables (errors.Limit name limit) = first_limit_of tables ≡ Some (name, limit)
+FailsAdding tables errors.NoMemory = Unit {0}
 
 -- tables are added behind some files, or this is why they aren't
 abbrev pub Adds : {V : Type 0} → List NamedTable → (old new : List File) → Result V AddError → Type 0
 Adds tables old new (Ok v) = AreAdded tables old new
-Adds tables old new (Err error) = Fails tables error
+Adds tables old new (Err error) = FailsAdding tables error
 
 -- what writing tables as files answers; of want of memory nothing is seen
 abbrev pub error_seen : AddError → Option AddError

@@ -19,7 +19,7 @@ use Rattle.vpf_value.specs.Values.{Value, TextOf, Word4Of, Word8Of, NumberOf, Da
 use Rattle.vpf_value.specs.Fitting.{FitsKind}
 use Rattle.vpf_value.specs.Reading.{CellAnswer, cell_from, sized}
 use Rattle.vpf_theme.specs.Layouts.{is_indexed}
-use Rattle.vpf_theme.specs.Ordering.{rank, value_cmp}
+use Rattle.vpf_theme.specs.Ordering.{sort_rank, value_cmp}
 
 -- ---- the order is total
 
@@ -39,17 +39,17 @@ number_in v = pos 0
 
 -- by the sort, and then by what a value of the sort holds
 abbrev parts_cmp : Value → Value → Ordering
-parts_cmp = then_cmp (on rank nat_cmp) (then_cmp (on text_in (slice_cmp nat_cmp)) (then_cmp (on word_in nat_cmp) (on number_in int_cmp)))
+parts_cmp = then_cmp (on sort_rank nat_cmp) (then_cmp (on text_in (slice_cmp nat_cmp)) (then_cmp (on word_in nat_cmp) (on number_in int_cmp)))
 
 parts_total : IsTotalOrder parts_cmp
-parts_total = then_total (on_total rank nat_cmp_total) (then_total (on_total text_in nat_list_cmp_total) (then_total (on_total word_in nat_cmp_total) (on_total number_in int_cmp_total)))
+parts_total = then_total (on_total sort_rank nat_cmp_total) (then_total (on_total text_in nat_list_cmp_total) (then_total (on_total word_in nat_cmp_total) (on_total number_in int_cmp_total)))
 
 then_equal : (o : Ordering) → ordering_then o Equal ≡ o
 then_equal Less = refl
 then_equal Equal = refl
 then_equal Greater = refl
 
-other_parts : (b : Value) → nat_cmp 5 (rank b) ≡ ordering_then (nat_cmp 5 (rank b)) (ordering_then (slice_cmp nat_cmp [] (text_in b)) (ordering_then (nat_cmp 0 (word_in b)) (int_cmp (pos 0) (number_in b))))
+other_parts : (b : Value) → nat_cmp 5 (sort_rank b) ≡ ordering_then (nat_cmp 5 (sort_rank b)) (ordering_then (slice_cmp nat_cmp [] (text_in b)) (ordering_then (nat_cmp 0 (word_in b)) (int_cmp (pos 0) (number_in b))))
 other_parts (TextOf b) = refl
 other_parts (DateOf b) = refl
 other_parts (Word4Of b) = refl

@@ -10,13 +10,13 @@ use Rattle.vpf_value.specs.declared.coords.WordWidth.TheVariants.{Four, Eight}
 use Rattle.vpf_value.specs.Values.{Value, TextOf, Word4Of, Word8Of, NumberOf, DateOf, Nothing, TripletOf, WordsOf}
 
 -- where the values of a sort stand among those of others
-abbrev pub rank : Value → ℕ
-rank (TextOf text) = 0
-rank (DateOf text) = 1
-rank (Word4Of word) = 2
-rank (Word8Of word) = 3
-rank (NumberOf number) = 4
-rank value = 5
+abbrev pub sort_rank : Value → ℕ
+sort_rank (TextOf text) = 0
+sort_rank (DateOf text) = 1
+sort_rank (Word4Of word) = 2
+sort_rank (Word8Of word) = 3
+sort_rank (NumberOf number) = 4
+sort_rank value = 5
 
 -- The order of values: texts and dates by their bytes, words as unsigned numbers, numbers as signed ones. Values of one
 -- field are of one sort; those of different sorts, and those that no index holds, stand as their sorts do.
@@ -26,7 +26,7 @@ value_cmp (DateOf a) (DateOf b) = slice_cmp nat_cmp a b
 value_cmp (Word4Of a) (Word4Of b) = nat_cmp a b
 value_cmp (Word8Of a) (Word8Of b) = nat_cmp a b
 value_cmp (NumberOf a) (NumberOf b) = int_cmp a b
-value_cmp a b = nat_cmp (rank a) (rank b)
+value_cmp a b = nat_cmp (sort_rank a) (sort_rank b)
 
 -- the two triplet ids have the same parts
 abbrev pub same_triplet : Triplet → Triplet → Bool

@@ -2,14 +2,14 @@
 
 ghost use Rattle.std.specs.Prelude.{◌≡◌};
 ghost use Rattle.vpf_value.specs.Values.{view};
-ghost use Rattle.vpf_theme.specs.Ordering.{rank, value_cmp};
+ghost use Rattle.vpf_theme.specs.Ordering.{sort_rank, value_cmp};
 
 use std::cmp::Ordering;
 use vpf_value::Cell;
 
 /// Where the values of a sort stand among those of others.
 fn rank(cell: &Cell<'_>) -> u8
-    ensures { result ≡ rank (view cell.now) }
+    ensures { result ≡ sort_rank (view cell.now) }
 {
     match *cell {
         Cell::Text(_) => 0,

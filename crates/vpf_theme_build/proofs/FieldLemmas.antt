@@ -21,7 +21,7 @@ use Rattle.vpf_theme.specs.Findings.{cells_of}
 use Rattle.vpf_theme.specs.Agreeing.{scan_from, scan_of}
 use Rattle.vpf_theme_build.specs.declared.grouping.Spot.{Spot}
 use Rattle.vpf_theme_build.specs.declared.grouping.Group.{Group}
-use Rattle.vpf_theme_build.specs.Grouping.{AreOfOneField, FitColumn, IsIndexable, cells_in, entries_for, entry_for, entry_in, numbered, placed, spot_row, seen, values_of, with_value}
+use Rattle.vpf_theme_build.specs.Grouping.{AreOfOneField, FitColumn, IsIndexable, cells_in, entries_for, entry_for, entry_in, numbered_cells, placed_value, spot_row, seen, values_of, with_value}
 use Rattle.vpf_theme_build.specs.Text.{row_size_for}
 use Rattle.vpf_theme_build.specs.Writing.{AreEntries}
 use Rattle.vpf_theme.specs.declared.layout.Layout.{Layout}
@@ -45,15 +45,15 @@ all_cons : (P : Value → Type 0) (v : Value) (vs : List Value) → P v → All 
 all_cons P v vs p h zero d m = p
 all_cons P v vs p h (suc k) d m = h k d (omega arith)
 
-spot_step : (P : Value → Type 0) (spots : List Spot) (at : ℕ) (cells : List Value) → map seen spots ≡ numbered at cells → All (λ (s : Spot). P (view s.cell)) spots → All P cells
+spot_step : (P : Value → Type 0) (spots : List Spot) (at : ℕ) (cells : List Value) → map seen spots ≡ numbered_cells at cells → All (λ (s : Spot). P (view s.cell)) spots → All P cells
 spot_step P [] at [] e h = λ k d m. absurd (omega arith)
 spot_step P [] at (v ∷ cells) e h = absurd (cc e)
 spot_step P (s ∷ spots) at [] e h = absurd (cc e)
 spot_step P (s ∷ spots) at (v ∷ cells) e h =
-    let q = first_of (seen s) (v, at) (map seen spots) (numbered (at + 1) cells) e in
-    all_cons P v cells (subst P (ap (λ (p : Value × ℕ). p.0) q) (h zero s (omega arith))) (spot_step P spots (at + 1) cells (rest_of (seen s) (v, at) (map seen spots) (numbered (at + 1) cells) e) (λ j x y. h (suc j) x (omega arith)))
+    let q = first_of (seen s) (v, at) (map seen spots) (numbered_cells (at + 1) cells) e in
+    all_cons P v cells (subst P (ap (λ (p : Value × ℕ). p.0) q) (h zero s (omega arith))) (spot_step P spots (at + 1) cells (rest_of (seen s) (v, at) (map seen spots) (numbered_cells (at + 1) cells) e) (λ j x y. h (suc j) x (omega arith)))
 
-pub one_field : (grid : Grid) (c : ℕ) (spots : List Spot) → c < length grid.head.columns → IsIndexable grid c → FitColumn grid c spots → map seen spots ≡ numbered 1 (cells_of grid c)
+pub one_field : (grid : Grid) (c : ℕ) (spots : List Spot) → c < length grid.head.columns → IsIndexable grid c → FitColumn grid c spots → map seen spots ≡ numbered_cells 1 (cells_of grid c)
     → ((kind : Kind) (count : Count) (v u : Value) → IsTrue (is_indexed kind) → FitsCell kind count v → FitsCell kind count u → value_cmp v u ≡ Equal → v ≡ u) → AreOfOneField (cells_of grid c)
 one_field grid c spots h indexed fits e law i j a b k =
     let s = some_at grid.head.columns c h in
@@ -61,11 +61,11 @@ one_field grid c spots h indexed fits e law i j a b k =
     let all = spot_step (FitsCell column.kind column.count) spots 1 (cells_of grid c) e (fits column s.1) in
     law column.kind column.count (get_or (cells_of grid c) i Nothing) (get_or (cells_of grid c) j Nothing) (indexed column s.1) (all i Nothing a) (all j Nothing b) k
 
-pub length-numbered : (at : ℕ) (cells : List Value) → length (numbered at cells) ≡ length cells
+pub length-numbered : (at : ℕ) (cells : List Value) → length (numbered_cells at cells) ≡ length cells
 length-numbered at [] = refl
 length-numbered at (v ∷ cells) = ap suc (length-numbered (at + 1) cells)
 
-pub length-spots : (grid : Grid) (c : ℕ) (spots : List Spot) → map seen spots ≡ numbered 1 (cells_of grid c) → length spots ≡ length grid.rows
+pub length-spots : (grid : Grid) (c : ℕ) (spots : List Spot) → map seen spots ≡ numbered_cells 1 (cells_of grid c) → length spots ≡ length grid.rows
 length-spots grid c spots e =
     let a = length-map spots seen in
     let b = ap length e in
@@ -75,7 +75,7 @@ length-spots grid c spots e =
 
 -- ---- how many values
 
-placed_len : (c : Ordering) (v u : Value) (us rest : List Value) → length rest ≤ length us + 1 → length (placed c v u us rest) ≤ length us + 2
+placed_len : (c : Ordering) (v u : Value) (us rest : List Value) → length rest ≤ length us + 1 → length (placed_value c v u us rest) ≤ length us + 2
 placed_len Less v u us rest h = omega arith
 placed_len Equal v u us rest h = omega arith
 placed_len Greater v u us rest h = omega arith

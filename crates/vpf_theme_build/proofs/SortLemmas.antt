@@ -12,7 +12,7 @@ use Rattle.vpf_theme.specs.Ordering.{same_value, value_cmp}
 use Rattle.vpf_theme.specs.Agreeing.{scan_from}
 use Rattle.vpf_theme.specs.KeyLaws.{Decides-same_value, same_yes, same_no}
 use Rattle.vpf_theme_build.specs.declared.grouping.Spot.{Spot}
-use Rattle.vpf_theme_build.specs.Grouping.{AreOfOneField, Sorts, Spotted, entries_for, grouped, is_below, numbered, seen}
+use Rattle.vpf_theme_build.specs.Grouping.{AreOfOneField, Sorts, Spotted, entries_for, grouped, is_below, numbered_cells, seen}
 use Rattle.vpf_theme_build.proofs.EntryLists.{Told, same_entries}
 use Rattle.vpf_theme_build.proofs.GroupLemmas.{EachSpot, NotFalling, rows_with, grouped_each, grouped_filled, grouped_rising, grouped_listed}
 use Rattle.vpf_theme_build.proofs.ValueLists.{HasCell, is_cell, entries_for_rising, entries_for_each, entries_for_filled, entries_for_listed}
@@ -39,11 +39,11 @@ told_cells cells f v u p q e =
 
 -- ---- the cells in their rows
 
-pub rows_numbered : (at : ℕ) (v : Value) (cells : List Value) → rows_with v (numbered at cells) ≡ scan_from at v cells
+pub rows_numbered : (at : ℕ) (v : Value) (cells : List Value) → rows_with v (numbered_cells at cells) ≡ scan_from at v cells
 rows_numbered at v [] = refl
 rows_numbered at v (u ∷ cells) = ap (λ (x : List ℕ). cond (same_value u v) (at ∷ x) x) (rows_numbered (at + 1) v cells)
 
-each_numbered : (all : List Value) (at : ℕ) (cells : List Value) → ((w : Value) → is_cell cells w ≡ true → is_cell all w ≡ true) → EachSpot (HasCell all) (numbered at cells)
+each_numbered : (all : List Value) (at : ℕ) (cells : List Value) → ((w : Value) → is_cell cells w ≡ true → is_cell all w ≡ true) → EachSpot (HasCell all) (numbered_cells at cells)
 each_numbered all at [] h = tt
 each_numbered all at (v ∷ cells) h = (h v (rw (same_yes v v refl) refl), each_numbered all (at + 1) cells (λ w k. h w (or_right (same_value v w) (is_cell cells w) k)))
   where
@@ -128,12 +128,12 @@ spot_step : (b : Bool) (s : Spot) (spots : List Spot) (u v : Value) (rest : Bool
 spot_step true s spots u v rest e t k more = (zero, λ d. (omega arith, e ∙ (Decides-same_value u v).0 t))
 spot_step false s spots u v rest e t k more = let r = more k in (suc r.0, λ d. (let q = (r.1 d).0 in omega (arith, q), (r.1 d).1))
 
-spot_place : (v : Value) (spots : List Spot) (at : ℕ) (own : List Value) → map seen spots ≡ numbered at own → is_cell own v ≡ true → SpotOf v spots
+spot_place : (v : Value) (spots : List Spot) (at : ℕ) (own : List Value) → map seen spots ≡ numbered_cells at own → is_cell own v ≡ true → SpotOf v spots
 spot_place v [] at [] e h = absurd (false≢true h)
 spot_place v [] at (u ∷ own) e h = absurd (cc e)
 spot_place v (s ∷ spots) at [] e h = absurd (cc e)
 spot_place v (s ∷ spots) at (u ∷ own) e h =
-    spot_step (same_value u v) s spots u v (is_cell own v) (ap (λ (p : Spotted). p.0) (first_of (seen s) (u, at) (map seen spots) (numbered (at + 1) own) e)) refl h (spot_place v spots (at + 1) own (rest_of (seen s) (u, at) (map seen spots) (numbered (at + 1) own) e))
+    spot_step (same_value u v) s spots u v (is_cell own v) (ap (λ (p : Spotted). p.0) (first_of (seen s) (u, at) (map seen spots) (numbered_cells (at + 1) own) e)) refl h (spot_place v spots (at + 1) own (rest_of (seen s) (u, at) (map seen spots) (numbered_cells (at + 1) own) e))
 
 by_spot : IsTotalOrder value_cmp → (cells : List Value) → Told (HasCell cells) → (v : Value) (old new : List Spot) → All (SpotHas cells) old → All (SpotHas cells) new → IsStableBy is_below old new → (x : Spot) → view x.cell ≡ v → SpotHas cells x → filter (has_value v) new ≡ filter (has_value v) old
 by_spot o cells eq v old new p q stable x is has =
@@ -145,10 +145,10 @@ by_spot o cells eq v old new p q stable x is has =
 other_value : (cells : List Value) (v : Value) (spots : List Spot) → is_cell cells v ≡ false → All (SpotHas cells) spots → filter (has_value v) spots ≡ []
 other_value cells v spots h p = filter_none (has_value v) spots (λ k d m. same_no (view (get_or spots k d).cell) v (λ e. let t = p k d m in let w : is_cell cells v ≡ true = subst (HasCell cells) e t in false≢true (sym h ∙ w)))
 
-value_rows : IsTotalOrder value_cmp → (cells : List Value) → Told (HasCell cells) → (v : Value) (old new : List Spot) → All (SpotHas cells) old → All (SpotHas cells) new → IsStableBy is_below old new → (b : Bool) → is_cell cells v ≡ b → map seen old ≡ numbered 1 cells → filter (has_value v) new ≡ filter (has_value v) old
+value_rows : IsTotalOrder value_cmp → (cells : List Value) → Told (HasCell cells) → (v : Value) (old new : List Spot) → All (SpotHas cells) old → All (SpotHas cells) new → IsStableBy is_below old new → (b : Bool) → is_cell cells v ≡ b → map seen old ≡ numbered_cells 1 cells → filter (has_value v) new ≡ filter (has_value v) old
 value_rows o cells eq v [] new p q stable true h e = absurd (no_spots cells e h)
   where
-    no_spots : (cells : List Value) → [] ≡ numbered 1 cells → is_cell cells v ≡ true → ⊥
+    no_spots : (cells : List Value) → [] ≡ numbered_cells 1 cells → is_cell cells v ≡ true → ⊥
     no_spots [] e h = false≢true h
     no_spots (u ∷ cells) e h = cc e
 value_rows o cells eq v (s ∷ old) new p q stable true h e =
@@ -157,7 +157,7 @@ value_rows o cells eq v (s ∷ old) new p q stable true h e =
 value_rows o cells eq v old new p q stable false h e = other_value cells v new h q ∙ sym (other_value cells v old h p)
 
 -- sorted cells, grouped, are the entries of their column
-pub sorted_entries : IsTotalOrder value_cmp → (cells : List Value) → AreOfOneField cells → (old new : List Spot) → map seen old ≡ numbered 1 cells → Sorts old new → grouped (map seen new) ≡ entries_for cells
+pub sorted_entries : IsTotalOrder value_cmp → (cells : List Value) → AreOfOneField cells → (old new : List Spot) → map seen old ≡ numbered_cells 1 cells → Sorts old new → grouped (map seen new) ≡ entries_for cells
 sorted_entries o cells field old new e s =
     let eq = told_cells cells field in
     let each_old : EachSpot (HasCell cells) (map seen old) = subst (EachSpot (HasCell cells)) (sym e) (each_numbered cells 1 cells (λ w k. k)) in

@@ -9,9 +9,9 @@ use Rattle.vpf_head.specs.Head.{Col}
 use Rattle.vpf_table.specs.Grid.{Row}
 use Rattle.vpf_table.specs.Canonical.{FitsRow}
 use Rattle.vpf_theme_build.specs.declared.grouping.Spot.{Spot}
-use Rattle.vpf_theme_build.specs.Grouping.{numbered, seen}
+use Rattle.vpf_theme_build.specs.Grouping.{numbered_cells, seen}
 
-pub spots_more : (f : Row → Value) (c k : ℕ) (items more : List Spot) (spot : Spot) (row : Row) (rows rest : List Row) (whole : List (Value × ℕ)) → ((r : Row) → f r ≡ slice_index_or r c Nothing) → more ≡ items ++ spot ∷ [] → slice_get row c ≡ Some (view spot.cell) → spot.row ≡ k + 1 → rows ≡ row ∷ rest → map seen items ++ numbered (k + 1) (map f rows) ≡ whole → map seen more ++ numbered (k + 1 + 1) (map f rest) ≡ whole
+pub spots_more : (f : Row → Value) (c k : ℕ) (items more : List Spot) (spot : Spot) (row : Row) (rows rest : List Row) (whole : List (Value × ℕ)) → ((r : Row) → f r ≡ slice_index_or r c Nothing) → more ≡ items ++ spot ∷ [] → slice_get row c ≡ Some (view spot.cell) → spot.row ≡ k + 1 → rows ≡ row ∷ rest → map seen items ++ numbered_cells (k + 1) (map f rows) ≡ whole → map seen more ++ numbered_cells (k + 1 + 1) (map f rest) ≡ whole
 spots_more f c k items more spot row rows rest whole by pushed is number steps done =
     let e : f row ≡ view spot.cell = by row ∙ get_or_from_slice_get row c (view spot.cell) Nothing is in
     let d = rw (steps, e, ← number) at done in

@@ -9,7 +9,7 @@ use Rattle.vpf_theme.specs.Ordering.{same_value, value_cmp}
 use Rattle.vpf_theme.specs.Entries.{found_in}
 use Rattle.vpf_theme.specs.Agreeing.{listed, scan_from, scan_of}
 use Rattle.vpf_theme.specs.KeyLaws.{Decides-same_value, same_yes}
-use Rattle.vpf_theme_build.specs.Grouping.{placed, with_value, values_of, entry_for, entries_for}
+use Rattle.vpf_theme_build.specs.Grouping.{placed_value, with_value, values_of, entry_for, entries_for}
 use Rattle.vpf_theme_build.proofs.EntryLists.{AllAbove, Rising, Filled, EachValue, Told, back}
 
 -- a cell has the value
@@ -35,7 +35,7 @@ above_all : IsTotalOrder value_cmp → (v u : Value) (us : List Value) → value
 above_all o v u [] h a = tt
 above_all o v u (w ∷ us) h a = (o.trans v u w h a.0, above_all o v u us h a.1)
 
-above_case : (w v u : Value) (us rest : List Value) (c : Ordering) → value_cmp w v ≡ Less → value_cmp w u ≡ Less → Above w us → Above w rest → Above w (placed c v u us rest)
+above_case : (w v u : Value) (us rest : List Value) (c : Ordering) → value_cmp w v ≡ Less → value_cmp w u ≡ Less → Above w us → Above w rest → Above w (placed_value c v u us rest)
 above_case w v u us rest Less a b x y = (a, (b, x))
 above_case w v u us rest Equal a b x y = (b, x)
 above_case w v u us rest Greater a b x y = (b, y)
@@ -44,7 +44,7 @@ with_above : (w v : Value) (us : List Value) → value_cmp w v ≡ Less → Abov
 with_above w v [] a x = (a, tt)
 with_above w v (u ∷ us) a x = above_case w v u us (with_value v us) (value_cmp v u) a x.0 x.1 (with_above w v us a x.1)
 
-rise_case : IsTotalOrder value_cmp → (v u : Value) (us rest : List Value) (c : Ordering) → value_cmp v u ≡ c → Rise (u ∷ us) → Rise rest → (value_cmp u v ≡ Less → Above u rest) → Rise (placed c v u us rest)
+rise_case : IsTotalOrder value_cmp → (v u : Value) (us rest : List Value) (c : Ordering) → value_cmp v u ≡ c → Rise (u ∷ us) → Rise rest → (value_cmp u v ≡ Less → Above u rest) → Rise (placed_value c v u us rest)
 rise_case o v u us rest Less e r s f = ((e, above_all o v u us e r.0), r)
 rise_case o v u us rest Equal e r s f = r
 rise_case o v u us rest Greater e r s f = (f (back o v u e), s)
@@ -57,7 +57,7 @@ values_rise : IsTotalOrder value_cmp → (cells : List Value) → Rise (values_o
 values_rise o [] = tt
 values_rise o (v ∷ cells) = with_rise o v (values_of cells) (values_rise o cells)
 
-each_case : (P : Value → Type 0) (v u : Value) (us rest : List Value) (c : Ordering) → P v → P u → Each P us → Each P rest → Each P (placed c v u us rest)
+each_case : (P : Value → Type 0) (v u : Value) (us rest : List Value) (c : Ordering) → P v → P u → Each P us → Each P rest → Each P (placed_value c v u us rest)
 each_case P v u us rest Less a b x y = (a, (b, x))
 each_case P v u us rest Equal a b x y = (b, x)
 each_case P v u us rest Greater a b x y = (b, y)
@@ -79,7 +79,7 @@ or_swap true true c = refl
 or_swap true false c = refl
 or_swap false b c = refl
 
-has_case : (w v u : Value) (us rest : List Value) (c : Ordering) → value_cmp v u ≡ c → (value_cmp v u ≡ Equal → v ≡ u) → is_cell rest w ≡ (same_value v w || is_cell us w) → is_cell (placed c v u us rest) w ≡ (same_value v w || is_cell (u ∷ us) w)
+has_case : (w v u : Value) (us rest : List Value) (c : Ordering) → value_cmp v u ≡ c → (value_cmp v u ≡ Equal → v ≡ u) → is_cell rest w ≡ (same_value v w || is_cell us w) → is_cell (placed_value c v u us rest) w ≡ (same_value v w || is_cell (u ∷ us) w)
 has_case w v u us rest Less e q h = refl
 has_case w v u us rest Equal e q h = let t : same_value u w ≡ same_value v w = ap (λ (x : Value). same_value x w) (sym (q e)) in rw t (sym (or_same (same_value v w) (is_cell us w)))
 has_case w v u us rest Greater e q h = ap (λ (x : Bool). same_value u w || x) h ∙ or_swap (same_value u w) (same_value v w) (is_cell us w)

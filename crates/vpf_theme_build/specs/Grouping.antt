@@ -16,15 +16,15 @@ use Rattle.vpf_theme_build.specs.declared.grouping.Spot.{Spot}
 use Rattle.vpf_theme_build.specs.declared.grouping.Group.{Group}
 
 -- v and the values u, us, by how v and u are ordered; `rest` has v among us
-abbrev pub placed : Ordering → Value → Value → List Value → List Value → List Value
-placed Less v u us rest = v ∷ u ∷ us
-placed Equal v u us rest = u ∷ us
-placed Greater v u us rest = u ∷ rest
+abbrev pub placed_value : Ordering → Value → Value → List Value → List Value → List Value
+placed_value Less v u us rest = v ∷ u ∷ us
+placed_value Equal v u us rest = u ∷ us
+placed_value Greater v u us rest = u ∷ rest
 
 -- v among values that rise, once
 abbrev pub with_value : Value → List Value → List Value
 with_value v [] = v ∷ []
-with_value v (u ∷ us) = placed (value_cmp v u) v u us (with_value v us)
+with_value v (u ∷ us) = placed_value (value_cmp v u) v u us (with_value v us)
 
 -- the values of cells, each once, rising
 abbrev pub values_of : List Value → List Value
@@ -55,9 +55,9 @@ abbrev pub AreOfOneField : List Value → Type 0
 AreOfOneField vs = (i j : ℕ) → i < length vs → j < length vs → value_cmp (slice_index_or vs i Nothing) (slice_index_or vs j Nothing) ≡ Equal → slice_index_or vs i Nothing ≡ slice_index_or vs j Nothing
 
 -- the cells from a row on, with their rows
-abbrev pub numbered : ℕ → List Value → List Spotted
-numbered at [] = []
-numbered at (v ∷ vs) = (v, at) ∷ numbered (at + 1) vs
+abbrev pub numbered_cells : ℕ → List Value → List Spotted
+numbered_cells at [] = []
+numbered_cells at (v ∷ vs) = (v, at) ∷ numbered_cells (at + 1) vs
 
 -- a cell joined to the entries of the cells behind it
 abbrev pub joined_spot : Spotted → List Entry → List Entry

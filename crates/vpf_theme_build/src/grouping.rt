@@ -2,7 +2,7 @@
 
 ghost use Rattle.std.specs.Prelude.{◌≡◌, ◌<◌, All, IfOk, MatchBool, OnOk, length, map};
 ghost use Rattle.vpf_theme.specs.Findings.{cells_of};
-ghost use Rattle.vpf_theme_build.specs.Grouping.{EndsAt, FitColumn, GoesOn, IsGroup, IsIndexable, Sorts, entries_for, entry_in, grouped, numbered, seen};
+ghost use Rattle.vpf_theme_build.specs.Grouping.{EndsAt, FitColumn, GoesOn, IsGroup, IsIndexable, Sorts, entries_for, entry_in, grouped, numbered_cells, seen};
 
 use std::alloc::{AllocError, Global};
 use vpf_table::TableView;
@@ -35,7 +35,7 @@ fn spots_of<'a>(
     column: usize,
 ) -> Result<Vec<Spot<'a>>, AllocError>
     requires { column < length table.now.head.columns }
-    ensures spots { IfOk result (λ spots. map seen spots.items ≡ numbered 1 (cells_of table.now column)) }
+    ensures spots { IfOk result (λ spots. map seen spots.items ≡ numbered_cells 1 (cells_of table.now column)) }
     ensures fits { IfOk result (λ spots. FitColumn table.now column spots.items) }
 {
     let mut spots = Vec::with_capacity(alloc, table.len() as usize)?;

@@ -22,7 +22,7 @@ use Rattle.vpf_library_files.specs.Loading.Loading.{within}
 use Rattle.vpf_tiling.specs.Tiles.{is_made}
 use Rattle.vpf_primitive_tables.specs.TileTables.Grids.{edges_made, entities_made, faces_made, nodes_made, rings_made}
 use Rattle.vpf_table_files.specs.Adding.{NamedTable, first_limit_of, named_limit, table_within}
-use Rattle.vpf_tiler.specs.TileFiles.Tables.{all_tile_tables, edge_table, entity_tables, face_table, node_table, ring_table, tables_if_made, tile_tables}
+use Rattle.vpf_tiler.specs.TileFiles.Tables.{all_tile_tables, tile_edge_table, entity_tables, face_table, node_table, tile_ring_table, tables_if_made, tile_tables}
 use Rattle.vpf_primitive_tables.specs.TileReading.Cuts.{tables_of_tile}
 use Rattle.vpf_primitive_tables.specs.TileWriting.Writable.{AreWritable, HaveFewRows}
 
@@ -90,11 +90,11 @@ tile_few : (folder : List ℕ) (T : PrimitiveTables) (plan : ℕ → ℕ) (t : �
 tile_few folder T plan t none =
     let c : Primitives = primitives_of T in
     let nodes : List NamedTable = node_table folder T c plan t ∷ entity_tables folder T.end c plan t in
-    let rings : List NamedTable = ring_table folder T c plan t ∷ nodes in
+    let rings : List NamedTable = tile_ring_table folder T c plan t ∷ nodes in
     let faces : List NamedTable = face_table folder T c plan t ∷ rings in
-    let e = first_and_others (edge_table folder T c plan t) faces none in
+    let e = first_and_others (tile_edge_table folder T c plan t) faces none in
     let f = first_and_others (face_table folder T c plan t) rings e.1 in
-    let r = first_and_others (ring_table folder T c plan t) nodes f.1 in
+    let r = first_and_others (tile_ring_table folder T c plan t) nodes f.1 in
     let n = first_and_others (node_table folder T c plan t) (entity_tables folder T.end c plan t) r.1 in
     record {
       edg = few_rows (edges_made T.edg c plan t) e.0;

@@ -31,6 +31,6 @@ IsCause first (errors.Limit name limit) = ⊥
 IsCause first errors.NoMemory = Unit {0}
 
 -- a call answered Ok where there is no cause, and else why
-abbrev pub Refuses : {V : Type 0} → Option Refusal → Result V TileError → Type 0
-Refuses first (Ok v) = first ≡ None
-Refuses first (Err error) = IsCause first error
+abbrev pub RefusesCut : {V : Type 0} → Option Refusal → Result V TileError → Type 0
+RefusesCut first (Ok v) = first ≡ None
+RefusesCut first (Err error) = IsCause first error

@@ -10,7 +10,7 @@ ghost use Rattle.vpf_tiling.specs.Plan.Plans.{IsPlanTable};
 ghost use Rattle.vpf_library_files.specs.Tileref.Stops.{IsBounded, path_texts};
 ghost use Rattle.vpf_library_files.specs.Tileref.Tileref.{IsTileref};
 ghost use Rattle.vpf_primitive_tables.specs.TileWriting.Writable.{AreWritable, HaveFewRows};
-ghost use Rattle.vpf_tiler.specs.CutBy.{IsCutBy, Refuses, plan_refusal};
+ghost use Rattle.vpf_tiler.specs.CutBy.{IsCutBy, RefusesCut, plan_refusal};
 ghost use Rattle.vpf_tiler.specs.Laws.{IsReadable};
 
 use crate::errors::TileError;
@@ -29,7 +29,7 @@ use vpf_tiling::tileable::{check_tileable, planned_tiles};
 use vpf_wing::laws::{cycles_decide, loops_decide};
 
 /// What is so of each table: its header is sound, its rows fit the columns, and they are few.
-pub(crate) fn is_readable(table: &TableView<'_>)
+pub(crate) fn source_reads(table: &TableView<'_>)
     ensures { IsReadable table.now }
 {
     let _columns = table.header().len();
@@ -38,24 +38,24 @@ pub(crate) fn is_readable(table: &TableView<'_>)
 }
 
 /// The same of the table of this name, where a tile has one.
-fn has_readable(tile: &Tile<'_>, name: TableName)
+fn table_reads(tile: &Tile<'_>, name: TableName)
     ensures { IfSome (table_named tile.now name) IsReadable }
 {
     if let Some(table) = tile.table(name) {
-        is_readable(table);
+        source_reads(table);
     }
 }
 
 /// The same of all tables of a tile.
-fn are_readable(tile: &Tile<'_>)
+fn tables_are_read(tile: &Tile<'_>)
     ensures writable { AreWritable tile.now.tables }
     ensures few { HaveFewRows tile.now.tables }
 {
-    has_readable(tile, TableName::Edg);
-    has_readable(tile, TableName::Fac);
-    has_readable(tile, TableName::Rng);
-    has_readable(tile, TableName::Cnd);
-    has_readable(tile, TableName::End);
+    table_reads(tile, TableName::Edg);
+    table_reads(tile, TableName::Fac);
+    table_reads(tile, TableName::Rng);
+    table_reads(tile, TableName::Cnd);
+    table_reads(tile, TableName::End);
 }
 
 /// The tables of an untiled coverage in whose topology nothing disagrees.
@@ -68,9 +68,9 @@ pub(crate) fn source_of<'c, 'a>(checked: &Checked<'c, 'a>) -> &'c Tile<'a>
     ensures few { HaveFewRows result.now.tables }
 {
     let coverage = checked.coverage();
-    coverage.is_library();
-    coverage.has_numbers();
-    checked.agrees();
+    coverage.tiles_make_library();
+    coverage.numbers_hold();
+    checked.topology_holds();
     numbers_decide();
     loops_decide();
     cycles_decide();
@@ -79,7 +79,7 @@ pub(crate) fn source_of<'c, 'a>(checked: &Checked<'c, 'a>) -> &'c Tile<'a>
     };
     // The number of edges is one that darts can have.
     let _edges = tile.edges();
-    are_readable(tile);
+    tables_are_read(tile);
     tile
 }
 
@@ -109,7 +109,7 @@ pub(crate) fn cut_by<'t, 'a>(
     requires plan { IsPlanTable plan.now }
     requires some { 1 ≤ tiles }
     requires few { tiles < 2 ^ 31 }
-    ensures refused { Refuses (plan_refusal source.now.tables plan.now tiles) result }
+    ensures refused { RefusesCut (plan_refusal source.now.tables plan.now tiles) result }
     ensures cut { IfOk result (IsCutBy source.now.tables plan.now tiles) }
 {
     refusals_decide();

@@ -17,7 +17,7 @@ ghost use Rattle.vpf_tiler.specs.Tilings.{GoesOnAs, HasCyclesOf, InEachFolder, I
 
 use crate::errors::TileError;
 use crate::laws::made_agrees;
-use crate::sources::{cut_by, is_readable, paths_of, source_of};
+use crate::sources::{cut_by, paths_of, source_of, source_reads};
 use crate::tile_files::Making;
 use std::alloc::{AllocError, Global};
 use vpf_cross::Checked;
@@ -140,7 +140,7 @@ pub fn tile(
         → IfOk result (λ files. OfEachCoverage cov.now files.items (IsGluedTo (tiling_of tables.tables plan.now tileref.now))) }
 {
     made_agrees();
-    is_readable(tileref);
+    source_reads(tileref);
     // The name of the coverage is text.
     let _text = cov.as_bytes();
     let source = source_of(checked);

@@ -237,8 +237,8 @@ in_nodes c w d h = (
     side true row r = plain_nodes c row.start_node r.start_node
     side false row r = plain_nodes c row.end_node r.end_node
 
-pub tail_in : (c : Primitives) → IsWellFormed c → (d : ℕ) → (untiled_links c).has d ≡ true → InNodes c (tail_of c d)
-tail_in c w d h = in_nodes c w (flip d) (flip-has (untiled c) d h)
+pub tail_in_nodes : (c : Primitives) → IsWellFormed c → (d : ℕ) → (untiled_links c).has d ≡ true → InNodes c (tail_of c d)
+tail_in_nodes c w d h = in_nodes c w (flip d) (flip-has (untiled c) d h)
 
 -- a present dart that begins at a present node
 pub record AtNode (c : Primitives) (plan : ℕ → ℕ) (t n : ℕ) : Type 0 where
@@ -256,7 +256,7 @@ at_node c plan t n h = (
 pub no_node_zero : (c : Primitives) (plan : ℕ → ℕ) → IsWellFormed c → (t : ℕ) → has_node c plan t 0 ≡ false
 no_node_zero c plan w t = elim (cases_Bool (has_node c plan t 0)) [
   | inl h ↦
-      (let a : AtNode c plan t 0 = at_node c plan t 0 h in let b = (tail_in c w a.dart (present_has c plan t a.dart a.present)).from_one in let e = a.tail in
+      (let a : AtNode c plan t 0 = at_node c plan t 0 h in let b = (tail_in_nodes c w a.dart (present_has c plan t a.dart a.present)).from_one in let e = a.tail in
       absurd (omega arith))
   | inr f ↦ f
 ]

@@ -26,13 +26,13 @@ pub(crate) fn is_on_line(coverage: &Coverage<'_>, dart: TileDart) -> bool
 }
 
 /// What is so of each checked coverage: its darts can be traced.
-pub(crate) fn is_traceable(checked: &Checked<'_, '_>)
+pub(crate) fn walks_pass_lines(checked: &Checked<'_, '_>)
     ensures { IsTraceable (library_of checked.now) }
 {
     let coverage = checked.coverage();
-    coverage.is_library();
-    coverage.has_numbers();
-    checked.agrees();
+    coverage.tiles_make_library();
+    coverage.numbers_hold();
+    checked.topology_holds();
     numbers_decide();
     cycles_decide();
     followers_decide();
@@ -84,7 +84,7 @@ pub fn step(checked: &Checked<'_, '_>, dart: TileDart) -> TileDart
     ensures next { tile_dart_code result ≡ (traced_map (library_of checked.now)).next (tile_dart_code dart) }
     ensures kept { is_kept (library_of checked.now) (tile_dart_code result) ≡ true }
 {
-    is_traceable(checked);
+    walks_pass_lines(checked);
     homes_exist();
     next_kept(&PastLines { checked }, dart)
 }

@@ -6,7 +6,7 @@ ghost use Rattle.vpf_prims.specs.Libraries.{library_of};
 ghost use Rattle.vpf_trace.specs.Tracing.{IsTrace};
 
 use crate::gathering::kept_darts;
-use crate::stepping::{PastLines, is_traceable};
+use crate::stepping::{PastLines, walks_pass_lines};
 use std::alloc::{AllocError, Global};
 use vpf_cross::Checked;
 use vpf_cross::follow::laws::homes_exist;
@@ -22,7 +22,7 @@ use vpf_wing::kept::list_kept;
 pub fn trace(alloc: Global, checked: &Checked<'_, '_>) -> Result<Listing, AllocError>
     ensures { IfOk result (λ listing. IsTrace (library_of checked.now) (numbers_of listing)) }
 {
-    is_traceable(checked);
+    walks_pass_lines(checked);
     homes_exist();
     removal_leaves_a_map();
     let darts = kept_darts(alloc, checked.coverage())?;

@@ -20,7 +20,7 @@ use Rattle.vpf_value.specs.Values.{Value, TextOf, Word4Of, Word8Of, NumberOf, Da
 use Rattle.vpf_value.specs.Fitting.{FitsKind, FitsCell, FitsTuples}
 use Rattle.vpf_value.specs.Widths.{cell_width, many_width}
 use Rattle.vpf_value.specs.Canonical.{spelled, spelled_text, spelled_word4, spelled_word8, spelled_number, spelled_date, spelled_tuples}
-use Rattle.vpf_value.specs.Turning.{each_piece, word_size, size_bytes, turned_cell}
+use Rattle.vpf_value.specs.Turning.{each_piece, word_size, bytes_of_word, turned_cell}
 use Rattle.vpf_value.proofs.Numbers.{length-number, length-number16}
 use Rattle.vpf_value.proofs.WordTexts.{length-word_text}
 
@@ -55,7 +55,7 @@ one_word : (size : ℕ) (s : List ℕ) → length s ≡ size → each_piece reve
 unfolding each_piece
 one_word size s e = rw (take_all size s (omega (arith, e)), drop_all size s (omega (arith, e))) (append-nil (reverse s))
 
-whole_word : (size : WordSize) (s : List ℕ) → length s ≡ size_bytes size → turned_cell size s ≡ reverse s
+whole_word : (size : WordSize) (s : List ℕ) → length s ≡ bytes_of_word size → turned_cell size s ≡ reverse s
 whole_word One s e = let n : length s / 1 ≡ 1 = omega (arith, e) in rw n (one_word 1 s e)
 whole_word Two s e = let n : length s / 2 ≡ 1 = omega (arith, e) in rw n (one_word 2 s e)
 whole_word Four s e = let n : length s / 4 ≡ 1 = omega (arith, e) in rw n (one_word 4 s e)

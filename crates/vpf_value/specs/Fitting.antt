@@ -17,19 +17,19 @@ use Rattle.vpf_value.specs.Values.{Value, TextOf, Word4Of, Word8Of, NumberOf, Da
 use Rattle.vpf_value.specs.Spelling.{IsCell}
 
 -- a field of this count may hold `n` values: so many as it says, or as many as a count of 4 bytes can say
-abbrev pub Holds : Count → ℕ → Type 0
-Holds (Fixed m) n = n ≡ m
-Holds Star n = n < 2 ^ 32
+abbrev pub HoldsMany : Count → ℕ → Type 0
+HoldsMany (Fixed m) n = n ≡ m
+HoldsMany Star n = n < 2 ^ 32
 
 -- so many words make tuples, and the field may hold as many
 pub record HoldsTuples (tuple : Tuple) (count : Count) (words : ℕ) : Type 0 where
   pub tuples : ℕ
   pub whole : words ≡ tuple_len tuple * tuples
-  pub held : Holds count tuples
+  pub held : HoldsMany count tuples
 
 -- a text of as many bytes as the field may hold
 abbrev pub FitsText : Count → Value → Type 0
-FitsText count (TextOf text) = Holds count (length text)
+FitsText count (TextOf text) = HoldsMany count (length text)
 FitsText count v = ⊥
 
 -- a word of 4 bytes

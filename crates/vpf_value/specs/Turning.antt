@@ -11,11 +11,11 @@ each_piece change zero size bytes = bytes
 each_piece change (suc n) size bytes = change (take size bytes) ++ each_piece change n size (drop size bytes)
 
 -- how many bytes a word has
-abbrev pub size_bytes : WordSize → ℕ
-size_bytes One = 1
-size_bytes Two = 2
-size_bytes Four = 4
-size_bytes Eight = 8
+abbrev pub bytes_of_word : WordSize → ℕ
+bytes_of_word One = 1
+bytes_of_word Two = 2
+bytes_of_word Four = 4
+bytes_of_word Eight = 8
 
 -- The words of cells of this kind: the numbers that stand there in the byte order of the file. Where none does, each byte is a word.
 abbrev pub word_size : Kind → WordSize
@@ -31,4 +31,4 @@ word_size kind = One
 
 -- the bytes of a cell, each of its words turned round
 abbrev pub turned_cell : WordSize → List ℕ → List ℕ
-turned_cell size bytes = each_piece reverse (length bytes / size_bytes size) (size_bytes size) bytes
+turned_cell size bytes = each_piece reverse (length bytes / bytes_of_word size) (bytes_of_word size) bytes

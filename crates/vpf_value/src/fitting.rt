@@ -4,7 +4,7 @@ ghost use Rattle.std.specs.Prelude.{◌≡◌, ◌↔◌, IsTrue};
 ghost use Rattle.vpf_value.specs.Values.{WordsOf, view};
 ghost use Rattle.vpf_value.specs.Coordinates.{words, words_width};
 ghost use Rattle.vpf_triplet.specs.Reading.{is_small};
-ghost use Rattle.vpf_value.specs.Fitting.{Holds, HoldsTuples, FitsWord4, FitsWord8, FitsTuples, FitsKind, FitsCell, HasSpelling};
+ghost use Rattle.vpf_value.specs.Fitting.{HoldsMany, HoldsTuples, FitsWord4, FitsWord8, FitsTuples, FitsKind, FitsCell, HasSpelling};
 
 use crate::cells::Cell;
 use crate::coords::{Coords, Tuple, WordWidth};
@@ -15,7 +15,7 @@ use vpf_triplet::{Count, Kind, Triplet};
 const PART_LIMIT: u32 = 0x8000_0000;
 
 fn holds(count: Count, n: usize) -> bool
-    ensures { IsTrue result ↔ Holds count n }
+    ensures { IsTrue result ↔ HoldsMany count n }
 {
     match count {
         Count::Fixed(m) => n == m as usize,

@@ -6,7 +6,7 @@ ghost use Rattle.vpf_triplet.specs.Numbers.{number};
 ghost use Rattle.vpf_value.specs.Words.{word_bytes, word_limit, tuple_len, spelled_words, number_width};
 ghost use Rattle.vpf_value.specs.Values.{view};
 ghost use Rattle.vpf_value.specs.Coordinates.{words, words_width};
-ghost use Rattle.vpf_value.specs.Fitting.{Holds, HoldsTuples, FitsCell};
+ghost use Rattle.vpf_value.specs.Fitting.{HoldsMany, HoldsTuples, FitsCell};
 ghost use Rattle.vpf_value.specs.Canonical.{with_count, spelled};
 
 use crate::cells::{COUNT_BYTES, Cell};
@@ -18,7 +18,7 @@ use vpf_triplet::{Count, Kind, Order};
 /// Appends how many values follow where the field has no count of its own.
 #[inline]
 fn put_count(order: Order, count: Count, values: usize, out: &mut Vec<u8>) -> Result<(), AllocError>
-    requires { Holds count values }
+    requires { HoldsMany count values }
     ensures ok { OnOk result (out.new.items ≡ out.old.items ++ with_count order count values []) }
     ensures err { OnErr result (out.new.items ≡ out.old.items) }
 {
@@ -30,7 +30,7 @@ fn put_count(order: Order, count: Count, values: usize, out: &mut Vec<u8>) -> Re
 
 #[inline]
 fn put_text(order: Order, count: Count, text: &[u8], out: &mut Vec<u8>) -> Result<(), AllocError>
-    requires { Holds count (length text.now) }
+    requires { HoldsMany count (length text.now) }
     ensures ok { OnOk result (out.new.items ≡ out.old.items ++ with_count order count (length text.now) text.now) }
     ensures err { OnErr result (out.new.items ≡ out.old.items) }
 {

@@ -10,14 +10,14 @@ use Rattle.vpf_table.specs.Canonical.{FitsRow}
 use Rattle.vpf_table.specs.Grid.{Row}
 use Rattle.vpf_vectors.specs.declared.cells.rows.EdgeRow.{EdgeRow}
 use Rattle.vpf_vectors.specs.Heads.{tileref_head, edge_head, name_width}
-use Rattle.vpf_vectors.specs.Tables.{number, padded_name, tile_cells, edge_cells}
+use Rattle.vpf_vectors.specs.Tables.{cell_of_number, padded_name, tile_cells, edge_cells}
 use Rattle.vpf_vectors.specs.Writing.{IsGridNumber, IsSmallEdge}
 use Rattle.vpf_vectors.proofs.NameLemmas.{name_length}
 
-pub number_fits : (k : ℕ) → k ≤ 100000 → FitsCell kinds.I (Fixed 1) (number k)
+pub number_fits : (k : ℕ) → k ≤ 100000 → FitsCell kinds.I (Fixed 1) (cell_of_number k)
 number_fits k h = search rules
 
-mark_fits : (b : Bool) → FitsCell kinds.S (Fixed 1) (number (if b then 1 else 0))
+mark_fits : (b : Bool) → FitsCell kinds.S (Fixed 1) (cell_of_number (if b then 1 else 0))
 mark_fits true = search rules
 mark_fits false = search rules
 
@@ -41,14 +41,14 @@ tile_fits k h = (number_fits k h, (text_fits (padded_name k) (name_length k h), 
 fits_as : (h g : Head) (cells row : Row) → h ≡ g → cells ≡ row → FitsRow g.columns row → FitsRow h.columns cells
 fits_as h g cells row e f fits = subst (λ (x : Head). FitsRow x.columns cells) (sym e) (subst (FitsRow g.columns) (sym f) fits)
 
-pub tile_is : (k : ℕ) (a : Value) (text : List ℕ) → a ≡ number k → text ≡ padded_name k → (a ∷ TextOf text ∷ []) ≡ tile_cells k
-tile_is k a text e f = ap (λ x. x ∷ TextOf text ∷ []) e ∙ ap (λ t. number k ∷ TextOf t ∷ []) f
+pub tile_is : (k : ℕ) (a : Value) (text : List ℕ) → a ≡ cell_of_number k → text ≡ padded_name k → (a ∷ TextOf text ∷ []) ≡ tile_cells k
+tile_is k a text e f = ap (λ x. x ∷ TextOf text ∷ []) e ∙ ap (λ t. cell_of_number k ∷ TextOf t ∷ []) f
 
 pub tile_cells_fit : (h : Head) (k : ℕ) (cells : Row) → h ≡ tileref_head → IsGridNumber k → cells ≡ tile_cells k → FitsRow h.columns cells
 tile_cells_fit h k cells e small f = fits_as h tileref_head cells (tile_cells k) e f (tile_fits k small)
 
-pub edge_is : (id : ℕ) (r : EdgeRow) (a b c d e f g m : Value) → a ≡ number id → b ≡ number r.start_node → c ≡ number r.end_node
-    → d ≡ number r.right_face → e ≡ number r.left_face → f ≡ number r.right_edge → g ≡ number r.left_edge → m ≡ number (if r.tile_line then 1 else 0)
+pub edge_is : (id : ℕ) (r : EdgeRow) (a b c d e f g m : Value) → a ≡ cell_of_number id → b ≡ cell_of_number r.start_node → c ≡ cell_of_number r.end_node
+    → d ≡ cell_of_number r.right_face → e ≡ cell_of_number r.left_face → f ≡ cell_of_number r.right_edge → g ≡ cell_of_number r.left_edge → m ≡ cell_of_number (if r.tile_line then 1 else 0)
     → (a ∷ b ∷ c ∷ d ∷ e ∷ f ∷ g ∷ m ∷ []) ≡ edge_cells (id, r)
 edge_is id r a b c d e f g m ea eb ec ed ee ef eg em = cc
 

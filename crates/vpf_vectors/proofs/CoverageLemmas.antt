@@ -6,7 +6,7 @@ use Rattle.vpf_table.specs.Grid.{Row}
 use Rattle.vpf_prims.specs.Primitives.{EdgePrimitive, FacePrimitive, RingPrimitive, NodePrimitive, Primitives}
 use Rattle.vpf_prims.specs.Reading.{edge_in_row, face_in_row, ring_in_row, node_in_row, primitives_of}
 use Rattle.vpf_vectors.specs.Cells.Numbers.{nodes, edges, faces}
-use Rattle.vpf_vectors.specs.Cells.Rows.{row_of_edge, ring_row, first_edge}
+use Rattle.vpf_vectors.specs.Cells.Rows.{row_of_edge, grid_ring_row, first_edge}
 use Rattle.vpf_vectors.specs.GridCoverage.Coverage.{grid_edge, grid_face, grid_ring, grid_node, grid_primitives}
 use Rattle.vpf_vectors.specs.Heads.{edge_head, face_head, ring_head, node_head}
 use Rattle.vpf_vectors.specs.Library.{coverage_tables}
@@ -34,7 +34,7 @@ edge_said n k = refl
 face_said : (k : ℕ) → face_in_row face_head.columns (pair_cells (k, k)) ≡ grid_face k
 face_said k = refl
 
-ring_said : (k : ℕ) → ring_in_row ring_head.columns (ring_cells (k, ring_row k)) ≡ grid_ring k
+ring_said : (k : ℕ) → ring_in_row ring_head.columns (ring_cells (k, grid_ring_row k)) ≡ grid_ring k
 ring_said k = refl
 
 node_said : (n k : ℕ) → node_in_row node_head.columns (pair_cells (k, first_edge n k)) ≡ grid_node n k
@@ -54,5 +54,5 @@ says_grid n =
     (primitives_of (coverage_tables n)).rings (grid_primitives n).rings (primitives_of (coverage_tables n)).nodes (grid_primitives n).nodes
     (said (edge_in_row edge_head.columns) edge_cells (row_of_edge n) (grid_edge n) (edge_said n) 1 (edges n))
     (said_ids (face_in_row face_head.columns) pair_cells grid_face face_said 1 (faces n))
-    (said (ring_in_row ring_head.columns) ring_cells ring_row grid_ring ring_said 1 (faces n))
+    (said (ring_in_row ring_head.columns) ring_cells grid_ring_row grid_ring ring_said 1 (faces n))
     (said (node_in_row node_head.columns) pair_cells (first_edge n) (grid_node n) (node_said n) 1 (nodes n))

@@ -14,8 +14,8 @@ use Rattle.vpf_write.specs.Tallies.{Tally, grid_with}
 use Rattle.vpf_write.specs.Writing.{first_limit, limit_by}
 use Rattle.vpf_vectors.specs.declared.cells.rows.EdgeRow.{EdgeRow}
 use Rattle.vpf_vectors.specs.declared.cells.rows.RingRow.{RingRow}
-use Rattle.vpf_vectors.specs.Heads.{head, ids, numbers, tileref_head, edge_head, ring_head}
-use Rattle.vpf_vectors.specs.Tables.{number, tile_cells, edge_cells, ring_cells, pair_cells, padded_name, tileref_table, edge_table, ring_table, pair_table}
+use Rattle.vpf_vectors.specs.Heads.{plain_head, ids, numbers, tileref_head, edge_head, ring_head}
+use Rattle.vpf_vectors.specs.Tables.{cell_of_number, tile_cells, edge_cells, ring_cells, pair_cells, padded_name, grid_tileref, edge_table, ring_table, pair_table}
 use Rattle.vpf_vectors.specs.Writing.{HasPairs}
 use Rattle.vpf_vectors.proofs.HeadLemmas.{short_tileref, short_edges, short_rings}
 use Rattle.vpf_vectors.proofs.NameLemmas.{name_length}
@@ -44,15 +44,15 @@ no_limit_by t r s ht hr hs =
     rw (a, b, c) refl
 
 -- few short rows under a short header pass no limit
-no_limit : (description : List ℕ) (columns : List Col) (rows : List Row) → length (canonical_text (head description columns)) ≤ 1000
-    → varies_in columns ≡ false → length rows ≤ 100000 → AllByRecursion (IsShortRow (head description columns)) rows
-    → first_limit (record { head = head description columns; rows = rows }) ≡ None
+no_limit : (description : List ℕ) (columns : List Col) (rows : List Row) → length (canonical_text (plain_head description columns)) ≤ 1000
+    → varies_in columns ≡ false → length rows ≤ 100000 → AllByRecursion (IsShortRow (plain_head description columns)) rows
+    → first_limit (record { head = plain_head description columns; rows = rows }) ≡ None
 no_limit description columns rows short fixed few all =
-    let a = length-append (canonical_header (head description columns)) (rows_text (head description columns).order columns rows) in
-    let b = rows_length (head description columns) rows all in
-    let c : length (canonical_header (head description columns)) ≡ 4 + length (canonical_text (head description columns)) = omega arith in
-    let size = length (canonical_table (record { head = head description columns; rows = rows })) in
-    rw fixed (no_limit_by (length (canonical_text (head description columns))) (length rows) size short few (omega (arith, a, b, c, short, few)))
+    let a = length-append (canonical_header (plain_head description columns)) (rows_text (plain_head description columns).order columns rows) in
+    let b = rows_length (plain_head description columns) rows all in
+    let c : length (canonical_header (plain_head description columns)) ≡ 4 + length (canonical_text (plain_head description columns)) = omega arith in
+    let size = length (canonical_table (record { head = plain_head description columns; rows = rows })) in
+    rw fixed (no_limit_by (length (canonical_text (plain_head description columns))) (length rows) size short few (omega (arith, a, b, c, short, few)))
 
 each : {X : Type 0} (P : Row → Type 0) (f : X → Row) → ((x : X) → P (f x)) → (xs : List X) → AllByRecursion P (map f xs)
 each P f p [] = tt
@@ -70,12 +70,12 @@ unfolding row_text
 ring_length p = refl
 
 pair_length : (description id name text : List ℕ) (p : ℕ × ℕ)
-    → length (row_text (head description []).order (ids id ∷ numbers name text ∷ []) (pair_cells p)) ≡ 8
+    → length (row_text (plain_head description []).order (ids id ∷ numbers name text ∷ []) (pair_cells p)) ≡ 8
 unfolding row_text
 pair_length description id name text p = refl
 
 text_length : (k : ℕ) (text : List ℕ) → length text ≡ 8
-    → length (row_text tileref_head.order tileref_head.columns (number k ∷ TextOf text ∷ [])) ≡ 12
+    → length (row_text tileref_head.order tileref_head.columns (cell_of_number k ∷ TextOf text ∷ [])) ≡ 12
 unfolding row_text
 text_length k text h = let a = length-append text [] in omega (arith, a, h)
 
@@ -84,7 +84,7 @@ tiles_are_short a zero h = tt
 tiles_are_short a (suc k) h =
     (let e = text_length a (padded_name a) (name_length a (omega arith)) in omega (arith, e), tiles_are_short (a + 1) k (omega arith))
 
-pub tileref_limit : (tiles : ℕ) → tiles ≤ 100000 → first_limit (tileref_table tiles) ≡ None
+pub tileref_limit : (tiles : ℕ) → tiles ≤ 100000 → first_limit (grid_tileref tiles) ≡ None
 tileref_limit tiles few =
     let l = length-map-range_with_len tile_cells 1 tiles in
     no_limit tileref_head.description tileref_head.columns (map tile_cells (range_with_len 1 tiles)) short_tileref refl (omega (arith, l))
@@ -102,11 +102,11 @@ rings_limit rows few =
 
 -- the same of a header that is spelled out
 pairs_limit_by : (description id name text : List ℕ) (first : ℕ) (values : List ℕ)
-    → length (canonical_text (head description (ids id ∷ numbers name text ∷ []))) ≤ 1000 → length values ≤ 100000
-    → first_limit (pair_table (head description (ids id ∷ numbers name text ∷ [])) first values) ≡ None
+    → length (canonical_text (plain_head description (ids id ∷ numbers name text ∷ []))) ≤ 1000 → length values ≤ 100000
+    → first_limit (pair_table (plain_head description (ids id ∷ numbers name text ∷ [])) first values) ≡ None
 pairs_limit_by description id name text first values short few =
     no_limit description (ids id ∷ numbers name text ∷ []) (map pair_cells (enumerate_from first values)) short refl (few_rows pair_cells first values few)
-    (each (IsShortRow (head description (ids id ∷ numbers name text ∷ []))) pair_cells
+    (each (IsShortRow (plain_head description (ids id ∷ numbers name text ∷ []))) pair_cells
     (λ p. let l = pair_length description id name text p in omega (arith, l)) (enumerate_from first values))
 
 pub pairs_limit : (h : Head) (first : ℕ) (values : List ℕ) → HasPairs h → first + length values ≤ 100000 → first_limit (pair_table h first values) ≡ None

@@ -8,9 +8,9 @@ use Rattle.vpf_darts.specs.Darts.{code}
 use Rattle.vpf_vectors.specs.Cells.Laws.{DartsAreInRange, GridIsMap, FirstEdgesAreLeast, FacesHaveTiles}
 use Rattle.vpf_vectors.specs.Cells.Maps.{has_dart, next_in_grid, tail_in, head_in, face_in}
 use Rattle.vpf_vectors.specs.Cells.Numbers.{nodes, faces, edges}
-use Rattle.vpf_vectors.specs.Cells.Rows.{row_of_edge, ring_row, start_edge, first_edge, tile_of, edge_rows, face_rows, ring_rows, node_rows, plan_rows}
+use Rattle.vpf_vectors.specs.Cells.Rows.{row_of_edge, grid_ring_row, start_edge, first_edge, tile_of, edge_rows, face_rows, ring_rows, node_rows, plan_rows}
 use Rattle.vpf_vectors.specs.Library.{tiles}
-use Rattle.vpf_vectors.specs.Writing.{IsGridNumber, IsSmallEdge, IsSmallRing}
+use Rattle.vpf_vectors.specs.Writing.{IsGridNumber, IsSmallEdge, IsSmallRingRow}
 
 below : (a b c : ℕ) → a ≤ b → b ≤ c → a ≤ c
 below a b c h k = omega arith
@@ -92,14 +92,14 @@ start_below : (r : ℕ) → 1 ≤ r → start_edge r ≤ r
 unfolding start_edge
 start_below r h = grind (arith, nat_tests)
 
-pub rings_are_small : (n : ℕ) → n ≤ 200 → All IsSmallRing (ring_rows n)
+pub rings_are_small : (n : ℕ) → n ≤ 200 → All IsSmallRingRow (ring_rows n)
 rings_are_small n h =
     let f = few_faces n h in
-    each_mapped IsSmallRing ring_row 1 (faces n)
+    each_mapped IsSmallRingRow grid_ring_row 1 (faces n)
     (λ r low high. record { face_id = omega arith; start_edge = below (start_edge r) r 100000 (start_below r low) (omega arith) })
 
 pub rings_are_few : (n : ℕ) → n ≤ 200 → length (ring_rows n) ≤ 100000
-rings_are_few n h = let f = few_faces n h in let l = length-map-range_with_len ring_row 1 (faces n) in omega (arith, l)
+rings_are_few n h = let f = few_faces n h in let l = length-map-range_with_len grid_ring_row 1 (faces n) in omega (arith, l)
 
 -- the rows of nodes
 first_below : FirstEdgesAreLeast → (n k : ℕ) → 1 ≤ n → 1 ≤ k → k ≤ nodes n → first_edge n k ≤ edges n

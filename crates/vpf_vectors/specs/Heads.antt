@@ -27,15 +27,15 @@ abbrev pub numbers : List ℕ → List ℕ → Col
 numbers name description = column name kinds.I (Fixed 1) Many description
 
 -- a header in order L without a narrative
-abbrev pub head : List ℕ → List Col → Head
-head description columns = record { order = Little; description = description; narrative = None; columns = columns }
+abbrev pub plain_head : List ℕ → List Col → Head
+plain_head description columns = record { order = Little; description = description; narrative = None; columns = columns }
 
 -- the tiles of a library
 abbrev pub tileref_head : Head
-tileref_head = head (codes "Tiles") (ids (codes "Id") ∷ column (codes "tile_name") kinds.T (Fixed name_width) Many (codes "Name") ∷ [])
+tileref_head = plain_head (codes "Tiles") (ids (codes "Id") ∷ column (codes "tile_name") kinds.T (Fixed name_width) Many (codes "Name") ∷ [])
 
 abbrev pub edge_head : Head
-edge_head = head (codes "Edges") (
+edge_head = plain_head (codes "Edges") (
     ids (codes "Id")
     ∷ numbers (codes "start_node") (codes "Start")
     ∷ numbers (codes "end_node") (codes "End")
@@ -47,14 +47,14 @@ edge_head = head (codes "Edges") (
     ∷ [])
 
 abbrev pub face_head : Head
-face_head = head (codes "Faces") (ids (codes "Id") ∷ numbers (codes "ring_ptr") (codes "Ring") ∷ [])
+face_head = plain_head (codes "Faces") (ids (codes "Id") ∷ numbers (codes "ring_ptr") (codes "Ring") ∷ [])
 
 abbrev pub ring_head : Head
-ring_head = head (codes "Rings") (ids (codes "Id") ∷ numbers (codes "face_id") (codes "Face") ∷ numbers (codes "start_edge") (codes "Edge") ∷ [])
+ring_head = plain_head (codes "Rings") (ids (codes "Id") ∷ numbers (codes "face_id") (codes "Face") ∷ numbers (codes "start_edge") (codes "Edge") ∷ [])
 
 abbrev pub node_head : Head
-node_head = head (codes "Nodes") (ids (codes "Id") ∷ numbers (codes "first_edge") (codes "Edge") ∷ [])
+node_head = plain_head (codes "Nodes") (ids (codes "Id") ∷ numbers (codes "first_edge") (codes "Edge") ∷ [])
 
 -- the home tile of each face
 abbrev pub plan_head : Head
-plan_head = head (codes "Plan") (ids (codes "Face") ∷ numbers (codes "tile_id") (codes "Tile") ∷ [])
+plan_head = plain_head (codes "Plan") (ids (codes "Face") ∷ numbers (codes "tile_id") (codes "Tile") ∷ [])

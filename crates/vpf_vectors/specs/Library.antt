@@ -9,7 +9,7 @@ use Rattle.vpf_vectors.specs.Cells.Rows.{edge_rows, face_rows, ring_rows, node_r
 use Rattle.vpf_prims.specs.Reading.{PrimitiveTables, primitives_of}
 use Rattle.vpf_vectors.specs.GridCoverage.Coverage.{grid_primitives}
 use Rattle.vpf_vectors.specs.Heads.{face_head, node_head, plan_head}
-use Rattle.vpf_vectors.specs.Tables.{tileref_table, edge_table, ring_table, pair_table}
+use Rattle.vpf_vectors.specs.Tables.{grid_tileref, edge_table, ring_table, pair_table}
 
 -- how many tiles there are: two by two cells are one
 unfoldable pub tiles : ℕ → ℕ
@@ -18,7 +18,7 @@ tiles n = n / 2 * (n / 2)
 -- The tables under the names of their files: the tiles, the untiled coverage `g`, and the home tile of each of its faces but 1, which has none.
 abbrev pub grid_tables : ℕ → List (List ℕ × Grid)
 grid_tables n =
-    (codes "grid/tileref/tileref.aft", tileref_table (tiles n))
+    (codes "grid/tileref/tileref.aft", grid_tileref (tiles n))
     ∷ (codes "grid/g/edg", edge_table (edge_rows n))
     ∷ (codes "grid/g/fac", pair_table face_head 1 (face_rows n))
     ∷ (codes "grid/g/rng", ring_table (ring_rows n))

@@ -11,8 +11,8 @@ use Rattle.vpf_vectors.specs.declared.cells.rows.RingRow.{RingRow}
 use Rattle.vpf_vectors.specs.Heads.{tileref_head, edge_head, ring_head, name_width}
 
 -- the cell of a number
-abbrev pub number : ℕ → Value
-number k = NumberOf (pos k)
+abbrev pub cell_of_number : ℕ → Value
+cell_of_number k = NumberOf (pos k)
 
 -- the name of a tile: `t` and its number
 abbrev pub tile_name : ℕ → List ℕ
@@ -24,24 +24,24 @@ padded_name k = tile_name k ++ replicate (name_width - length (tile_name k)) spa
 
 -- the cells of a tile
 abbrev pub tile_cells : ℕ → Row
-tile_cells k = number k ∷ TextOf (padded_name k) ∷ []
+tile_cells k = cell_of_number k ∷ TextOf (padded_name k) ∷ []
 
 -- the cells of an edge with its id
 abbrev pub edge_cells : ℕ × EdgeRow → Row
-edge_cells p = number p.0 ∷ number p.1.start_node ∷ number p.1.end_node ∷ number p.1.right_face ∷ number p.1.left_face ∷ number p.1.right_edge
-    ∷ number p.1.left_edge ∷ number (if p.1.tile_line then 1 else 0) ∷ []
+edge_cells p = cell_of_number p.0 ∷ cell_of_number p.1.start_node ∷ cell_of_number p.1.end_node ∷ cell_of_number p.1.right_face ∷ cell_of_number p.1.left_face ∷ cell_of_number p.1.right_edge
+    ∷ cell_of_number p.1.left_edge ∷ cell_of_number (if p.1.tile_line then 1 else 0) ∷ []
 
 -- the cells of a ring with its id
 abbrev pub ring_cells : ℕ × RingRow → Row
-ring_cells p = number p.0 ∷ number p.1.face_id ∷ number p.1.start_edge ∷ []
+ring_cells p = cell_of_number p.0 ∷ cell_of_number p.1.face_id ∷ cell_of_number p.1.start_edge ∷ []
 
 -- the cells of an id and the number that belongs to it
 abbrev pub pair_cells : ℕ × ℕ → Row
-pair_cells p = number p.0 ∷ number p.1 ∷ []
+pair_cells p = cell_of_number p.0 ∷ cell_of_number p.1 ∷ []
 
 -- so many tiles, numbered from 1
-abbrev pub tileref_table : ℕ → Grid
-tileref_table tiles = record { head = tileref_head; rows = map tile_cells (range_with_len 1 tiles) }
+abbrev pub grid_tileref : ℕ → Grid
+grid_tileref tiles = record { head = tileref_head; rows = map tile_cells (range_with_len 1 tiles) }
 
 -- edges, with their ids from 1
 abbrev pub edge_table : List EdgeRow → Grid

@@ -4,7 +4,7 @@ use Rattle.vpf_head.specs.Canonical.{canonical_text}
 use Rattle.vpf_head.specs.Head.{Head}
 use Rattle.vpf_vectors.specs.declared.cells.rows.EdgeRow.{EdgeRow}
 use Rattle.vpf_vectors.specs.declared.cells.rows.RingRow.{RingRow}
-use Rattle.vpf_vectors.specs.Heads.{head, ids, numbers}
+use Rattle.vpf_vectors.specs.Heads.{plain_head, ids, numbers}
 use Rattle.vpf_vectors.specs.declared.numbers.TheConstants.{MOST_NUMBER}
 
 -- no number of a grid is greater
@@ -21,7 +21,7 @@ pub record IsSmallEdge (row : EdgeRow) : Type 0 where
   pub left_edge : IsGridNumber row.left_edge
 
 -- the numbers of a ring are small
-pub record IsSmallRing (row : RingRow) : Type 0 where
+pub record IsSmallRingRow (row : RingRow) : Type 0 where
   pub face_id : IsGridNumber row.face_id
   pub start_edge : IsGridNumber row.start_edge
 
@@ -31,5 +31,5 @@ pub record HasPairs (h : Head) : Type 0 where
   pub id : List ℕ
   pub name : List ℕ
   pub text : List ℕ
-  pub is : h ≡ head description (ids id ∷ numbers name text ∷ [])
+  pub is : h ≡ plain_head description (ids id ∷ numbers name text ∷ [])
   pub short : length (canonical_text h) ≤ 1000

@@ -7,7 +7,7 @@ ghost use Rattle.vpf_prims.specs.Reading.{primitives_of};
 ghost use Rattle.vpf_wing.specs.WellFormed.{IsWellFormed};
 ghost use Rattle.vpf_vectors.specs.Heads.{face_head, node_head, plan_head};
 ghost use Rattle.vpf_vectors.specs.Library.{coverage_tables, grid_files, tiles};
-ghost use Rattle.vpf_vectors.specs.Tables.{tileref_table, edge_table, ring_table, pair_table};
+ghost use Rattle.vpf_vectors.specs.Tables.{grid_tileref, edge_table, ring_table, pair_table};
 
 use crate::cells::{EdgeRow, RingRow, grid_rows, laws as grids, plan_rows};
 use crate::grid_coverage::laws::grid_is_well_formed;
@@ -20,7 +20,7 @@ use vpf_source::{Bytes, File, Name};
 /// The tiles: two by two cells are one.
 fn tileref_bytes(alloc: Global, n: u32) -> Result<Bytes, AllocError>
     requires { n ≤ 200 }
-    ensures { IfOk result (λ bytes. bytes ≡ canonical_table (tileref_table (tiles n))) }
+    ensures { IfOk result (λ bytes. bytes ≡ canonical_table (grid_tileref (tiles n))) }
 {
     let side = n / 2;
     tileref_table(alloc, side * side)

@@ -2,7 +2,7 @@
 
 ghost use Rattle.std.specs.Prelude.{◌≡◌, if◌then◌else◌};
 ghost use Rattle.vpf_value.specs.Values.{view};
-ghost use Rattle.vpf_vectors.specs.Tables.{number};
+ghost use Rattle.vpf_vectors.specs.Tables.{cell_of_number};
 ghost use Rattle.vpf_vectors.specs.Writing.{IsGridNumber};
 
 use vpf_value::Cell;
@@ -13,14 +13,14 @@ pub const MOST_NUMBER: u32 = 100_000;
 /// The cell of a number.
 pub fn number(k: u32) -> Cell<'static>
     requires { IsGridNumber k }
-    ensures { view result ≡ number k }
+    ensures { view result ≡ cell_of_number k }
 {
     Cell::Long(k as i32)
 }
 
 /// The cell of a mark: 1 where it is set, and else 0.
 pub fn mark(on: bool) -> Cell<'static>
-    ensures { view result ≡ number (if on then 1 else 0) }
+    ensures { view result ≡ cell_of_number (if on then 1 else 0) }
 {
     Cell::Short(i16::from(on))
 }

@@ -6,8 +6,8 @@ ghost use Rattle.vpf_table.specs.Grid.{Row};
 ghost use Rattle.vpf_write.specs.Tallies.{Holds, grid_with};
 ghost use Rattle.vpf_write.specs.Writing.{first_limit};
 ghost use Rattle.vpf_vectors.specs.Heads.{tileref_head, edge_head, ring_head};
-ghost use Rattle.vpf_vectors.specs.Tables.{tile_cells, edge_cells, ring_cells, pair_cells, padded_name, tileref_table, edge_table, ring_table, pair_table};
-ghost use Rattle.vpf_vectors.specs.Writing.{IsGridNumber, IsSmallEdge, IsSmallRing, HasPairs};
+ghost use Rattle.vpf_vectors.specs.Tables.{tile_cells, edge_cells, ring_cells, pair_cells, padded_name, grid_tileref, edge_table, ring_table, pair_table};
+ghost use Rattle.vpf_vectors.specs.Writing.{IsGridNumber, IsSmallEdge, IsSmallRingRow, HasPairs};
 
 use crate::cells::{EdgeRow, RingRow};
 use crate::headers::{EDGES, RINGS, TILEREF, header_in};
@@ -51,7 +51,7 @@ fn put_tile(alloc: Global, writer: &mut TableWriter<'_, '_>, tile: u32) -> Resul
 /// The table of so many tiles, numbered from 1.
 pub fn tileref_table(alloc: Global, tiles: u32) -> Result<Bytes, AllocError>
     requires { IsGridNumber tiles }
-    ensures { IfOk result (λ bytes. bytes ≡ canonical_table (tileref_table tiles)) }
+    ensures { IfOk result (λ bytes. bytes ≡ canonical_table (grid_tileref tiles)) }
 {
     let header = header_in(alloc, TILEREF)?;
     let mut writer = TableWriter::new(alloc, &header)?;
@@ -99,7 +99,7 @@ pub fn edge_table(alloc: Global, rows: &[EdgeRow]) -> Result<Bytes, AllocError>
 fn put_ring(writer: &mut TableWriter<'_, '_>, id: u32, row: RingRow) -> Result<(), AllocError>
     requires head { writer.old.head ≡ ring_head }
     requires id { IsGridNumber id }
-    requires small { IsSmallRing row }
+    requires small { IsSmallRingRow row }
     ensures head { writer.new.head ≡ ring_head }
     ensures put { OnOk result ((rows : List Row) → Holds writer.old rows → Holds writer.new (rows ++ ring_cells (id, row) ∷ [])) }
 {
@@ -109,7 +109,7 @@ fn put_ring(writer: &mut TableWriter<'_, '_>, id: u32, row: RingRow) -> Result<(
 /// The table of rings, whose ids count from 1.
 pub fn ring_table(alloc: Global, rows: &[RingRow]) -> Result<Bytes, AllocError>
     requires few { IsGridNumber (length rows.now) }
-    requires small { All IsSmallRing rows.now }
+    requires small { All IsSmallRingRow rows.now }
     ensures { IfOk result (λ bytes. bytes ≡ canonical_table (ring_table rows.now)) }
 {
     let header = header_in(alloc, RINGS)?;

@@ -8,7 +8,7 @@ use Rattle.vpf_darts.specs.declared.darts.TileDart.{TileDart}
 use Rattle.vpf_darts.specs.Cycles.{IsListing}
 use Rattle.vpf_darts.specs.Listings.{numbers_of}
 use Rattle.vpf_darts.specs.Maps.{IsMap}
-use Rattle.vpf_darts.specs.MapLists.{is_among, next_of}
+use Rattle.vpf_darts.specs.MapLists.{is_among, list_next}
 use Rattle.vpf_findings.specs.declared.errors.FindError.{FindError}
 use Rattle.vpf_findings.specs.declared.errors.FindError.TheVariants as found
 use Rattle.vpf_findings.specs.Findings.{Disagreement, disagreement_of}
@@ -124,7 +124,7 @@ mapped grid columns n edges h w = is_map edges (among_them grid columns n edges 
 
 -- the listing of the nexts is that of the table
 pub boundary : (grid : Grid) (columns : EdgesAt) (n : ℕ) (edges : List Edge) (nexts : List Dart) (lists : List (List TileDart)) → HasEdges grid columns n edges → AreNexts edges nexts
-    → IsListing (next_of nexts) (is_among (length nexts)) (numbers_of lists) → All (All (λ d. d.tile ≡ 0)) lists → IsBoundaryListing grid lists
+    → IsListing (list_next nexts) (is_among (length nexts)) (numbers_of lists) → All (All (λ d. d.tile ≡ 0)) lists → IsBoundaryListing grid lists
 boundary grid columns n edges nexts lists h are listing untiled = record {
   listing = subst (λ (es : List Edge). IsListing (map_of es).next (map_of es).live (numbers_of lists)) (edges_are grid columns n edges h) (listed edges nexts (numbers_of lists) are listing);
   untiled = untiled;

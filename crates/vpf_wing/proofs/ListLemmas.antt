@@ -8,7 +8,7 @@ use Rattle.vpf_darts.specs.declared.darts.Dart.{Dart}
 use Rattle.vpf_darts.specs.Darts.{dart_code}
 use Rattle.vpf_darts.specs.Cycles.{IsListing}
 use Rattle.vpf_darts.specs.Maps.{IsMap}
-use Rattle.vpf_darts.specs.MapLists.{is_among, next_of}
+use Rattle.vpf_darts.specs.MapLists.{is_among, list_next}
 use Rattle.vpf_darts.specs.Ranks.{IsRanking}
 use Rattle.vpf_prims.specs.declared.rows.Edge.{Edge}
 use Rattle.vpf_wing.specs.Nexts.{AreNexts}
@@ -29,7 +29,7 @@ among_not : (n d : ℕ) → n + 2 ≤ d → is_among n d ≡ false
 among_not n d h = grind (arith, nat_tests)
 
 -- the nexts of the lists are those of the edges
-pub nexts_are : (edges : List Edge) (nexts : List Dart) → AreNexts edges nexts → (d : ℕ) → next_of nexts d ≡ next_number edges d
+pub nexts_are : (edges : List Edge) (nexts : List Dart) → AreNexts edges nexts → (d : ℕ) → list_next nexts d ≡ next_number edges d
 unfolding next_number
 nexts_are edges nexts are zero = refl
 nexts_are edges nexts are (suc zero) = refl
@@ -44,16 +44,16 @@ nexts_are edges nexts are (suc (suc i)) = elim (cases_lt i (length nexts)) [
 ]
 
 -- the listing of the nexts is that of the edges
-pub listed : (edges : List Edge) (nexts : List Dart) (lists : List (List ℕ)) → AreNexts edges nexts → IsListing (next_of nexts) (is_among (length nexts)) lists → IsListing (map_of edges).next (map_of edges).live lists
+pub listed : (edges : List Edge) (nexts : List Dart) (lists : List (List ℕ)) → AreNexts edges nexts → IsListing (list_next nexts) (is_among (length nexts)) lists → IsListing (map_of edges).next (map_of edges).live lists
 listed edges nexts lists are h =
-    let en : next_of nexts ≡ next_number edges = fun_ext (nexts_are edges nexts are) in
+    let en : list_next nexts ≡ next_number edges = fun_ext (nexts_are edges nexts are) in
     let first : IsListing (next_number edges) (is_among (length nexts)) lists = subst (λ (f : ℕ → ℕ). IsListing f (is_among (length nexts)) lists) en h in
     subst (λ (n : ℕ). IsListing (next_number edges) (is_among n) lists) are.count first
 
 -- the nexts of a map permute its darts
-pub ranking : (edges : List Edge) (nexts : List Dart) → AreNexts edges nexts → IsMap (map_of edges) → IsRanking (length nexts + 2) (next_of nexts) (is_among (length nexts))
+pub ranking : (edges : List Edge) (nexts : List Dart) → AreNexts edges nexts → IsMap (map_of edges) → IsRanking (length nexts + 2) (list_next nexts) (is_among (length nexts))
 ranking edges nexts are m =
-    let en : next_number edges ≡ next_of nexts = sym (fun_ext (nexts_are edges nexts are)) in
+    let en : next_number edges ≡ list_next nexts = sym (fun_ext (nexts_are edges nexts are)) in
     let e : 2 * length edges ≡ length nexts = sym are.count in
     let whole : IsRanking (2 * length edges + 2) (next_number edges) (is_among (2 * length edges)) = record {
       apart = m.next_apart;
@@ -65,5 +65,5 @@ ranking edges nexts are m =
       next_live = m.next_live;
       live_inside = λ d l. (inside (2 * length edges) d l).1;
     } in
-    let named : IsRanking (2 * length edges + 2) (next_of nexts) (is_among (2 * length edges)) = subst (λ (f : ℕ → ℕ). IsRanking (2 * length edges + 2) f (is_among (2 * length edges))) en whole in
-    subst (λ (n : ℕ). IsRanking (n + 2) (next_of nexts) (is_among n)) e named
+    let named : IsRanking (2 * length edges + 2) (list_next nexts) (is_among (2 * length edges)) = subst (λ (f : ℕ → ℕ). IsRanking (2 * length edges + 2) f (is_among (2 * length edges))) en whole in
+    subst (λ (n : ℕ). IsRanking (n + 2) (list_next nexts) (is_among n)) e named

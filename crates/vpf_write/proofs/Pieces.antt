@@ -9,7 +9,7 @@ use Rattle.vpf_value.specs.declared.turning.WordSize.{WordSize}
 use Rattle.vpf_value.specs.declared.turning.WordSize.TheVariants.{One, Two, Four, Eight}
 use Rattle.vpf_write.specs.declared.turning.Field.{Field}
 use Rattle.vpf_value.proofs.TurnedCells.{bytes_stay}
-use Rattle.vpf_value.specs.Turning.{each_piece, size_bytes, turned_cell}
+use Rattle.vpf_value.specs.Turning.{each_piece, bytes_of_word, turned_cell}
 use Rattle.vpf_write.specs.Turning.{fields_width, turned_words, turned_row}
 
 -- the first pieces of a list are changed already, and those that are left are changed behind them
@@ -171,18 +171,18 @@ pieces_before f (suc n) size a b room =
 abbrev pub turned_from : ℕ → List Field → List ℕ → List ℕ
 turned_from from fs x = take from x ++ turned_row fs (drop from x)
 
-some_size : (word : WordSize) → 0 < size_bytes word
+some_size : (word : WordSize) → 0 < bytes_of_word word
 some_size One = omega arith
 some_size Two = omega arith
 some_size Four = omega arith
 some_size Eight = omega arith
 
-first_field : (from : ℕ) (f : Field) (fs : List Field) (x : List ℕ) → from + f.width ≤ length x → turned_from from (f ∷ fs) x ≡ turned_from (from + f.width) fs (turned_words from (f.width / size_bytes f.word) (size_bytes f.word) x)
+first_field : (from : ℕ) (f : Field) (fs : List Field) (x : List ℕ) → from + f.width ≤ length x → turned_from from (f ∷ fs) x ≡ turned_from (from + f.width) fs (turned_words from (f.width / bytes_of_word f.word) (bytes_of_word f.word) x)
 unfolding turned_row
 first_field from f fs x room =
     let rest = drop from x in
     let cell = take f.width rest in
-    let size = size_bytes f.word in
+    let size = bytes_of_word f.word in
     let words = f.width / size in
     let cell_len : length cell ≡ f.width = length-take-le f.width rest (omega (arith, length-drop from x)) in
     let turned = each_piece reverse words size cell in
@@ -203,10 +203,10 @@ pub record Left (from width whole : ℕ) (fs : List Field) (s all : List ℕ) : 
 pub fields_begun : (width whole : ℕ) (fs : List Field) (s : List ℕ) → fields_width fs ≡ width → Left 0 width whole fs s (each_piece (turned_row fs) (whole / width) width s)
 fields_begun width whole fs s e = record { room = omega (arith, e); done = refl }
 
-pub field_step : (from width whole : ℕ) (f : Field) (fs : List Field) (s t all : List ℕ) → length s ≡ whole → t ≡ each_piece (turned_words from (f.width / size_bytes f.word) (size_bytes f.word)) (length s / width) width s
+pub field_step : (from width whole : ℕ) (f : Field) (fs : List Field) (s t all : List ℕ) → length s ≡ whole → t ≡ each_piece (turned_words from (f.width / bytes_of_word f.word) (bytes_of_word f.word)) (length s / width) width s
     → Left from width whole (f ∷ fs) s all → Left (from + f.width) width whole fs t all
 field_step from width whole f fs s t all len is h =
-    let size = size_bytes f.word in
+    let size = bytes_of_word f.word in
     let words = f.width / size in
     let sum : fields_width (f ∷ fs) ≡ f.width + fields_width fs = sum_by-cons (λ (x : Field). x.width) f fs in
     let room : from + f.width ≤ width = omega (arith, h.room, sum) in

@@ -5,5 +5,5 @@ use Rattle.vpf_write.specs.declared.cell_list.CellList.TheInside.{Inside}
 use Rattle.vpf_table.specs.Grid.{Row}
 
 -- the values of its cells
-abbrev pub values_of : Inside → Row
-values_of s = map view s.cells.items
+abbrev pub listed_values : Inside → Row
+listed_values s = map view s.cells.items

@@ -15,9 +15,9 @@ impl<'a> Model for CellList<'a> {
 
     ghost Value = { Row };
 
-    ghost use Rattle.vpf_write.specs.CellLists.{values_of};
+    ghost use Rattle.vpf_write.specs.CellLists.{listed_values};
 
-    ghost view = { values_of };
+    ghost view = { listed_values };
 }
 
 impl<'a> CellList<'a> {

@@ -1,7 +1,7 @@
 //! Rows of one width in the other byte order: their bytes with the words turned round, and no cell decoded.
 
 ghost use Rattle.std.specs.Prelude.{◌≡◌, ◌≤◌, ◌<◌, ◌+◌, ◌*◌, ◌/◌, ◌%◌, ◌++◌, IfOk, OnOk, length};
-ghost use Rattle.vpf_value.specs.Turning.{each_piece, size_bytes};
+ghost use Rattle.vpf_value.specs.Turning.{each_piece, bytes_of_word};
 ghost use Rattle.vpf_write.specs.Turning.{fields_of, fields_width, turned_words, turned_rows};
 
 use std::alloc::{AllocError, Global};
@@ -63,7 +63,8 @@ fn turn_words<const N: usize>(from: usize, words: usize, width: usize, rows: &mu
 fn turn_field(field: Field, from: usize, width: usize, rows: &mut [u8])
     requires some { 0 < width }
     requires inside { from + field.width ≤ width }
-    ensures { rows.new ≡ each_piece (turned_words from (field.width / size_bytes field.word) (size_bytes field.word)) (length rows.old / width) width rows.old }
+    ensures { rows.new ≡ each_piece (turned_words from (field.width / bytes_of_word field.word) (bytes_of_word field.word))
+        (length rows.old / width) width rows.old }
 {
     match field.word {
         WordSize::One => {}

@@ -9,7 +9,7 @@ use Rattle.vpf_prims.specs.Tables.{TileTables}
 use Rattle.vpf_prims.specs.Views.{tables_in_view}
 use Rattle.vpf_library_files.specs.Loading.Loading.{within}
 use Rattle.vpf_coverage.specs.Opening.Opens.{OpensFolder, files_of_folder}
-use Rattle.vpf_coverage.specs.Opening.OpensTiles.{OpensTiles, StandsAt, tables_of_tile}
+use Rattle.vpf_coverage.specs.Opening.OpensTiles.{OpensTiles, TileStandsAt, tables_in_tile}
 use Rattle.vpf_coverage.specs.Opening.Opened.{placed_view, placed_views, tables_in_views}
 
 -- some tiles are opened, and the others lie ahead, from tile t on, the first of them at this place
@@ -24,9 +24,9 @@ record NextTile (folder : List ℕ) (at : ℕ) (path : List ℕ) (paths : List (
   pub tiles : List (Option TileTables)
   pub rest : List File
   pub are : left ≡ tile ∷ tiles
-  pub stands : StandsAt at tile
-  pub opens : OpensFolder (within folder path) (tables_of_tile tile) rest files
-  pub others : OpensTiles folder (at + files_of_folder (tables_of_tile tile)) paths tiles rest
+  pub stands : TileStandsAt at tile
+  pub opens : OpensFolder (within folder path) (tables_in_tile tile) rest files
+  pub others : OpensTiles folder (at + files_of_folder (tables_in_tile tile)) paths tiles rest
 
 first_of : (folder : List ℕ) (at : ℕ) (path : List ℕ) (paths : List (List ℕ)) (left : List (Option TileTables)) (files : List File)
     → OpensTiles folder at (path ∷ paths) left files → NextTile folder at path paths left files
@@ -71,7 +71,7 @@ placed_as : (at : ℕ) (v : PrimitiveViews) (T : TileTables) → T.first ≡ at 
 placed_as at v T first tables = rw (← first, tables) refl
 
 -- a tile is opened where it stands
-placed_is : (at : ℕ) (v : Option PrimitiveViews) (tile : Option TileTables) → StandsAt at tile → tables_in_views v ≡ tables_of_tile tile → placed_view at v ≡ tile
+placed_is : (at : ℕ) (v : Option PrimitiveViews) (tile : Option TileTables) → TileStandsAt at tile → tables_in_views v ≡ tables_in_tile tile → placed_view at v ≡ tile
 placed_is at None None stands e = refl
 placed_is at None (Some T) stands e = absurd cc
 placed_is at (Some v) None stands e = absurd cc
@@ -86,11 +86,11 @@ pub one_more : (folder : List ℕ) (at count : ℕ) (paths : List (List ℕ)) (t
     → Ahead folder (at + count) paths next new (placed_views (firsts ++ at ∷ []) (views ++ v ∷ [])) tiles
 one_more folder at count paths t next files new path firsts views v tiles opened behind counted later is alike h =
     let n = next_tile folder at path paths t h.left files (path_at_place paths t next path later is) h.opens in
-    let tables = opened (tables_of_tile n.tile) n.rest n.opens in
-    let rest = behind (tables_of_tile n.tile) n.rest n.opens in
+    let tables = opened (tables_in_tile n.tile) n.rest n.opens in
+    let rest = behind (tables_in_tile n.tile) n.rest n.opens in
     let more = placed_more firsts views at v alike in
     let this = placed_is at v n.tile n.stands tables in
-    let number : at + files_of_folder (tables_of_tile n.tile) ≡ at + count = ap (λ (k : ℕ). at + k) (sym (counted ∙ ap files_of_folder tables)) in
+    let number : at + files_of_folder (tables_in_tile n.tile) ≡ at + count = ap (λ (k : ℕ). at + k) (sym (counted ∙ ap files_of_folder tables)) in
     let one : OpensTiles folder (at + count) (drop (suc t) paths) n.tiles n.rest = subst (λ (k : ℕ). OpensTiles folder k (drop (suc t) paths) n.tiles n.rest) number n.others in
     let two : OpensTiles folder (at + count) (drop next paths) n.tiles n.rest = subst (λ (k : ℕ). OpensTiles folder (at + count) (drop k paths) n.tiles n.rest) (sym later) one in
     record {
@@ -124,4 +124,4 @@ pub next_opens : (folder : List ℕ) (at : ℕ) (paths : List (List ℕ)) (t nex
     → (tables : Option PrimitiveTables) × (rest : List File) × OpensFolder (within folder path) tables rest files
 next_opens folder at paths t next files path opened tiles later is h =
     let n = next_tile folder at path paths t h.left files (path_at_place paths t next path later is) h.opens in
-    (tables_of_tile n.tile, n.rest, n.opens)
+    (tables_in_tile n.tile, n.rest, n.opens)

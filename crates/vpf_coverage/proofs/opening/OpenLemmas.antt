@@ -12,7 +12,7 @@ use Rattle.vpf_prims.specs.Reading.{PrimitiveTables}
 use Rattle.vpf_prims.specs.Tables.{files_of_grid}
 use Rattle.vpf_library_files.specs.Loading.Loading.{tileref_name, within}
 use Rattle.vpf_library_files.specs.Loading.Holding.{AreFilesOf, AreFilesOfOption, AreTileFiles, AreTiledFiles}
-use Rattle.vpf_coverage.specs.Opening.Opens.{Opens, OpensEnd, OpensTables, OpensFolder, is_first, files_of_option, files_of_tables}
+use Rattle.vpf_coverage.specs.Opening.Opens.{Opens, OpensEnd, OpensTables, OpensFolder, is_first_file, files_of_option, files_of_tables}
 use Rattle.vpf_coverage.proofs.opening.NameLemmas.{same_name}
 
 -- what is spelled as a table is opened as that table
@@ -53,7 +53,7 @@ table_begins name grid mine (inr indexed) =
 pub begins_before : (name : List ℕ) (mine rest : List File) → Begins name mine → Begins name (mine ++ rest)
 begins_before name mine rest h = record { file = h.file; others = h.others ++ rest; are = ap (λ (m : List File). m ++ rest) h.are; named = h.named }
 
-pub begins_first : (name : List ℕ) (files : List File) → Begins name files → is_first name files ≡ true
+pub begins_first : (name : List ℕ) (files : List File) → Begins name files → is_first_file name files ≡ true
 begins_first name files h = rw (h.are, h.named) (same_name name)
 
 -- so many files are a table
@@ -79,7 +79,7 @@ tables_counted folder tables files h =
     (table_counted _ tables.cnd h.cnd h.cnd_is) (option_counted _ tables.end h.end h.end_is)
 
 end_opens : SpelledOpens → OpenedReads → (folder : List ℕ) (end : Option Grid) (mine rest : List File)
-    → AreFilesOfOption (within folder (codes "end")) end mine → is_first (within folder (codes "end")) rest ≡ false → OpensEnd folder end rest (mine ++ rest)
+    → AreFilesOfOption (within folder (codes "end")) end mine → is_first_file (within folder (codes "end")) rest ≡ false → OpensEnd folder end rest (mine ++ rest)
 end_opens spelled read folder None mine rest are other = rw are (other, refl)
 end_opens spelled read folder (Some grid) mine rest are other =
     let name = within folder (codes "end") in
@@ -90,7 +90,7 @@ regrouped a b c d e rest = simp append_assoc
 
 -- the files of a folder, where others follow that aren't its entity nodes
 pub tables_open : SpelledOpens → OpenedReads → (folder : List ℕ) (tables : PrimitiveTables) (files rest : List File)
-    → AreTileFiles folder tables files → is_first (within folder (codes "end")) rest ≡ false → OpensTables folder tables rest (files ++ rest)
+    → AreTileFiles folder tables files → is_first_file (within folder (codes "end")) rest ≡ false → OpensTables folder tables rest (files ++ rest)
 tables_open spelled read folder tables files rest h other =
     let end_on = h.end ++ rest in
     let cnd_on = h.cnd ++ end_on in
@@ -116,7 +116,7 @@ tables_begin folder tables files h =
     subst (Begins name) (sym h.are) (begins_before name h.edg _ (table_begins name tables.edg h.edg h.edg_is))
 
 pub folder_opens : SpelledOpens → OpenedReads → (folder : List ℕ) (tables : PrimitiveTables) (files rest : List File)
-    → AreTileFiles folder tables files → is_first (within folder (codes "end")) rest ≡ false → OpensFolder folder (Some tables) rest (files ++ rest)
+    → AreTileFiles folder tables files → is_first_file (within folder (codes "end")) rest ≡ false → OpensFolder folder (Some tables) rest (files ++ rest)
 folder_opens spelled read folder tables files rest h other =
     let name = within folder (codes "edg") in
     (begins_first name (files ++ rest) (begins_before name files rest (tables_begin folder tables files h)), tables_open spelled read folder tables files rest h other)

@@ -8,7 +8,7 @@ use Rattle.vpf_library_files.specs.Tileref.Laws.{StopsDecide}
 use Rattle.vpf_library_files.specs.Tileref.Stops.{path_texts}
 use Rattle.vpf_library_files.specs.Loading.Loading.{within, tileref_name}
 use Rattle.vpf_library_files.specs.Loading.Holding.{AreTilesFiles, AreUntiledFiles, AreTiledFiles}
-use Rattle.vpf_coverage.specs.Opening.Opens.{Opens, OpensFolder, is_first, files_of_tables}
+use Rattle.vpf_coverage.specs.Opening.Opens.{Opens, OpensFolder, is_first_file, files_of_tables}
 use Rattle.vpf_coverage.specs.Opening.OpensTiles.{FilesOpen, OpensTiled, OpensTiles, OpensUntiled}
 use Rattle.vpf_coverage.proofs.opening.NameLemmas.{not_edges_and_entities, not_tiles_and_edges, one_folder, other_name}
 use Rattle.vpf_coverage.proofs.opening.PathLemmas.{AreApart, ArePlain, apart_rest, plain_rest, paths_apart, paths_plain}
@@ -42,17 +42,17 @@ starts folder at (path ∷ paths) (Some T ∷ tiles) files h =
       begins = subst (Begins name) (sym h.2) (begins_before name h.0 h.1 (tables_begin (within folder path) T.tables h.0 h.4));
     })
 
-not_begun : (name other : List ℕ) (files : List File) → Begins name files → (name ≡ other → ⊥) → is_first other files ≡ false
+not_begun : (name other : List ℕ) (files : List File) → Begins name files → (name ≡ other → ⊥) → is_first_file other files ≡ false
 not_begun name other files h apart = rw (h.are, h.named) (other_name name other apart)
 
 -- the table of entity nodes of a folder doesn't follow
-no_entities : (folder other : List ℕ) (paths : List (List ℕ)) (files : List File) → Starts folder paths files → is_first (within other (codes "end")) files ≡ false
+no_entities : (folder other : List ℕ) (paths : List (List ℕ)) (files : List File) → Starts folder paths files → is_first_file (within other (codes "end")) files ≡ false
 no_entities folder other paths files (inl none) = rw none refl
 no_entities folder other paths files (inr h) = not_begun _ (within other (codes "end")) files h.begins (not_edges_and_entities (within folder (get_or paths h.place [])) other)
 
 -- nor the edges of a tile that comes before
 no_edges : (folder path : List ℕ) (paths : List (List ℕ)) (files : List File) → ArePlain (path ∷ paths) → AreApart (path ∷ paths) → Starts folder paths files
-    → is_first (within (within folder path) (codes "edg")) files ≡ false
+    → is_first_file (within (within folder path) (codes "edg")) files ≡ false
 no_edges folder path paths files plain apart (inl none) = rw none refl
 no_edges folder path paths files plain apart (inr h) =
     not_begun _ (within (within folder path) (codes "edg")) files h.begins (λ e.

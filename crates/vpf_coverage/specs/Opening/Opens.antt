@@ -35,14 +35,14 @@ abbrev pub IsOpening : List File → Type 0
 IsOpening files = (grid : Grid) × (rest : List File) × Opens grid rest files
 
 -- there are files, and the first of them has this name
-abbrev pub is_first : List ℕ → List File → Bool
-is_first name [] = false
-is_first name (file ∷ files) = bytes_eq file.name name
+abbrev pub is_first_file : List ℕ → List File → Bool
+is_first_file name [] = false
+is_first_file name (file ∷ files) = bytes_eq file.name name
 
 -- they are opened as the table of entity nodes of a folder, which is there where the first has its name
 abbrev pub OpensEnd : (folder : List ℕ) → Option Grid → (rest files : List File) → Type 0
-OpensEnd folder None rest files = (is_first (within folder (codes "end")) files ≡ false) × (files ≡ rest)
-OpensEnd folder (Some grid) rest files = (is_first (within folder (codes "end")) files ≡ true) × Opens grid rest files
+OpensEnd folder None rest files = (is_first_file (within folder (codes "end")) files ≡ false) × (files ≡ rest)
+OpensEnd folder (Some grid) rest files = (is_first_file (within folder (codes "end")) files ≡ true) × Opens grid rest files
 
 -- they are opened as such a table, or as none
 abbrev pub IsOpeningEnd : (folder : List ℕ) → List File → Type 0
@@ -66,8 +66,8 @@ AreOpeningTables folder files = (tables : PrimitiveTables) × (rest : List File)
 
 -- they are opened as the tables of a folder that may be empty: it has tables where the first file has the name of its edges
 abbrev pub OpensFolder : (folder : List ℕ) → Option PrimitiveTables → (rest files : List File) → Type 0
-OpensFolder folder None rest files = (is_first (within folder (codes "edg")) files ≡ false) × (files ≡ rest)
-OpensFolder folder (Some tables) rest files = (is_first (within folder (codes "edg")) files ≡ true) × OpensTables folder tables rest files
+OpensFolder folder None rest files = (is_first_file (within folder (codes "edg")) files ≡ false) × (files ≡ rest)
+OpensFolder folder (Some tables) rest files = (is_first_file (within folder (codes "edg")) files ≡ true) × OpensTables folder tables rest files
 
 -- they are opened as those of some folder of this name
 abbrev pub IsOpeningFolder : (folder : List ℕ) → List File → Type 0

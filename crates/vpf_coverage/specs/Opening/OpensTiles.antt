@@ -12,13 +12,13 @@ use Rattle.vpf_library_files.specs.Loading.Holding.{AreCoverageFiles}
 use Rattle.vpf_coverage.specs.Opening.Opens.{Opens, OpensFolder, files_of_folder}
 
 -- the tables of a tile, wherever its files stand
-abbrev pub tables_of_tile : Option TileTables → Option PrimitiveTables
-tables_of_tile tile = option_map (λ (T : TileTables). T.tables) tile
+abbrev pub tables_in_tile : Option TileTables → Option PrimitiveTables
+tables_in_tile tile = option_map (λ (T : TileTables). T.tables) tile
 
 -- the files of a tile stand there; one that is empty stands anywhere
-abbrev pub StandsAt : ℕ → Option TileTables → Type 0
-StandsAt at None = Unit {0}
-StandsAt at (Some T) = T.first ≡ at
+abbrev pub TileStandsAt : ℕ → Option TileTables → Type 0
+TileStandsAt at None = Unit {0}
+TileStandsAt at (Some T) = T.first ≡ at
 
 -- files are opened as the tables of the tiles with these paths, the first of them at this place among all
 abbrev pub OpensTiles : (folder : List ℕ) → (at : ℕ) → List (List ℕ) → List (Option TileTables) → List File → Type 0
@@ -26,8 +26,8 @@ OpensTiles folder at [] [] files = Unit {0}
 OpensTiles folder at [] (tile ∷ tiles) files = ⊥
 OpensTiles folder at (path ∷ paths) [] files = ⊥
 OpensTiles folder at (path ∷ paths) (tile ∷ tiles) files =
-    (rest : List File) × StandsAt at tile × OpensFolder (within folder path) (tables_of_tile tile) rest files
-    × OpensTiles folder (at + files_of_folder (tables_of_tile tile)) paths tiles rest
+    (rest : List File) × TileStandsAt at tile × OpensFolder (within folder path) (tables_in_tile tile) rest files
+    × OpensTiles folder (at + files_of_folder (tables_in_tile tile)) paths tiles rest
 
 -- they are opened as some tiles
 abbrev pub AreOpeningTiles : (folder : List ℕ) → (at : ℕ) → List (List ℕ) → List File → Type 0

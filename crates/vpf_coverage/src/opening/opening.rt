@@ -62,8 +62,10 @@ fn files_open()
 /// The paths in the table of tiles, and how many files it is, which are taken.
 fn open_paths<'a>(alloc: Global, files: &mut &'a [File]) -> Result<(TilePaths, u32), AllocError>
     requires { IsOpeningTileref files.old.now }
-    ensures paths { (tileref : Grid) (rest : List SourceFile) → OpensTileref tileref rest files.old.now → IfOk result (λ opened. opened.0 ≡ path_texts tileref) }
-    ensures count { (tileref : Grid) (rest : List SourceFile) → OpensTileref tileref rest files.old.now → IfOk result (λ opened. opened.1 ≡ files_of_grid tileref) }
+    ensures paths { (tileref : Grid) (rest : List SourceFile) → OpensTileref tileref rest files.old.now
+        → IfOk result (λ opened. opened.0 ≡ path_texts tileref) }
+    ensures count { (tileref : Grid) (rest : List SourceFile) → OpensTileref tileref rest files.old.now
+        → IfOk result (λ opened. opened.1 ≡ files_of_grid tileref) }
     ensures rest { (tileref : Grid) (rest : List SourceFile) → OpensTileref tileref rest files.old.now → OnOk result (files.new.now ≡ rest) }
     ensures few { IfOk result (λ opened. opened.1 ≤ 2) }
 {

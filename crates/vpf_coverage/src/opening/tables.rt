@@ -6,7 +6,7 @@ ghost use Rattle.vpf_table.specs.Grid.{Grid};
 ghost use Rattle.vpf_table.specs.Opening.{opened_of};
 ghost use Rattle.vpf_table.specs.Reading.{table_of};
 ghost use Rattle.vpf_library_files.specs.Loading.Loading.{within};
-ghost use Rattle.vpf_coverage.specs.Opening.Opens.{IsOpening, Opens, is_first};
+ghost use Rattle.vpf_coverage.specs.Opening.Opens.{IsOpening, Opens, is_first_file};
 
 use std::alloc::{AllocError, Global};
 use vpf_library_files::loading::within;
@@ -21,7 +21,7 @@ pub(crate) fn is_first(
     name: &str,
     files: &[File],
 ) -> Result<bool, AllocError>
-    ensures { IfOk result (λ is. is ≡ is_first (within folder.now name.now) files.now) }
+    ensures { IfOk result (λ is. is ≡ is_first_file (within folder.now name.now) files.now) }
 {
     let name = within(alloc, folder, name)?;
     match files.first() {

@@ -21,7 +21,7 @@ use Rattle.vpf_vectors.specs.Heads.{tileref_head, edge_head, face_head, ring_hea
 use Rattle.vpf_vectors.specs.Library.{grid_files, tiles}
 use Rattle.vpf_vectors.specs.Tables.{edge_table, padded_name, pair_table, ring_table, tile_cells}
 use Rattle.std.proofs.lemmas.Fmt.{decimal_digit}
-use Rattle.vpf_drill.specs.GridCutting.Held.{grid_held, plan_grid, tileref_grid}
+use Rattle.vpf_drill.specs.GridCutting.Held.{grid_held, cut_plan_grid, tileref_grid}
 use Rattle.vpf_drill.proofs.grid_cutting.ByteLemmas.{AreBytes, cell_bytes, joined_bytes, number_bytes, numbers_bytes, table_bytes, tested_bytes}
 use Rattle.vpf_drill.proofs.grid_cutting.TilerefLemmas.{few_tiles}
 use Rattle.vpf_drill.proofs.grid_cutting.NameLemmas.{IsDigit, all_digits, digits_of}
@@ -95,7 +95,7 @@ file_bytes n most =
             numbers_bytes (ring_table (ring_rows n)) refl ring_text (ids, (ids, (ids, tt))),
             (
               numbers_bytes (pair_table node_head 1 (node_rows n)) refl node_text (ids, (ids, tt)),
-              (numbers_bytes (plan_grid n) refl plan_text (ids, (ids, tt)), tt),
+              (numbers_bytes (cut_plan_grid n) refl plan_text (ids, (ids, tt)), tt),
             ),
           ),
         ),

@@ -18,7 +18,7 @@ use Rattle.vpf_vectors.proofs.grid_coverage.RowLemmas.{kth_row}
 use Rattle.vpf_vectors.specs.Heads.{plan_head}
 use Rattle.vpf_vectors.specs.Library.{TablesSayGrid, coverage_tables}
 use Rattle.vpf_vectors.specs.Tables.{pair_cells}
-use Rattle.vpf_drill.specs.GridCutting.Held.{plan_grid}
+use Rattle.vpf_drill.specs.GridCutting.Held.{cut_plan_grid}
 use Rattle.vpf_drill.specs.GridCutting.Plans.{PlanNamesTiles}
 
 -- the first row whose id is the face names its number
@@ -30,7 +30,7 @@ names_from g a (suc m) f low high = elim (cases_eq a f) [
   | inr ne ↦ (let u : (a == f) ≡ false = grind (arith, nat_tests) in rw u (names_from g (a + 1) m f (omega arith) (omega arith)))
 ]
 
-named : (n f : ℕ) → 2 ≤ f → f ≤ faces n → named_tile (plan_grid n) f ≡ Some (pos (tile_of n f))
+named : (n f : ℕ) → 2 ≤ f → f ≤ faces n → named_tile (cut_plan_grid n) f ≡ Some (pos (tile_of n f))
 unfolding faces
 named n f low high = names_from (tile_of n) 2 (n * n) f low (omega arith)
 
@@ -43,6 +43,6 @@ no_universe f k low = let u : (f == 1) ≡ false = grind (arith, nat_tests) in r
 
 pub plan_names : TablesSayGrid → PlanNamesTiles
 plan_names say n f low high =
-    ap (λ k. planned_tile f (named_for (map (named_tile (plan_grid n)) (range_with_len 1 k)) f)) (count_faces say n)
-    ∙ ap (planned_tile f) (kth_row (named_tile (plan_grid n)) (faces n) f None (omega arith) high ∙ named n f low high)
+    ap (λ k. planned_tile f (named_for (map (named_tile (cut_plan_grid n)) (range_with_len 1 k)) f)) (count_faces say n)
+    ∙ ap (planned_tile f) (kth_row (named_tile (cut_plan_grid n)) (faces n) f None (omega arith) high ∙ named n f low high)
     ∙ no_universe f (tile_of n f) low

@@ -16,7 +16,7 @@ use Rattle.vpf_vectors.specs.Tables.{edge_table, pair_table, ring_table}
 use Rattle.vpf_vectors.proofs.HeadLemmas.{faces_have_pairs, nodes_have_pairs, plan_has_pairs}
 use Rattle.vpf_vectors.proofs.LimitLemmas.{edges_limit, pairs_limit, rings_limit, tileref_limit}
 use Rattle.vpf_vectors.proofs.SmallLemmas.{edges_are_few, faces_are_few, homes_are_few, nodes_are_few, rings_are_few}
-use Rattle.vpf_drill.specs.GridCutting.Held.{grid_held, plan_grid, tileref_grid}
+use Rattle.vpf_drill.specs.GridCutting.Held.{grid_held, cut_plan_grid, tileref_grid}
 use Rattle.vpf_drill.specs.GridCutting.Reading.{grid_parts, grid_request}
 use Rattle.vpf_drill.proofs.grid_cutting.LoadLemmas.{HoldsParts, parts_come}
 use Rattle.vpf_drill.proofs.grid_cutting.ServingLemmas.{some_tiles}
@@ -41,13 +41,13 @@ rings_few n most = no_larger (ring_table (ring_rows n)) (rings_limit (ring_rows 
 nodes_few : (n : ℕ) → n ≤ 200 → length (canonical_table (pair_table node_head 1 (node_rows n))) ≤ most_bytes
 nodes_few n most = no_larger (pair_table node_head 1 (node_rows n)) (pairs_limit node_head 1 (node_rows n) nodes_have_pairs (nodes_are_few n most))
 
-plan_few : (n : ℕ) → n ≤ 200 → length (canonical_table (plan_grid n)) ≤ most_bytes
-plan_few n most = no_larger (plan_grid n) (pairs_limit plan_head 2 (plan_rows n) plan_has_pairs (homes_are_few n most))
+plan_few : (n : ℕ) → n ≤ 200 → length (canonical_table (cut_plan_grid n)) ≤ most_bytes
+plan_few n most = no_larger (cut_plan_grid n) (pairs_limit plan_head 2 (plan_rows n) plan_has_pairs (homes_are_few n most))
 
 -- the files are there
 parts_there : GridIsRead → StopsDecide → (n : ℕ) → n % 2 ≡ 0 → 2 ≤ n → n ≤ 200
     → HoldsParts (grid_held n) grid_request.lib grid_request.cov (edge_table (edge_rows n)) (pair_table face_head 1 (face_rows n)) (ring_table (ring_rows n))
-    (pair_table node_head 1 (node_rows n)) (tileref_grid n) (plan_grid n)
+    (pair_table node_head 1 (node_rows n)) (tileref_grid n) (cut_plan_grid n)
 parts_there read stops n even least most =
     let r = recursion_from_All (λ t. table_of (canonical_table t.1) ≡ Ok t.1) (grid_tables n) (read n even least most) in
     record {
@@ -67,4 +67,4 @@ pub read_to_cut : GridIsRead → StopsDecide → (n : ℕ) → n % 2 ≡ 0 → 2
     → (read_parts (grid_held n) grid_request.lib grid_request.cov 0).0 ≡ Ok (grid_parts n)
 read_to_cut read stops n even least most =
     parts_come (grid_held n) grid_request.lib grid_request.cov (edge_table (edge_rows n)) (pair_table face_head 1 (face_rows n)) (ring_table (ring_rows n))
-    (pair_table node_head 1 (node_rows n)) (tileref_grid n) (plan_grid n) (parts_there read stops n even least most)
+    (pair_table node_head 1 (node_rows n)) (tileref_grid n) (cut_plan_grid n) (parts_there read stops n even least most)

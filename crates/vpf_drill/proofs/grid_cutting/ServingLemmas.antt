@@ -17,7 +17,7 @@ use Rattle.vpf_vectors.specs.GridCoverage.Laws.{GridIsWellFormed}
 use Rattle.vpf_vectors.proofs.grid_coverage.DartLemmas.{face-is, few_edges, flip_there, small_edges, there_only}
 use Rattle.vpf_vectors.specs.Library.{TablesSayGrid, coverage_tables, tiles}
 use Rattle.vpf_vectors.specs.Tables.{tile_cells}
-use Rattle.vpf_drill.specs.GridCutting.Held.{plan_grid, tileref_grid}
+use Rattle.vpf_drill.specs.GridCutting.Held.{cut_plan_grid, tileref_grid}
 use Rattle.vpf_drill.specs.GridCutting.Plans.{grid_plan}
 use Rattle.vpf_drill.proofs.grid_cutting.PlanLemmas.{plan_names}
 
@@ -72,9 +72,9 @@ pub rows_are_tiles : (n : ℕ) → length (tileref_grid n).rows ≡ tiles n
 rows_are_tiles n = length-map-range_with_len tile_cells 1 (tiles n)
 
 pub serves : RefusalsDecide → TablesSayGrid → FacesHaveTiles → NextsFit → GridIsWellFormed → (n : ℕ) → n % 2 ≡ 0 → 2 ≤ n → n ≤ 200
-    → plan_refusal (coverage_tables n) (plan_grid n) (length (tileref_grid n).rows) ≡ None
+    → plan_refusal (coverage_tables n) (cut_plan_grid n) (length (tileref_grid n).rows) ≡ None
 serves decide say homes fit well n even least most =
     let c = tileable say homes fit well n even least most in
-    ap (plan_refusal (coverage_tables n) (plan_grid n)) (rows_are_tiles n)
-    ∙ ap (λ (p : Primitives). first_refusal p (names_of_faces (coverage_tables n) (plan_grid n)) (tiles n)) (say n)
-    ∙ (decide (grid_primitives n) (names_of_faces (coverage_tables n) (plan_grid n)) (tiles n) c.few (some_tiles n least)).1 (c.plans, c.places)
+    ap (plan_refusal (coverage_tables n) (cut_plan_grid n)) (rows_are_tiles n)
+    ∙ ap (λ (p : Primitives). first_refusal p (names_of_faces (coverage_tables n) (cut_plan_grid n)) (tiles n)) (say n)
+    ∙ (decide (grid_primitives n) (names_of_faces (coverage_tables n) (cut_plan_grid n)) (tiles n) c.few (some_tiles n least)).1 (c.plans, c.places)

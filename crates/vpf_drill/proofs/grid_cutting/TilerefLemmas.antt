@@ -20,7 +20,7 @@ use Rattle.vpf_library_files.specs.Tileref.Tileref.{IsTileref, name_column, path
 use Rattle.vpf_vectors.proofs.grid_coverage.RowLemmas.{kth_row}
 use Rattle.vpf_vectors.specs.Heads.{tileref_head}
 use Rattle.vpf_vectors.specs.Library.{tiles}
-use Rattle.vpf_vectors.specs.Tables.{padded_name, tile_cells, tile_name, tileref_table}
+use Rattle.vpf_vectors.specs.Tables.{padded_name, tile_cells, tile_name, grid_tileref}
 use Rattle.vpf_drill.proofs.grid_cutting.NameLemmas.{IsDigit, all_digits, digits_of, name_small, name_trimmed, name_undivided}
 
 -- how many tiles there are
@@ -76,7 +76,7 @@ twice : {Y : Type 0} (f : Row → Y) (g : ℕ → Row) (a m : ℕ) → map f (ma
 twice f g a zero = refl
 twice f g a (suc m) = ap (λ ys. f (g a) ∷ ys) (twice f g (a + 1) m)
 
-path_there : (m k : ℕ) → m ≤ 10000 → IsRowOf m k → kth (paths_of (tileref_table m)) k [] ≡ tile_name k ∷ []
+path_there : (m k : ℕ) → m ≤ 10000 → IsRowOf m k → kth (paths_of (grid_tileref m)) k [] ≡ tile_name k ∷ []
 path_there m k few row =
     ap (λ (paths : List TilePath). kth paths k []) (twice (row_path (name_column tileref_head.columns)) tile_cells 1 m)
     ∙ kth_row (λ i. path_of (padded_name i)) m k [] row.0 row.1 ∙ path-is k (omega (arith, row))
@@ -84,13 +84,13 @@ path_there m k few row =
 same_name : (j k : ℕ) → tile_name j ∷ [] ≡ tile_name k ∷ [] → decimal j ≡ decimal k
 same_name j k e = cc
 
-rows-are : (m : ℕ) → length (tileref_table m).rows ≡ m
+rows-are : (m : ℕ) → length (grid_tileref m).rows ≡ m
 rows-are m = length-map-range_with_len tile_cells 1 m
 
-row_there : (m k : ℕ) → IsRowOf (length (tileref_table m).rows) k → IsRowOf m k
+row_there : (m k : ℕ) → IsRowOf (length (grid_tileref m).rows) k → IsRowOf m k
 row_there m k row = (row.0, subst (λ i. k ≤ i) (rows-are m) row.1)
 
-tileref : (m : ℕ) → 1 ≤ m → m ≤ 10000 → IsTileref (tileref_table m)
+tileref : (m : ℕ) → 1 ≤ m → m ≤ 10000 → IsTileref (grid_tileref m)
 tileref m some few = record {
   columns = (refl, (refl, tt));
   some = subst (λ i. 1 ≤ i) (sym (rows-are m)) some;
@@ -120,7 +120,7 @@ texts_short a (suc m) h = (
   texts_short (a + 1) m (omega arith),
 )
 
-bounded : (m : ℕ) → m ≤ 10000 → IsBounded (tileref_table m)
+bounded : (m : ℕ) → m ≤ 10000 → IsBounded (grid_tileref m)
 bounded m few =
     let rows = rows-are m in
     record {
@@ -129,5 +129,5 @@ bounded m few =
     }
 
 -- so nothing ends its reading
-pub goes_on : StopsDecide → (m : ℕ) → 1 ≤ m → m ≤ 10000 → tileref_stop (tileref_table m) ≡ None
-goes_on decide m some few = (decide (tileref_table m)).1 (tileref m some few, bounded m few)
+pub goes_on : StopsDecide → (m : ℕ) → 1 ≤ m → m ≤ 10000 → tileref_stop (grid_tileref m) ≡ None
+goes_on decide m some few = (decide (grid_tileref m)).1 (tileref m some few, bounded m few)

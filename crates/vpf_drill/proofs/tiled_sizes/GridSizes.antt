@@ -21,7 +21,7 @@ use Rattle.vpf_vectors.specs.Cells.Numbers.{edges, faces}
 use Rattle.vpf_vectors.specs.Cells.Rows.{edge_rows, face_rows, node_rows, ring_rows}
 use Rattle.vpf_vectors.specs.GridCoverage.Coverage.{grid_edge, grid_face, grid_primitives, grid_ring}
 use Rattle.vpf_vectors.specs.Library.{coverage_tables, tiles}
-use Rattle.vpf_vectors.specs.Tables.{tile_cells, tileref_table}
+use Rattle.vpf_vectors.specs.Tables.{tile_cells, grid_tileref}
 use Rattle.vpf_vectors.proofs.SmallLemmas.{few_edges, few_faces, few_tiles}
 use Rattle.vpf_drill.specs.TiledSizes.Sizes.{GridIsLoaded, GridPassesNoLimit, grid_library_tables}
 use Rattle.vpf_tiler.proofs.tiled_files.Pairs.{all_of_lists}
@@ -146,12 +146,12 @@ made_few n cov paths plan last t h =
 -- ---- the library
 
 -- the rows of its table of tiles
-tileref_rows : (n : ℕ) → length (tiles_made (tileref_table (tiles n))).rows ≡ tiles n
+tileref_rows : (n : ℕ) → length (tiles_made (grid_tileref (tiles n))).rows ≡ tiles n
 tileref_rows n = numbered_many _ 1 (map tile_cells (range_with_len 1 (tiles n))) ∙ length-map-range_with_len tile_cells 1 (tiles n)
 
 all_short : (n : ℕ) (cov : List ℕ) (plan : ℕ → ℕ) → n ≤ 200 → AllByRecursion IsShortTable (grid_library_tables n cov plan)
 all_short n cov plan h =
-    let tileref = tileref_table (tiles n) in
+    let tileref = grid_tileref (tiles n) in
     let paths = path_texts tileref in
     let last = length tileref.rows in (
       tileref_short (tiles n) (few_tiles n h),
@@ -160,7 +160,7 @@ all_short n cov plan h =
 
 pub grid_passes_no_limit : GridPassesNoLimit
 grid_passes_no_limit n cov plan h =
-    let tileref = tileref_table (tiles n) in
+    let tileref = grid_tileref (tiles n) in
     let paths = path_texts tileref in
     let last = length tileref.rows in
     let few : length (tiles_made tileref).rows ≤ 500000 = omega (arith, tileref_rows n, few_tiles n h) in
@@ -172,7 +172,7 @@ grid_passes_no_limit n cov plan h =
 pub grid_is_loaded : GridIsLoaded
 grid_is_loaded n cov plan h =
     let c = grid_primitives n in
-    let tileref = tileref_table (tiles n) in
+    let tileref = grid_tileref (tiles n) in
     let paths = path_texts tileref in
     let last = length tileref.rows in
     let made = grid_tables_if_made n cov paths plan last in

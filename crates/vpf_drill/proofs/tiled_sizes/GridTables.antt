@@ -18,7 +18,7 @@ use Rattle.vpf_primitive_tables.specs.TileTables.Grids.{rings_made, tiles_made}
 use Rattle.vpf_vectors.specs.declared.cells.rows.EdgeRow.{EdgeRow}
 use Rattle.vpf_vectors.specs.declared.cells.rows.RingRow.{RingRow}
 use Rattle.vpf_vectors.specs.Heads.{edge_head, face_head, node_head, ring_head, tileref_head}
-use Rattle.vpf_vectors.specs.Tables.{edge_table, padded_name, pair_table, ring_table, tile_cells, tileref_table}
+use Rattle.vpf_vectors.specs.Tables.{edge_table, padded_name, pair_table, ring_table, tile_cells, grid_tileref}
 use Rattle.vpf_vectors.proofs.NameLemmas.{name_length}
 use Rattle.vpf_drill.proofs.tiled_sizes.RowSizes.{row_few}
 use Rattle.vpf_drill.proofs.tiled_sizes.TableSizes.{IsShort}
@@ -95,5 +95,5 @@ tile_rows_few : (k from many : ℕ) → from + many ≤ 100001
 tile_rows_few k from zero h = tt
 tile_rows_few k from (suc many) h = (tile_row_few k from (omega (arith, h)), tile_rows_few (suc k) (from + 1) many (omega (arith, h)))
 
-pub tileref_short : (tiles : ℕ) → tiles ≤ 100000 → IsShort (tiles_made (tileref_table tiles))
+pub tileref_short : (tiles : ℕ) → tiles ≤ 100000 → IsShort (tiles_made (grid_tileref tiles))
 tileref_short tiles few = record { text = tileref_text; rows = tile_rows_few 1 1 tiles (omega (arith, few)) }

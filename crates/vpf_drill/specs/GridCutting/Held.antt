@@ -9,7 +9,7 @@ use Rattle.vpf_library_files.specs.Loading.Loading.{LoadedTable, loaded_file, wi
 use Rattle.vpf_vectors.specs.Cells.Rows.{plan_rows}
 use Rattle.vpf_vectors.specs.Heads.{plan_head}
 use Rattle.vpf_vectors.specs.Library.{grid_files, tiles}
-use Rattle.vpf_vectors.specs.Tables.{pair_table, tileref_table}
+use Rattle.vpf_vectors.specs.Tables.{pair_table, grid_tileref}
 
 -- the files of a tree that held none, once those of the grid are made in it
 abbrev pub grid_held : ℕ → Files
@@ -17,11 +17,11 @@ grid_held n = unwrap_or (with_all (grid_files n) (Some no_files)) no_files
 
 -- its table of tiles
 abbrev pub tileref_grid : ℕ → Grid
-tileref_grid n = tileref_table (tiles n)
+tileref_grid n = grid_tileref (tiles n)
 
 -- its plan: the home tile of each face but the universe
-abbrev pub plan_grid : ℕ → Grid
-plan_grid n = pair_table plan_head 2 (plan_rows n)
+abbrev pub cut_plan_grid : ℕ → Grid
+cut_plan_grid n = pair_table plan_head 2 (plan_rows n)
 
 -- the folder of a tiled library beside that of the grid
 abbrev pub grid_out : List ℕ

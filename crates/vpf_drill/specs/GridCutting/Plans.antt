@@ -7,11 +7,11 @@ use Rattle.vpf_vectors.specs.Cells.Numbers.{faces}
 use Rattle.vpf_vectors.specs.Cells.Rows.{tile_of}
 use Rattle.vpf_vectors.specs.GridCoverage.Coverage.{grid_primitives}
 use Rattle.vpf_vectors.specs.Library.{coverage_tables, tiles}
-use Rattle.vpf_drill.specs.GridCutting.Held.{plan_grid, tileref_grid}
+use Rattle.vpf_drill.specs.GridCutting.Held.{cut_plan_grid, tileref_grid}
 
 -- the tile that the plan names for each face
 abbrev pub grid_plan : ℕ → ℕ → ℕ
-grid_plan n = plan_of (names_of_faces (coverage_tables n) (plan_grid n))
+grid_plan n = plan_of (names_of_faces (coverage_tables n) (cut_plan_grid n))
 
 -- for a face other than the universe that is its home tile
 abbrev pub PlanNamesTiles : Type 0
@@ -23,7 +23,7 @@ RowsAreTiles = (n : ℕ) → length (tileref_grid n).rows ≡ tiles n
 
 -- nothing speaks against the plan
 abbrev pub GridServes : Type 0
-GridServes = (n : ℕ) → n % 2 ≡ 0 → 2 ≤ n → n ≤ 200 → plan_refusal (coverage_tables n) (plan_grid n) (length (tileref_grid n).rows) ≡ None
+GridServes = (n : ℕ) → n % 2 ≡ 0 → 2 ≤ n → n ≤ 200 → plan_refusal (coverage_tables n) (cut_plan_grid n) (length (tileref_grid n).rows) ≡ None
 
 -- the grid may be cut into its tiles by the plan
 abbrev pub GridIsTileable : Type 0

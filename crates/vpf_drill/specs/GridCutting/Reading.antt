@@ -13,7 +13,7 @@ use Rattle.vpf_tile_theorem.specs.Check.{coverage_finding}
 use Rattle.vpf_tile_theorem.specs.Make.{make_request}
 use Rattle.vpf_tile_theorem.specs.Tile.{TileParts, parts_finding, read_parts}
 use Rattle.vpf_featured.specs.Reading.{no_features}
-use Rattle.vpf_drill.specs.GridCutting.Held.{grid_held, grid_out, plan_grid, read_alone, tileref_grid}
+use Rattle.vpf_drill.specs.GridCutting.Held.{grid_held, grid_out, cut_plan_grid, read_alone, tileref_grid}
 
 -- the request that its coverage `g` is cut into tiles, as a library in the folder beside it
 abbrev pub grid_request : MakeRequest
@@ -39,7 +39,7 @@ grid_parts n = record {
   coverage = untiled_loaded (grid_tile n);
   schema = no_features;
   tileref = read_alone (codes "grid/tileref/tileref.aft") (tileref_grid n);
-  plan = read_alone (codes "grid/g/plan") (plan_grid n);
+  plan = read_alone (codes "grid/g/plan") (cut_plan_grid n);
 }
 
 -- the tables of the coverage, whose files are read first

@@ -6,11 +6,11 @@ use Rattle.vpf_table_files.specs.Adding.{NamedTable, files_made, first_limit_of}
 use Rattle.vpf_tiler.specs.TileFiles.Tables.{library_tables}
 use Rattle.vpf_vectors.specs.GridCoverage.Coverage.{grid_primitives}
 use Rattle.vpf_vectors.specs.Library.{coverage_tables, tiles}
-use Rattle.vpf_vectors.specs.Tables.{tileref_table}
+use Rattle.vpf_vectors.specs.Tables.{grid_tileref}
 
 -- the tables of the tiled library of the grid of n by n cells, as a coverage of this name, by a plan
 abbrev pub grid_library_tables : (n : ℕ) → (cov : List ℕ) → (ℕ → ℕ) → List NamedTable
-grid_library_tables n cov plan = library_tables cov (coverage_tables n) (grid_primitives n) plan (tileref_table (tiles n))
+grid_library_tables n cov plan = library_tables cov (coverage_tables n) (grid_primitives n) plan (grid_tileref (tiles n))
 
 -- none of them passes a limit, nor does an index
 abbrev pub GridPassesNoLimit : Type 0

@@ -27,7 +27,7 @@ use Rattle.vpf_primitive_tables.specs.TableForms.Forms.{EdgeValues, edge_values_
 use Rattle.vpf_primitive_tables.proofs.tile_reading.NumberLemmas.{read_numbered}
 use Rattle.vpf_primitive_tables.proofs.tile_reading.OwnLemmas.{all_passing}
 use Rattle.vpf_glue.specs.GluedTables.Grids.{glued_edge_row, glued_node_row, number_values, whole_in}
-use Rattle.vpf_glue.specs.GluedReading.Laws.{AreJoined, EdgesAreRead, NodesAreRead, edge_columns, edge_with, pair_columns}
+use Rattle.vpf_glue.specs.GluedReading.Laws.{AreJoined, EdgesAreRead, NodesAreRead, glued_edge_columns, edge_with, pair_columns}
 use Rattle.vpf_glue.proofs.glued_reading.RowLemmas.{edge_rows_say, node_rows_say}
 use Rattle.vpf_glue.proofs.glued_reading.TileLemmas.{IsThere, edge_read, edge_there, edges_of, node_read, node_there, nodes_of, row_is, row_whole, tables_there}
 
@@ -64,7 +64,7 @@ at_home b x y e = sym (ap (λ (b : Bool). cond b x y) e)
 
 -- what row k of edges says
 edge_says : (c : CoverageTables) (first : PrimitiveTables) → AreJoined c first → (k d : ℕ) → IsHome c d
-    → edge_in_row (edge_columns first.edg) (glued_edge_row first.edg.head.columns c k d) ≡ glued_edge (whole_in c) k d
+    → edge_in_row (glued_edge_columns first.edg) (glued_edge_row first.edg.head.columns c k d) ≡ glued_edge (whole_in c) k d
 edge_says c first j k d h =
     let i = home_there c d h in
     let columns : List Col = first.edg.head.columns in
@@ -88,14 +88,14 @@ edge_says c first j k d h =
       mark = mark i;
       carried = carried i;
     } in
-    ap (λ (row : Row). edge_in_row (edge_columns first.edg) (revised (edge_values_of columns k v) row)) (row_is (λ (T : PrimitiveTables). T.edg) c (tile_in d) (edge_in d) i)
+    ap (λ (row : Row). edge_in_row (glued_edge_columns first.edg) (revised (edge_values_of columns k v) row)) (row_is (λ (T : PrimitiveTables). T.edg) c (tile_in d) (edge_in d) i)
     ∙ edge_rows_say c first.edg grid (edges_of c first j (tile_in d) i.T i.at) row (row_whole grid (edge_in d) filled i.row) k v
     ∙ ap (edge_with k v) (sym (edge_read c (tile_in d) (edge_in d) i))
     ∙ same
 
 pub edges_are_read : EdgesAreRead
 edges_are_read c first j =
-    read_numbered (IsHome c) (edge_in_row (edge_columns first.edg)) (glued_edge_row first.edg.head.columns c) (glued_edge (whole_in c))
+    read_numbered (IsHome c) (edge_in_row (glued_edge_columns first.edg)) (glued_edge_row first.edg.head.columns c) (glued_edge (whole_in c))
     (λ k d h. edge_says c first j k d h) 1 (plus_darts (whole_in c)) (plus_home c)
 
 -- ---- nodes

@@ -38,8 +38,8 @@ edge_with k v old = record {
 }
 
 -- the columns of a glued table of edges, like this one
-abbrev pub edge_columns : Grid → List Col
-edge_columns like = with_kinds (edge_kinds_of kinds.I like.head.columns) like.head.columns
+abbrev pub glued_edge_columns : Grid → List Col
+glued_edge_columns like = with_kinds (edge_kinds_of kinds.I like.head.columns) like.head.columns
 
 -- the columns of a glued table with references in the column of this name
 abbrev pub pair_columns : List ℕ → Grid → List Col
@@ -49,7 +49,7 @@ pair_columns name like = with_kinds (pair_kinds name like.head.columns) like.hea
 abbrev pub EdgeRowsSay : Type 0
 EdgeRowsSay = (c : CoverageTables) (like there : Grid) → AreOfTiles (λ T. Some T.edg) c like there → (row : Row) → length row ≡ length there.head.columns
     → (k : ℕ) (v : EdgeValues)
-    → edge_in_row (edge_columns like) (revised (edge_values_of like.head.columns k v) row) ≡ edge_with k v (edge_in_row there.head.columns row)
+    → edge_in_row (glued_edge_columns like) (revised (edge_values_of like.head.columns k v) row) ≡ edge_with k v (edge_in_row there.head.columns row)
 
 -- a row of faces
 abbrev pub FaceRowsSay : Type 0

@@ -5,8 +5,8 @@ use Rattle.vpf_prims.specs.References.{id_of}
 use Rattle.vpf_glue.specs.declared.glued_tables.numbers.EdgeNumbers.{EdgeNumbers}
 
 -- those of a row of edges
-abbrev pub numbers_of : EdgePrimitive → EdgeNumbers
-numbers_of e = record {
+abbrev pub row_numbers : EdgePrimitive → EdgeNumbers
+row_numbers e = record {
   start_node = id_of e.start_node;
   end_node = id_of e.end_node;
   right_face = id_of e.right_face;

@@ -4,9 +4,9 @@ ghost use Rattle.std.specs.Prelude.{◌≡◌};
 ghost use Rattle.vpf_triplet.specs.declared.kinds.Kind.TheVariants.{I};
 ghost use Rattle.vpf_prims.specs.Primitives.{EdgePrimitive};
 ghost use Rattle.vpf_primitive_tables.specs.TableForms.Forms.{AreOfKind};
-ghost use Rattle.vpf_primitive_tables.specs.TableForms.Models.{values_of};
+ghost use Rattle.vpf_primitive_tables.specs.TableForms.Models.{values_of_edge};
 ghost use Rattle.vpf_glue.specs.GluedTables.Grids.{number_values};
-ghost use Rattle.vpf_glue.specs.GluedTables.Numbers.{AreSmall, numbers_of};
+ghost use Rattle.vpf_glue.specs.GluedTables.Numbers.{AreSmall, row_numbers};
 
 use vpf_primitive_tables::table_forms::{EdgeCells, number_cell};
 use vpf_write::revise::laws::numbers_and_ids_fit;
@@ -32,8 +32,8 @@ impl EdgeNumbers {
     /// The numbers as cells of 4 bytes.
     pub fn cells<'a>(self) -> EdgeCells<'a>
         requires { AreSmall self }
-        ensures values { (e : EdgePrimitive) → self ≡ numbers_of e → values_of result ≡ number_values e }
-        ensures fits { AreOfKind I (values_of result) }
+        ensures values { (e : EdgePrimitive) → self ≡ row_numbers e → values_of_edge result ≡ number_values e }
+        ensures fits { AreOfKind I (values_of_edge result) }
     {
         numbers_and_ids_fit();
         EdgeCells {

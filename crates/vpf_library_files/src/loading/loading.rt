@@ -101,7 +101,8 @@ fn load_files<T: Tree>(
     loaded: &mut u64,
 ) -> Result<Vec<File>, LoadStop>
     requires { loaded.old ≤ most_loaded }
-    ensures reads { LoadsAs (T.files tree.old) (λ held. read_coverage held lib.now cov.now loaded.old) (λ v c. LoadsCoverage lib.now cov.now v.items c) result loaded.new }
+    ensures reads { LoadsAs (T.files tree.old) (λ held. read_coverage held lib.now cov.now loaded.old)
+        (λ v c. LoadsCoverage lib.now cov.now v.items c) result loaded.new }
     ensures rising { loaded.old ≤ loaded.new }
     ensures most { loaded.new ≤ most_loaded }
     ensures fault { IsErrOf result LoadStop.Fault → Rose (T.faults tree.old) (T.faults tree.new) }

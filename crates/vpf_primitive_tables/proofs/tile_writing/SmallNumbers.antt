@@ -10,7 +10,7 @@ use Rattle.vpf_prims.specs.Primitives.{Primitives, edge_count, untiled}
 use Rattle.vpf_wing.specs.DartLaws.{IsThere, has-there}
 use Rattle.vpf_wing.specs.WellFormed.{IsWellFormed}
 use Rattle.vpf_tiling.specs.Presence.{has_edge, has_node, holds_face, local_edge, local_face, local_node}
-use Rattle.vpf_tiling.specs.PresenceLaws.{AtNode, at_node, present_has, tail_in}
+use Rattle.vpf_tiling.specs.PresenceLaws.{AtNode, at_node, present_has, tail_in_nodes}
 use Rattle.vpf_tiling.specs.RankLaws.{rank-step, weight}
 use Rattle.vpf_tiling.specs.Ranks.{rank, up_to}
 
@@ -59,7 +59,7 @@ edges_within c plan t e h =
 nodes_within : (c : Primitives) (plan : ℕ → ℕ) → IsWellFormed c → (t n : ℕ) → has_node c plan t n ≡ true → n ≤ length c.nodes
 nodes_within c plan w t n h =
     let at : AtNode c plan t n = at_node c plan t n h in
-    subst (λ (n : ℕ). n ≤ length c.nodes) at.tail (tail_in c w at.dart (present_has c plan t at.dart at.present)).to_last
+    subst (λ (n : ℕ). n ≤ length c.nodes) at.tail (tail_in_nodes c w at.dart (present_has c plan t at.dart at.present)).to_last
 
 faces_within : (c : Primitives) (plan : ℕ → ℕ) (t f : ℕ) → holds_face c plan t f ≡ true → f ≤ length c.faces
 faces_within c plan t f h =

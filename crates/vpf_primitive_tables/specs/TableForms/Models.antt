@@ -16,8 +16,8 @@ use Rattle.vpf_primitive_tables.specs.TableForms.Forms.{EdgeValues, edge_kinds_o
 use Rattle.vpf_primitive_tables.specs.TableForms.Places.{AreEdgePlaces, ArePairPlaces, AreRingPlaces}
 
 -- what the cells of the references of an edge say
-abbrev pub values_of : EdgeCells → EdgeValues
-values_of cells = record {
+abbrev pub values_of_edge : EdgeCells → EdgeValues
+values_of_edge cells = record {
   start_node = view cells.start_node;
   end_node = view cells.end_node;
   right_face = view cells.right_face;

@@ -4,7 +4,7 @@ ghost use Rattle.std.specs.Prelude.{◌≡◌, ◌<◌, ◌^◌, List, map};
 ghost use Rattle.vpf_head.specs.Head.{Col};
 ghost use Rattle.vpf_write.specs.Revise.Revising.{new_value};
 ghost use Rattle.vpf_primitive_tables.specs.TableForms.Forms.{edge_values_of};
-ghost use Rattle.vpf_primitive_tables.specs.TableForms.Models.{values_of};
+ghost use Rattle.vpf_primitive_tables.specs.TableForms.Models.{values_of_edge};
 ghost use Rattle.vpf_primitive_tables.specs.TableForms.Places.{AreEdgePlaces};
 
 use crate::table_forms::places::EdgePlaces;
@@ -60,7 +60,7 @@ impl<'t, 'a> Model for EdgeForm<'t, 'a> {
 /// The new cells of an edge: its number, and what it names.
 fn new_cells<'a>(places: EdgePlaces, number: u32, references: &EdgeCells<'a>) -> [NewCell<'a>; 7]
     requires { number < 2 ^ 31 }
-    ensures { (columns : List Col) → AreEdgePlaces columns places → map new_value result ≡ edge_values_of columns number (values_of references.now) }
+    ensures { (columns : List Col) → AreEdgePlaces columns places → map new_value result ≡ edge_values_of columns number (values_of_edge references.now) }
 {
     [
         new_number(places.id, number),
@@ -82,7 +82,7 @@ impl<'t, 'a> EdgeForm<'t, 'a> {
     ghost use Rattle.vpf_prims.specs.Roles.{edge_roles};
     ghost use Rattle.vpf_prims.specs.Suiting.{HasRoles};
     ghost use Rattle.vpf_primitive_tables.specs.TableForms.Forms.{AreOfKind, edge_kinds_of, edge_values_of, head_like};
-    ghost use Rattle.vpf_primitive_tables.specs.TableForms.Models.{values_of};
+    ghost use Rattle.vpf_primitive_tables.specs.TableForms.Models.{values_of_edge};
 
     /// How tables of edges are written like this one, with references of a kind that can name rows. Fails where memory for the header runs out.
     pub fn new(table: &'t TableView<'a>, references: Kind) -> Result<EdgeForm<'t, 'a>, AllocError>
@@ -132,12 +132,12 @@ impl<'t, 'a> EdgeForm<'t, 'a> {
     ) -> Result<(), AllocError>
         requires head { made.old.head ≡ head_like self.now.table (edge_kinds_of self.now.references) }
         requires number { number < 2 ^ 31 }
-        requires references { AreOfKind self.now.references (values_of references.now) }
+        requires references { AreOfKind self.now.references (values_of_edge references.now) }
         // Each other cell fits its column.
-        requires others { FitsElsewhere (edge_values_of self.now.table.head.columns number (values_of references.now)) made.old.head.columns row.now }
+        requires others { FitsElsewhere (edge_values_of self.now.table.head.columns number (values_of_edge references.now)) made.old.head.columns row.now }
         ensures head { made.new.head ≡ made.old.head }
         ensures put { OnOk result ((rows : List Row) → Holds made.old rows → Holds made.new
-            (rows ++ revised (edge_values_of self.now.table.head.columns number (values_of references.now)) row.now ∷ [])) }
+            (rows ++ revised (edge_values_of self.now.table.head.columns number (values_of_edge references.now)) row.now ∷ [])) }
     {
         columns_by_position();
         numbers_and_ids_fit();

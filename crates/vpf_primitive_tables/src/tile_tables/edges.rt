@@ -7,7 +7,7 @@ ghost use Rattle.vpf_prims.specs.Primitives.{EdgePrimitive};
 ghost use Rattle.vpf_cutting.specs.Cuts.{plan_by};
 ghost use Rattle.vpf_cutting.specs.Rows.{HasSmallReferences, references_of};
 ghost use Rattle.vpf_primitive_tables.specs.TableForms.Forms.{AreOfKind};
-ghost use Rattle.vpf_primitive_tables.specs.TableForms.Models.{values_of};
+ghost use Rattle.vpf_primitive_tables.specs.TableForms.Models.{values_of_edge};
 ghost use Rattle.vpf_primitive_tables.specs.TileTables.Grids.{edges_made, id_values};
 
 use crate::table_forms::laws::own_rows_fit;
@@ -21,8 +21,8 @@ use vpf_write::{WriteError, Written};
 /// What an edge names in its tile, as cells.
 fn id_cells<'a>(edge: &CutEdge) -> EdgeCells<'a>
     requires { HasSmallReferences edge.now }
-    ensures values { (e : EdgePrimitive) → edge.now ≡ references_of e → values_of result ≡ id_values e }
-    ensures fits { AreOfKind K (values_of result) }
+    ensures values { (e : EdgePrimitive) → edge.now ≡ references_of e → values_of_edge result ≡ id_values e }
+    ensures fits { AreOfKind K (values_of_edge result) }
 {
     numbers_and_ids_fit();
     EdgeCells {

@@ -144,7 +144,7 @@ impl<'t, 'a> Forms<'t, 'a> {
         ensures { Writes (faces_made self.now.fac cut.now.source (plan_by cut.now.plan) tile) result }
     {
         // What is so of each cut: its coverage has a universe.
-        cut.is_planned();
+        cut.plan_holds();
         let all = with_universe(alloc, cut.faces_in(tile))?;
         let faces = all.as_slice();
         let ring_ptrs = first_rings(alloc, faces.len() as u32, rings)?;

@@ -19,7 +19,7 @@ use Rattle.vpf_tiling_laws.specs.Gluing.Whole.{whole_of}
 use Rattle.vpf_tiling_laws.specs.Gluing.Glued.{first_darts, plus_darts}
 use Rattle.vpf_renumbering.specs.Whole.Gathering.{AreHomeDarts}
 use Rattle.vpf_renumbering.specs.declared.glued_edges.nodes.Nodes.{Nodes}
-use Rattle.vpf_renumbering.specs.GluedEdges.Glued.{AreNodes}
+use Rattle.vpf_renumbering.specs.GluedEdges.Glued.{AreNodesOf}
 use Rattle.vpf_renumbering.specs.GluedEdges.Numbers.{AreByList}
 use Rattle.vpf_renumbering.proofs.glued_edges.PlusLemmas.{IsPaired, darts_few, listed_row}
 use Rattle.vpf_renumbering.proofs.glued_edges.TurnLemmas.{AreLive, firsts_are, listed_once, lists_few, turn_number, turn_stands}
@@ -52,7 +52,7 @@ module _ (law : LeastsBeginCycles) (L : Library) (darts : List TileDart) (h : Ar
       ∙ ap (λ xs. cond (stands_in d xs) 1 0) (sym h.numbers)
 
   pub nodes_are : length (plus_darts (whole_of L)) ≤ most_rows → (nodes : Nodes) → map tile_dart_code nodes.firsts.items ≡ map first_of (numbers_of turns)
-      → AreByList (map tile_dart_code darts) (numbers_of turns) nodes.numbers.items → AreNodes L nodes
+      → AreByList (map tile_dart_code darts) (numbers_of turns) nodes.numbers.items → AreNodesOf L nodes
   nodes_are few nodes firsts by =
       let by' : AreByList (whole_of L).order (numbers_of turns) nodes.numbers.items =
       subst (λ xs. AreByList xs (numbers_of turns) nodes.numbers.items) h.numbers by in

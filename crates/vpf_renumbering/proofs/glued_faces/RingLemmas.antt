@@ -30,7 +30,7 @@ use Rattle.vpf_cut_rings.specs.Rings.{KeepsRings, first_rings_of, ring_of as cut
 use Rattle.vpf_cut_rings.proofs.PlaceLemmas.{IsRingOfFace, kept_of_face, made_more}
 use Rattle.vpf_renumbering.specs.declared.glued_faces.rings.GluedRing.{GluedRing}
 use Rattle.vpf_renumbering.specs.GluedFaces.Faces.{HasFewFaces, IsJoined}
-use Rattle.vpf_renumbering.specs.GluedFaces.Rings.{ring_of, rings_in, rings_made, rings_of_tile}
+use Rattle.vpf_renumbering.specs.GluedFaces.Rings.{ring_said, rings_said, rings_glued, rings_of_tile}
 use Rattle.vpf_renumbering.proofs.glued_faces.DistinctLemmas.{flat_twice}
 use Rattle.vpf_renumbering.proofs.glued_faces.NumberLemmas.{range_split}
 use Rattle.vpf_renumbering.proofs.glued_faces.StartLemmas.{home_start, ring_starts}
@@ -48,7 +48,7 @@ rings_there c t T e = ap (λ o. tile_rings_in (primitives_in o)) e
 pub one_ring : (c : CoverageTables) (t f k number edge : ℕ) (T : TileTables) (start : TileDart) → tile_at c t ≡ Some T
     → number ≡ face_number (whole_of (library_of c)) (face_here t f) → tile_dart_code start ≡ ring_start_dart (links_of (library_of c)) t edge f
     → edge ≡ id_of (kth (primitives_of T.tables).rings k absent_ring).start_edge
-    → ring_of (whole_of (library_of c)) (record { face = number; start = start }) ≡ ring_at (library_of c) t f k
+    → ring_said (whole_of (library_of c)) (record { face = number; start = start }) ≡ ring_at (library_of c) t f k
 unfolding ring_at
 one_ring c t f k number edge T start there n s e =
     let made : ℕ → ℕ → Ring = λ (a : ℕ). λ (b : ℕ). record { face = a; edge = b } in
@@ -81,15 +81,15 @@ start_home c j t f k edge T start there r two s e =
 
 -- one more ring is made
 pub more_made : (L : Library) (t f : ℕ) (ks : List ℕ) (i : ℕ) → i < length ks → (old before after : List GluedRing) (x : GluedRing) → after ≡ before ++ x ∷ []
-    → ring_of (whole_of L) x ≡ ring_at L t f (get_or ks i 0) → rings_made L before ≡ rings_made L old ++ map (ring_at L t f) (take i ks)
-    → rings_made L after ≡ rings_made L old ++ map (ring_at L t f) (take (i + 1) ks)
-unfolding rings_made
-more_made L t f ks i h old before after x a e was = made_more (ring_at L t f) (ring_of (whole_of L)) ks i h (map (ring_of (whole_of L)) old) before after x a e was
+    → ring_said (whole_of L) x ≡ ring_at L t f (get_or ks i 0) → rings_glued L before ≡ rings_glued L old ++ map (ring_at L t f) (take i ks)
+    → rings_glued L after ≡ rings_glued L old ++ map (ring_at L t f) (take (i + 1) ks)
+unfolding rings_glued
+more_made L t f ks i h old before after x a e was = made_more (ring_at L t f) (ring_said (whole_of L)) ks i h (map (ring_said (whole_of L)) old) before after x a e was
 
 -- the rings of a face are those that are kept for it
 pub face_made : (c : CoverageTables) (t f : ℕ) (T : TileTables) → tile_at c t ≡ Some T → (rings : Presence) → KeepsRings (primitives_of T.tables) rings → 2 ≤ f
-    → map (ring_at (library_of c) t f) (items_in rings f) ≡ rings_in (library_of c) t f
-unfolding ring_at rings_in
+    → map (ring_at (library_of c) t f) (items_in rings f) ≡ rings_said (library_of c) t f
+unfolding ring_at rings_said
 face_made c t f T there rings k two =
     let L : Library = library_of c in
     let W : Whole = whole_of (library_of c) in
@@ -106,37 +106,37 @@ face_made c t f T there rings k two =
 pub no_rings_yet : (xs : List Ring) → xs ≡ xs ++ []
 no_rings_yet xs = sym (append-nil xs)
 
-pub faces_more : (L : Library) (t k : ℕ) (old before after : List Ring) → after ≡ before ++ rings_in L t (k + 2)
-    → before ≡ old ++ flat_map (rings_in L t) (range_with_len 2 k) → after ≡ old ++ flat_map (rings_in L t) (range_with_len 2 (k + 1))
+pub faces_more : (L : Library) (t k : ℕ) (old before after : List Ring) → after ≡ before ++ rings_said L t (k + 2)
+    → before ≡ old ++ flat_map (rings_said L t) (range_with_len 2 k) → after ≡ old ++ flat_map (rings_said L t) (range_with_len 2 (k + 1))
 faces_more L t k old before after a was =
-    let last : flat_map (rings_in L t) (range_with_len (2 + k) 1) ≡ rings_in L t (k + 2) =
-    ap (λ f. rings_in L t f ++ []) (let z : 2 + k ≡ k + 2 = omega arith in z) ∙ append-nil (rings_in L t (k + 2)) in
-    a ∙ ap (λ v. v ++ rings_in L t (k + 2)) was ∙ append_assoc old (flat_map (rings_in L t) (range_with_len 2 k)) (rings_in L t (k + 2))
-    ∙ ap (λ v. old ++ v) (ap (λ v. flat_map (rings_in L t) (range_with_len 2 k) ++ v) (sym last)
-    ∙ sym (ap (flat_map (rings_in L t)) (range_split 2 k 1 (k + 1) refl) ∙ flat_map-append (rings_in L t) (range_with_len 2 k) (range_with_len (2 + k) 1)))
+    let last : flat_map (rings_said L t) (range_with_len (2 + k) 1) ≡ rings_said L t (k + 2) =
+    ap (λ f. rings_said L t f ++ []) (let z : 2 + k ≡ k + 2 = omega arith in z) ∙ append-nil (rings_said L t (k + 2)) in
+    a ∙ ap (λ v. v ++ rings_said L t (k + 2)) was ∙ append_assoc old (flat_map (rings_said L t) (range_with_len 2 k)) (rings_said L t (k + 2))
+    ∙ ap (λ v. old ++ v) (ap (λ v. flat_map (rings_said L t) (range_with_len 2 k) ++ v) (sym last)
+    ∙ sym (ap (flat_map (rings_said L t)) (range_split 2 k 1 (k + 1) refl) ∙ flat_map-append (rings_said L t) (range_with_len 2 k) (range_with_len (2 + k) 1)))
 
-one_face : (L : Library) (t a : ℕ) (row : FacePrimitive) → 2 ≤ a → rings_of_face (whole_of L) (whole_face L t a row) ≡ rings_in L t a
-unfolding rings_in
+one_face : (L : Library) (t a : ℕ) (row : FacePrimitive) → 2 ≤ a → rings_of_face (whole_of L) (whole_face L t a row) ≡ rings_said L t a
+unfolding rings_said
 one_face L t a row two =
     ap (λ b. map (λ d. let r : Ring = record { face = face_number (whole_of L) (cond b None (Some (record { tile = t; id = a }))); edge = edge_number (whole_of L) d } in r) (whole_rings L t a))
     (sym (ne_eqb a 1 (λ e. (let e' : a ≡ 1 = e in omega arith))))
 
 numbered_faces : (L : Library) (t a : ℕ) (rows : List FacePrimitive) → 2 ≤ a
-    → flat_map (rings_in L t) (range_with_len a (length rows)) ≡ flat_map (rings_of_face (whole_of L)) (numbered_from a (whole_face L t) rows)
+    → flat_map (rings_said L t) (range_with_len a (length rows)) ≡ flat_map (rings_of_face (whole_of L)) (numbered_from a (whole_face L t) rows)
 numbered_faces L t a [] two = refl
 numbered_faces L t a (row ∷ rows) two =
-    ap (λ v. v ++ flat_map (rings_in L t) (range_with_len (a + 1) (length rows))) (sym (one_face L t a row two))
+    ap (λ v. v ++ flat_map (rings_said L t) (range_with_len (a + 1) (length rows))) (sym (one_face L t a row two))
     ∙ ap (λ v. rings_of_face (whole_of L) (whole_face L t a row) ++ v)
-    (ap (λ b. flat_map (rings_in L t) (range_with_len b (length rows))) (let z : a + 1 ≡ suc a = omega arith in z) ∙ numbered_faces L t (suc a) rows (omega arith))
+    (ap (λ b. flat_map (rings_said L t) (range_with_len b (length rows))) (let z : a + 1 ≡ suc a = omega arith in z) ∙ numbered_faces L t (suc a) rows (omega arith))
 
 rest_many : {X : Type 0} → (xs : List X) → length (rest_of xs) ≡ length xs - 1
 rest_many [] = refl
 rest_many (x ∷ xs) = omega arith
 
-pub tile_made : (L : Library) (t n : ℕ) → n ≡ face_count L t - 1 → flat_map (rings_in L t) (range_with_len 2 n) ≡ rings_of_tile L t
+pub tile_made : (L : Library) (t n : ℕ) → n ≡ face_count L t - 1 → flat_map (rings_said L t) (range_with_len 2 n) ≡ rings_of_tile L t
 unfolding rings_of_tile
 tile_made L t n e =
-    ap (λ k. flat_map (rings_in L t) (range_with_len 2 k)) (e ∙ sym (rest_many (tile_faces L t))) ∙ numbered_faces L t 2 (rest_of (tile_faces L t)) (omega arith)
+    ap (λ k. flat_map (rings_said L t) (range_with_len 2 k)) (e ∙ sym (rest_many (tile_faces L t))) ∙ numbered_faces L t 2 (rest_of (tile_faces L t)) (omega arith)
 
 -- an empty tile has none
 pub none_made : (c : CoverageTables) (t : ℕ) → None ≡ tile_at c t → (xs : List Ring) → xs ≡ xs ++ rings_of_tile (library_of c) t
@@ -161,13 +161,13 @@ all_made L n e =
     ap (λ k. universe_rings (whole_of L) ++ flat_map (rings_of_tile L) (range_with_len 0 k)) (e ∙ (let z : L.last + 1 ≡ suc L.last = omega arith in z))
     ∙ ap (λ v. universe_rings (whole_of L) ++ v) (sym (flat_twice (rings_of_face (whole_of L)) (whole_faces L) (range_with_len 0 (suc L.last))))
 
-pub made_map : (L : Library) (rings : List GluedRing) → rings_made L rings ≡ map (ring_of (whole_of L)) rings
-unfolding rings_made
+pub made_map : (L : Library) (rings : List GluedRing) → rings_glued L rings ≡ map (ring_said (whole_of L)) rings
+unfolding rings_glued
 made_map L rings = refl
 
-pub made_many : (L : Library) (rings : List GluedRing) → length (rings_made L rings) ≡ length rings
-unfolding rings_made
-made_many L rings = length-map rings (ring_of (whole_of L))
+pub made_many : (L : Library) (rings : List GluedRing) → length (rings_glued L rings) ≡ length rings
+unfolding rings_glued
+made_many L rings = length-map rings (ring_said (whole_of L))
 
 faces_rings_many : (w : Whole) (fs : List WholeFace) → length (flat_map (rings_of_face w) fs) ≡ length (flat_map (λ (f : WholeFace). f.rings) fs)
 faces_rings_many w [] = refl
@@ -183,11 +183,11 @@ most : (all universe faces edges : ℕ) → all ≡ universe + faces → univers
 most all universe faces edges e u f h = omega arith
 
 pub rings_few : (c : CoverageTables) → HasFewFaces (library_of c) → length (plus_darts (whole_of (library_of c))) ≤ most_rows → (universe all : List GluedRing)
-    → length universe ≤ 2 * length (plus_darts (whole_of (library_of c))) → rings_made (library_of c) universe ≡ universe_rings (whole_of (library_of c))
-    → map (ring_of (whole_of (library_of c))) all ≡ glued_rings (whole_of (library_of c)) → length all < 2 ^ 26
+    → length universe ≤ 2 * length (plus_darts (whole_of (library_of c))) → rings_glued (library_of c) universe ≡ universe_rings (whole_of (library_of c))
+    → map (ring_said (whole_of (library_of c))) all ≡ glued_rings (whole_of (library_of c)) → length all < 2 ^ 26
 rings_few c few edges universe all less own made =
     most (length all) (length universe) (length (flat_map (λ (f : WholeFace). f.rings) (whole_of (library_of c)).faces)) (length (plus_darts (whole_of (library_of c))))
-    (sym (length-map all (ring_of (whole_of (library_of c)))) ∙ ap length made ∙ glued_many (whole_of (library_of c))
+    (sym (length-map all (ring_said (whole_of (library_of c)))) ∙ ap length made ∙ glued_many (whole_of (library_of c))
     ∙ ap (λ n. n + length (flat_map (λ (f : WholeFace). f.rings) (whole_of (library_of c)).faces)) (ap length (sym own) ∙ made_many (library_of c) universe))
     less few.rings edges
 
@@ -197,7 +197,7 @@ abbrev cut_of : GluedRing → CutRing
 cut_of r = record { face = r.face; edge = r.start.edge }
 
 first_same : (w : Whole) (f j : ℕ) (rings : List GluedRing)
-    → first_from j (λ (r : Ring). eqb r.face f) (map cut_ring_of (map cut_of rings)) ≡ first_from j (λ (r : Ring). eqb r.face f) (map (ring_of w) rings)
+    → first_from j (λ (r : Ring). eqb r.face f) (map cut_ring_of (map cut_of rings)) ≡ first_from j (λ (r : Ring). eqb r.face f) (map (ring_said w) rings)
 first_same w f j [] = refl
 first_same w f j (x ∷ xs) = elim (cases_Bool (eqb x.face f)) [ inl t ↦ rw t refl | inr g ↦ rw g (first_same w f (suc j) xs) ]
 
@@ -205,7 +205,7 @@ map_same : {X Y : Type 0} → (g h : X → Y) → ((x : X) → g x ≡ h x) → 
 map_same g h e [] = refl
 map_same g h e (x ∷ xs) = ap (λ y. y ∷ map g xs) (e x) ∙ ap (λ ys. h x ∷ ys) (map_same g h e xs)
 
-pub firsts_same : (w : Whole) (n : ℕ) (rings : List GluedRing) → first_rings_of n (map cut_ring_of (map cut_of rings)) ≡ first_rings_of n (map (ring_of w) rings)
+pub firsts_same : (w : Whole) (n : ℕ) (rings : List GluedRing) → first_rings_of n (map cut_ring_of (map cut_of rings)) ≡ first_rings_of n (map (ring_said w) rings)
 firsts_same w n rings =
-    map_same (λ k. first_item (λ (r : Ring). eqb r.face k) (map cut_ring_of (map cut_of rings))) (λ k. first_item (λ (r : Ring). eqb r.face k) (map (ring_of w) rings))
+    map_same (λ k. first_item (λ (r : Ring). eqb r.face k) (map cut_ring_of (map cut_of rings))) (λ k. first_item (λ (r : Ring). eqb r.face k) (map (ring_said w) rings))
     (λ k. first_same w k 1 rings) (up_to n)

@@ -25,7 +25,7 @@ use Rattle.vpf_tiling_laws.specs.Gluing.Whole.{whole_of}
 use Rattle.vpf_renumbering.specs.Whole.Gathering.{AreHomeDarts}
 use Rattle.vpf_renumbering.specs.declared.glued_faces.rings.GluedRing.{GluedRing}
 use Rattle.vpf_renumbering.specs.GluedFaces.Faces.{IsJoined}
-use Rattle.vpf_renumbering.specs.GluedFaces.Rings.{is_universe, ring_of, rings_made, rings_of_cycles, universe_ring}
+use Rattle.vpf_renumbering.specs.GluedFaces.Rings.{is_universe, ring_said, rings_glued, rings_of_cycles, universe_ring}
 use Rattle.vpf_renumbering.proofs.glued_faces.DistinctLemmas.{distinct_rising, no_test}
 use Rattle.vpf_renumbering.proofs.glued_faces.FewLemmas.{any_stands, few_homes}
 
@@ -90,23 +90,23 @@ universe_of L d id home is b e =
 
 -- ---- the rings as they are made
 
-pub none_yet : (L : Library) (lists : List (List ℕ)) → rings_made L [] ≡ rings_of_cycles L (take 0 lists)
-unfolding rings_made rings_of_cycles
+pub none_yet : (L : Library) (lists : List (List ℕ)) → rings_glued L [] ≡ rings_of_cycles L (take 0 lists)
+unfolding rings_glued rings_of_cycles
 none_yet L lists = refl
 
 pub one_more : (L : Library) (lists : List (List ℕ)) (i : ℕ) (start : TileDart) → i < length lists → tile_dart_code start ≡ first_of (get_or lists i [])
     → is_universe L (tile_dart_code start) ≡ true → (before after : List GluedRing) → after ≡ before ++ record { face = 1; start = start } ∷ []
-    → rings_made L before ≡ rings_of_cycles L (take i lists) → rings_made L after ≡ rings_of_cycles L (take (i + 1) lists)
-unfolding rings_made rings_of_cycles
+    → rings_glued L before ≡ rings_of_cycles L (take i lists) → rings_glued L after ≡ rings_of_cycles L (take (i + 1) lists)
+unfolding rings_glued rings_of_cycles
 one_more L lists i start h is u before after a was =
     let x : GluedRing = record { face = 1; start = start } in
-    ap (map (ring_of (whole_of L))) a ∙ map-append (ring_of (whole_of L)) before (x ∷ []) ∙ ap (λ v. v ++ universe_ring L (tile_dart_code start) ∷ []) was
+    ap (map (ring_said (whole_of L))) a ∙ map-append (ring_said (whole_of L)) before (x ∷ []) ∙ ap (λ v. v ++ universe_ring L (tile_dart_code start) ∷ []) was
     ∙ sym (one_kept (universe_ring L) (is_universe L) lists i (tile_dart_code start) h is u)
 
 pub no_more : (L : Library) (lists : List (List ℕ)) (i : ℕ) (start : TileDart) → i < length lists → tile_dart_code start ≡ first_of (get_or lists i [])
     → is_universe L (tile_dart_code start) ≡ false → (rings : List GluedRing)
-    → rings_made L rings ≡ rings_of_cycles L (take i lists) → rings_made L rings ≡ rings_of_cycles L (take (i + 1) lists)
-unfolding rings_made rings_of_cycles
+    → rings_glued L rings ≡ rings_of_cycles L (take i lists) → rings_glued L rings ≡ rings_of_cycles L (take (i + 1) lists)
+unfolding rings_glued rings_of_cycles
 no_more L lists i start h is u rings was = was ∙ sym (one_dropped (universe_ring L) (is_universe L) lists i (tile_dart_code start) h is u)
 
 -- ---- all of them

@@ -15,7 +15,7 @@ use Rattle.vpf_renumbering.specs.declared.glued_edges.nodes.Nodes.{Nodes}
 use Rattle.vpf_renumbering.specs.GluedEdges.Numbers.{kept_for}
 
 -- these are the nodes of a library, and each home dart has the number of the one where it begins
-pub record AreNodes (L : Library) (nodes : Nodes) : Type 0 where
+pub record AreNodesOf (L : Library) (nodes : Nodes) : Type 0 where
   pub firsts : map tile_dart_code nodes.firsts.items ≡ first_darts (whole_of L)
   pub few : length (first_darts (whole_of L)) ≤ 2 * most_rows
   pub one_each : length nodes.numbers.items ≡ length (whole_of L).order
@@ -23,7 +23,7 @@ pub record AreNodes (L : Library) (nodes : Nodes) : Type 0 where
   pub rows : (d : ℕ) → stands_in d (whole_of L).order ≡ true → IsRowOf (length (first_darts (whole_of L))) (node_number (whole_of L) d)
 
 -- what the row of an edge names are nodes and edges
-pub record AreRows (W : Whole) (e : EdgeJoins) : Type 0 where
+pub record AreEdgeRows (W : Whole) (e : EdgeJoins) : Type 0 where
   pub start_node : IsRowOf (length (first_darts W)) e.start_node
   pub end_node : IsRowOf (length (first_darts W)) e.end_node
   pub right_edge : IsRowOf (length (plus_darts W)) e.right_edge
@@ -35,4 +35,4 @@ pub record KeepsGlued (L : Library) (home plus : List TileDart) (found : Nodes) 
   pub darts : AreHomeDarts L home
   pub edges : map tile_dart_code plus ≡ plus_darts (whole_of L)
   pub in_order : AreInOrder plus
-  pub nodes : AreNodes L found
+  pub nodes : AreNodesOf L found

@@ -11,8 +11,8 @@ use Rattle.vpf_tiling_laws.specs.Gluing.Whole.{Whole, face_here, whole_faces, wh
 use Rattle.vpf_renumbering.specs.declared.glued_faces.rings.GluedRing.{GluedRing}
 
 -- a ring as a row says it: its face, and the number of the edge of the dart that it starts with
-abbrev pub ring_of : Whole → GluedRing → Ring
-ring_of w r = record { face = r.face; edge = edge_number w (tile_dart_code r.start) }
+abbrev pub ring_said : Whole → GluedRing → Ring
+ring_said w r = record { face = r.face; edge = edge_number w (tile_dart_code r.start) }
 
 -- a ring starts with a home dart, and the number of its face fits a cell, which holds those below 2^31
 pub record HasHomeStart (L : Library) (r : GluedRing) : Type 0 where
@@ -20,12 +20,12 @@ pub record HasHomeStart (L : Library) (r : GluedRing) : Type 0 where
   pub face : r.face < 2 ^ 31
 
 -- rings as rows say them
-unfoldable pub rings_made : Library → List GluedRing → List Ring
-rings_made L rings = map (ring_of (whole_of L)) rings
+unfoldable pub rings_glued : Library → List GluedRing → List Ring
+rings_glued L rings = map (ring_said (whole_of L)) rings
 
 -- the rings of a face of a tile
-unfoldable pub rings_in : Library → (t f : ℕ) → List Ring
-rings_in L t f = map (λ d. record { face = face_number (whole_of L) (face_here t f); edge = edge_number (whole_of L) d }) (whole_rings L t f)
+unfoldable pub rings_said : Library → (t f : ℕ) → List Ring
+rings_said L t f = map (λ d. record { face = face_number (whole_of L) (face_here t f); edge = edge_number (whole_of L) d }) (whole_rings L t f)
 
 -- the rings of all faces of a tile but the universe
 unfoldable pub rings_of_tile : Library → ℕ → List Ring

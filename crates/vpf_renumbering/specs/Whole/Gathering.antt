@@ -24,13 +24,13 @@ pub record AreHomeAmong (L : Library) (among : List ℕ) (darts : List TileDart)
   pub small : All (λ d. d.edge < 2 ^ 32) darts
 
 -- they are those of the tiles before t, and of its edges 1 to k
-abbrev pub AreGatheredTo : CoverageTables → ℕ → ℕ → List TileDart → Type 0
-AreGatheredTo c t k darts = AreHomeAmong (library_of c) (darts_to (edge_count (library_of c)) t k) darts
+abbrev pub AreHomesTo : CoverageTables → ℕ → ℕ → List TileDart → Type 0
+AreHomesTo c t k darts = AreHomeAmong (library_of c) (darts_to (edge_count (library_of c)) t k) darts
 
 -- they are those before a dart
-abbrev pub AreGatheredBefore : CoverageTables → TileDart → List TileDart → Type 0
-AreGatheredBefore c d darts = AreHomeAmong (library_of c) (darts_before (edge_count (library_of c)) d.tile d.edge d.minus) darts
+abbrev pub AreHomesBefore : CoverageTables → TileDart → List TileDart → Type 0
+AreHomesBefore c d darts = AreHomeAmong (library_of c) (darts_before (edge_count (library_of c)) d.tile d.edge d.minus) darts
 
 -- they are those before a dart, and maybe it
-abbrev pub AreGatheredWith : CoverageTables → TileDart → List TileDart → Type 0
-AreGatheredWith c d darts = AreHomeAmong (library_of c) (darts_before (edge_count (library_of c)) d.tile d.edge d.minus ++ tile_dart_code d ∷ []) darts
+abbrev pub AreHomesWith : CoverageTables → TileDart → List TileDart → Type 0
+AreHomesWith c d darts = AreHomeAmong (library_of c) (darts_before (edge_count (library_of c)) d.tile d.edge d.minus ++ tile_dart_code d ∷ []) darts

@@ -53,7 +53,7 @@ impl<'w, 'c, 'a> GluedEdges<'w, 'c, 'a> {
         ensures end_row { IsRowOf (length (first_darts (whole_of (library_of self.now)))) result.end }
     {
         let whole = self.whole();
-        whole.is_map();
+        whole.makes_map();
         EdgeNodes {
             start: self.node_number(dart),
             end: self.node_number(whole.flip(dart)),

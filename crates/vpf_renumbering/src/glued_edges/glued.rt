@@ -11,7 +11,7 @@ ghost use Rattle.vpf_follow.specs.Following.{is_home};
 ghost use Rattle.vpf_tiling_laws.specs.Gluing.Whole.{whole_of};
 ghost use Rattle.vpf_tiling_laws.specs.Gluing.Glued.{edge_number, first_darts, node_number, plus_darts};
 ghost use Rattle.vpf_renumbering.specs.Whole.Gathering.{AreHomeDarts};
-ghost use Rattle.vpf_renumbering.specs.GluedEdges.Glued.{AreRows};
+ghost use Rattle.vpf_renumbering.specs.GluedEdges.Glued.{AreEdgeRows};
 
 use crate::glued_edges::edges::plus_darts;
 use crate::glued_edges::faces::{TileFace, face_of};
@@ -122,7 +122,7 @@ impl<'w, 'c, 'a> GluedEdges<'w, 'c, 'a> {
             else (whole_of (library_of self.now)).darts.flip (tile_dart_code dart)) }
         ensures there { stands_in (tile_dart_code result) (plus_darts (whole_of (library_of self.now))) ≡ true }
     {
-        self.whole.is_map();
+        self.whole.makes_map();
         if dart.minus {
             self.whole.flip(dart)
         } else {
@@ -154,12 +154,13 @@ impl<'w, 'c, 'a> GluedEdges<'w, 'c, 'a> {
         requires { is_home (links_of (library_of self.now)) (tile_dart_code dart) ≡ true }
         ensures start_node { result.start_node ≡ node_number (whole_of (library_of self.now)) (tile_dart_code dart) }
         ensures end_node { result.end_node ≡ node_number (whole_of (library_of self.now)) ((whole_of (library_of self.now)).darts.flip (tile_dart_code dart)) }
-        ensures right_edge { result.right_edge ≡ edge_number (whole_of (library_of self.now)) ((whole_of (library_of self.now)).darts.next (tile_dart_code dart)) }
+        ensures right_edge { result.right_edge ≡ edge_number (whole_of (library_of self.now)) ((whole_of (library_of self.now)).darts.next
+            (tile_dart_code dart)) }
         ensures left_edge { result.left_edge ≡ edge_number (whole_of (library_of self.now))
             ((whole_of (library_of self.now)).darts.next ((whole_of (library_of self.now)).darts.flip (tile_dart_code dart))) }
-        ensures rows { AreRows (whole_of (library_of self.now)) result }
+        ensures rows { AreEdgeRows (whole_of (library_of self.now)) result }
     {
-        self.whole.is_map();
+        self.whole.makes_map();
         let other = self.whole.flip(dart);
         EdgeJoins {
             start_node: self.node_number(dart),
@@ -176,7 +177,7 @@ impl<'w, 'c, 'a> GluedEdges<'w, 'c, 'a> {
         ensures own { result.0 ≡ (whole_of (library_of self.now)).face (tile_dart_code dart) }
         ensures other { result.1 ≡ (whole_of (library_of self.now)).face ((whole_of (library_of self.now)).darts.flip (tile_dart_code dart)) }
     {
-        self.whole.is_map();
+        self.whole.makes_map();
         let coverage = self.whole.checked().coverage();
         let other = self.whole.flip(dart);
         (face_of(coverage, dart), face_of(coverage, other))

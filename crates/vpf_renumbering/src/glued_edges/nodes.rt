@@ -12,7 +12,7 @@ ghost use Rattle.vpf_prims.specs.Libraries.{library_of};
 ghost use Rattle.vpf_tiling_laws.specs.Gluing.Glued.{plus_darts};
 ghost use Rattle.vpf_tiling_laws.specs.Gluing.Whole.{whole_of};
 ghost use Rattle.vpf_renumbering.specs.Whole.Gathering.{AreHomeDarts};
-ghost use Rattle.vpf_renumbering.specs.GluedEdges.Glued.{AreNodes};
+ghost use Rattle.vpf_renumbering.specs.GluedEdges.Glued.{AreNodesOf};
 ghost use Rattle.vpf_renumbering.specs.GluedEdges.Numbers.{AreByList, ArePut};
 
 use crate::whole::{WholeMap, turns};
@@ -84,9 +84,9 @@ pub(crate) fn nodes_of(
 ) -> Result<Nodes, AllocError>
     requires few { length (plus_darts (whole_of (library_of whole.now))) ≤ most_rows }
     requires darts { AreHomeDarts (library_of whole.now) darts.now }
-    ensures { IfOk result (λ nodes. AreNodes (library_of whole.now) nodes) }
+    ensures { IfOk result (λ nodes. AreNodesOf (library_of whole.now) nodes) }
 {
-    whole.is_map();
+    whole.makes_map();
     leasts_begin_cycles();
     let turns = turns(alloc, whole, darts)?;
     Ok(Nodes {

@@ -1,7 +1,7 @@
 //! The faces of a glued coverage, and their numbers.
 
 use crate::glued_faces::counting::counts;
-use crate::glued_faces::joined::is_joined;
+use crate::glued_faces::joined::faces_are_joined;
 use std::alloc::{AllocError, Global};
 use std::marker::Model;
 use vpf_cross::Checked;
@@ -66,7 +66,7 @@ impl<'w, 'c, 'a> GluedFaces<'w, 'c, 'a> {
         requires { length (plus_darts (whole_of (library_of checked.now))) ≤ most_rows }
         ensures { IfOk result (λ faces. faces ≡ checked.now) }
     {
-        is_joined(checked);
+        faces_are_joined(checked);
         let counts = counts(alloc, checked.coverage())?;
         Ok(GluedFaces { checked, counts })
     }
@@ -79,7 +79,7 @@ impl<'w, 'c, 'a> GluedFaces<'w, 'c, 'a> {
     }
 
     /// What is so of each: the coverage has no more edges than a table can have rows.
-    pub fn has_few_edges(&self)
+    pub fn faces_have_few_edges(&self)
         ensures { length (plus_darts (whole_of (library_of self.now))) ≤ most_rows }
     {
         let _checked = self.checked;

@@ -9,14 +9,14 @@ use vpf_numbers::laws::numbers_decide;
 use vpf_wing::laws::cycles_decide;
 
 /// What is so of each checked coverage: its tiles are numbered, their cycles hold, and it is one map.
-pub(crate) fn is_joined(checked: &Checked<'_, '_>)
+pub(crate) fn faces_are_joined(checked: &Checked<'_, '_>)
     ensures { IsJoined (library_of checked.now) }
 {
     let coverage = checked.coverage();
-    coverage.is_library();
-    coverage.has_numbers();
-    checked.agrees();
+    coverage.tiles_make_library();
+    coverage.numbers_hold();
+    checked.topology_holds();
     numbers_decide();
     cycles_decide();
-    WholeMap::new(checked).is_map();
+    WholeMap::new(checked).makes_map();
 }

@@ -10,10 +10,10 @@ ghost use Rattle.vpf_prims.specs.Numbering.{IsRowOf};
 ghost use Rattle.vpf_prims.specs.Primitives.{face_count};
 ghost use Rattle.vpf_prims.specs.Reading.{primitives_of};
 ghost use Rattle.vpf_renumbering.specs.GluedFaces.Faces.{IsJoined};
-ghost use Rattle.vpf_renumbering.specs.GluedFaces.Rings.{HasHomeStart, ring_of, rings_in, rings_made, rings_of_tile};
+ghost use Rattle.vpf_renumbering.specs.GluedFaces.Rings.{HasHomeStart, ring_said, rings_said, rings_glued, rings_of_tile};
 
 use crate::glued_faces::faces::GluedFaces;
-use crate::glued_faces::joined::is_joined;
+use crate::glued_faces::joined::faces_are_joined;
 use crate::glued_faces::starts::start_dart;
 use crate::glued_faces::universe::universe_rings;
 use std::alloc::{AllocError, Global};
@@ -60,8 +60,8 @@ impl GluedFaces<'_, '_, '_> {
         requires row { IsRowOf (face_count (library_of self.now) tile) face }
         requires other { 2 ≤ face }
         requires home { All (HasHomeStart (library_of self.now)) rings.old.items }
-        ensures rings { OnOk result (rings_made (library_of self.now) rings.new.items
-            ≡ rings_made (library_of self.now) rings.old.items ++ rings_in (library_of self.now) tile face) }
+        ensures rings { OnOk result (rings_glued (library_of self.now) rings.new.items
+            ≡ rings_glued (library_of self.now) rings.old.items ++ rings_said (library_of self.now) tile face) }
         ensures home { OnOk result (All (HasHomeStart (library_of self.now)) rings.new.items) }
     {
         let number = self.face_number(tile, face);
@@ -86,8 +86,8 @@ impl GluedFaces<'_, '_, '_> {
     ) -> Result<(), AllocError>
         requires joined { IsJoined (library_of self.now) }
         requires home { All (HasHomeStart (library_of self.now)) rings.old.items }
-        ensures rings { OnOk result (rings_made (library_of self.now) rings.new.items
-            ≡ rings_made (library_of self.now) rings.old.items ++ rings_of_tile (library_of self.now) tile) }
+        ensures rings { OnOk result (rings_glued (library_of self.now) rings.new.items
+            ≡ rings_glued (library_of self.now) rings.old.items ++ rings_of_tile (library_of self.now) tile) }
         ensures home { OnOk result (All (HasHomeStart (library_of self.now)) rings.new.items) }
     {
         let Some(tables) = self.checked().coverage().tile(tile) else {
@@ -104,13 +104,13 @@ impl GluedFaces<'_, '_, '_> {
     /// face in their order, each by the dart with which it starts in its tile (MIL-STD-2407, 5.2.2, rings). The tiles and their rings are
     /// passed once, and the map is walked once.
     pub fn rings(&self, alloc: Global) -> Result<Vec<GluedRing>, AllocError>
-        ensures rings { IfOk result (λ rings. map (ring_of (whole_of (library_of self.now))) rings.items ≡ glued_rings (whole_of (library_of self.now))) }
+        ensures rings { IfOk result (λ rings. map (ring_said (whole_of (library_of self.now))) rings.items ≡ glued_rings (whole_of (library_of self.now))) }
         ensures home { IfOk result (λ rings. All (HasHomeStart (library_of self.now)) rings.items) }
         ensures few { IfOk result (λ rings. length rings.items < 2 ^ 26) }
     {
         let checked = self.checked();
-        self.has_few_edges();
-        is_joined(checked);
+        self.faces_have_few_edges();
+        faces_are_joined(checked);
         let mut rings = universe_rings(alloc, checked)?;
         for tile in 0..=checked.coverage().tiles() {
             self.push_tile_rings(alloc, tile, &mut rings)?;
@@ -123,7 +123,7 @@ impl GluedFaces<'_, '_, '_> {
     pub fn ring_ptrs(&self, alloc: Global, rings: &[GluedRing]) -> Result<Vec<u32>, AllocError>
         requires { length rings.now < 2 ^ 26 }
         ensures firsts { IfOk result (λ firsts. firsts.items ≡ first_rings_of (length (whole_of (library_of self.now)).faces + 1)
-            (map (ring_of (whole_of (library_of self.now))) rings.now)) }
+            (map (ring_said (whole_of (library_of self.now))) rings.now)) }
         ensures few { IfOk result (λ firsts. All (λ first. first < 2 ^ 26) firsts.items) }
     {
         let cut = cut_rings(alloc, rings)?;

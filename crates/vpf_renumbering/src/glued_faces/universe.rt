@@ -9,9 +9,9 @@ ghost use Rattle.vpf_tiling_laws.specs.Gluing.Whole.{whole_of};
 ghost use Rattle.vpf_prims.specs.Libraries.{library_of};
 ghost use Rattle.vpf_wing.specs.Links.{links_of};
 ghost use Rattle.vpf_follow.specs.Following.{is_home, library_map};
-ghost use Rattle.vpf_renumbering.specs.GluedFaces.Rings.{HasHomeStart, rings_made, rings_of_cycles};
+ghost use Rattle.vpf_renumbering.specs.GluedFaces.Rings.{HasHomeStart, rings_glued, rings_of_cycles};
 
-use crate::glued_faces::joined::is_joined;
+use crate::glued_faces::joined::faces_are_joined;
 use crate::glued_faces::rings::GluedRing;
 use crate::glued_faces::starts::face_id;
 use crate::whole::{WholeMap, cycles, home_darts};
@@ -43,7 +43,7 @@ fn rings_of_cycles(
 ) -> Result<Vec<GluedRing>, AllocError>
     requires { IsListing (library_map (links_of (library_of checked.now))).next
         (library_map (links_of (library_of checked.now))).live (numbers_of cycles.now) }
-    ensures rings { IfOk result (λ rings. rings_made (library_of checked.now) rings.items ≡ rings_of_cycles (library_of checked.now) (numbers_of cycles.now)) }
+    ensures rings { IfOk result (λ rings. rings_glued (library_of checked.now) rings.items ≡ rings_of_cycles (library_of checked.now) (numbers_of cycles.now)) }
     ensures home { IfOk result (λ rings. All (HasHomeStart (library_of checked.now)) rings.items) }
 {
     let mut rings = Vec::new(alloc);
@@ -64,11 +64,11 @@ pub(crate) fn universe_rings(
     alloc: Global,
     checked: &Checked<'_, '_>,
 ) -> Result<Vec<GluedRing>, AllocError>
-    ensures rings { IfOk result (λ rings. rings_made (library_of checked.now) rings.items ≡ universe_rings (whole_of (library_of checked.now))) }
+    ensures rings { IfOk result (λ rings. rings_glued (library_of checked.now) rings.items ≡ universe_rings (whole_of (library_of checked.now))) }
     ensures home { IfOk result (λ rings. All (HasHomeStart (library_of checked.now)) rings.items) }
     ensures few { IfOk result (λ rings. length rings.items ≤ 2 * length (plus_darts (whole_of (library_of checked.now)))) }
 {
-    is_joined(checked);
+    faces_are_joined(checked);
     leasts_begin_cycles();
     let whole = WholeMap::new(checked);
     let darts = home_darts(alloc, checked)?;

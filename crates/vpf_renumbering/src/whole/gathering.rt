@@ -4,7 +4,7 @@ ghost use Rattle.std.specs.Prelude.{◌≡◌, ◌+◌, ◌-◌, ◌<◌, ◌≤
 ghost use Rattle.vpf_prims.specs.Libraries.{library_of};
 ghost use Rattle.vpf_prims.specs.Primitives.{edge_count};
 ghost use Rattle.vpf_wing.specs.Links.{links_of};
-ghost use Rattle.vpf_renumbering.specs.Whole.Gathering.{AreGatheredBefore, AreGatheredTo, AreGatheredWith, AreHomeAmong, AreHomeDarts};
+ghost use Rattle.vpf_renumbering.specs.Whole.Gathering.{AreHomesBefore, AreHomesTo, AreHomesWith, AreHomeAmong, AreHomeDarts};
 
 use std::alloc::{AllocError, Global};
 use vpf_coverage::Coverage;
@@ -18,8 +18,8 @@ fn put_dart(
     dart: TileDart,
     darts: &mut Vec<TileDart>,
 ) -> Result<(), AllocError>
-    requires { AreGatheredBefore coverage.now dart darts.old.items }
-    ensures { OnOk result (AreGatheredWith coverage.now dart darts.new.items) }
+    requires { AreHomesBefore coverage.now dart darts.old.items }
+    ensures { OnOk result (AreHomesWith coverage.now dart darts.new.items) }
 {
     if is_home(coverage, dart) {
         darts.push(dart)?;
@@ -35,8 +35,8 @@ fn put_edge(
     darts: &mut Vec<TileDart>,
 ) -> Result<(), AllocError>
     requires some { 1 ≤ k }
-    requires darts { AreGatheredTo coverage.now number (k - 1) darts.old.items }
-    ensures { OnOk result (AreGatheredTo coverage.now number k darts.new.items) }
+    requires darts { AreHomesTo coverage.now number (k - 1) darts.old.items }
+    ensures { OnOk result (AreHomesTo coverage.now number k darts.new.items) }
 {
     let plus = TileDart {
         tile: number,
@@ -64,8 +64,8 @@ fn put_tile(
     number: u32,
     darts: &mut Vec<TileDart>,
 ) -> Result<(), AllocError>
-    requires { AreGatheredTo coverage.now number 0 darts.old.items }
-    ensures { OnOk result (AreGatheredTo coverage.now (number + 1) 0 darts.new.items) }
+    requires { AreHomesTo coverage.now number 0 darts.old.items }
+    ensures { OnOk result (AreHomesTo coverage.now (number + 1) 0 darts.new.items) }
 {
     for k in 0..edges_of(coverage, number) {
         put_edge(coverage, number, k + 1, darts)?;
@@ -90,6 +90,6 @@ pub fn home_darts(alloc: Global, checked: &Checked<'_, '_>) -> Result<Vec<TileDa
     ensures { IfOk result (λ darts. AreHomeDarts (library_of checked.now) darts.items) }
 {
     let coverage = checked.coverage();
-    coverage.is_library();
+    coverage.tiles_make_library();
     gathered(alloc, coverage)
 }

@@ -26,7 +26,7 @@ pub fn cycles(
     ensures { IfOk result (λ listing. IsListing (library_map (links_of (library_of whole.now))).next
         (library_map (links_of (library_of whole.now))).live (numbers_of listing)) }
 {
-    whole.is_map();
+    whole.makes_map();
     list_kept(alloc, whole, darts)
 }
 
@@ -48,7 +48,7 @@ impl Walk for Turning<'_, '_, '_, '_> {
     ghost passed = { λ _. [] };
 
     fn next(&self, dart: TileDart) -> TileDart {
-        self.whole.is_map();
+        self.whole.makes_map();
         self.whole.next(self.whole.flip(dart))
     }
 
@@ -73,6 +73,6 @@ pub fn turns(
     ensures { IfOk result (λ listing. IsListing (turn (library_map (links_of (library_of whole.now))))
         (library_map (links_of (library_of whole.now))).live (numbers_of listing)) }
 {
-    whole.is_map();
+    whole.makes_map();
     list_kept(alloc, &Turning { whole }, darts)
 }

@@ -18,13 +18,13 @@ use vpf_numbers::laws::numbers_decide;
 use vpf_wing::laws::cycles_decide;
 
 /// What is so of each checked coverage: its darts can be walked.
-fn is_walked(checked: &Checked<'_, '_>)
+fn walk_goes_round(checked: &Checked<'_, '_>)
     ensures { IsTraceable (library_of checked.now) }
 {
     let coverage = checked.coverage();
-    coverage.is_library();
-    coverage.has_numbers();
-    checked.agrees();
+    coverage.tiles_make_library();
+    coverage.numbers_hold();
+    checked.topology_holds();
     numbers_decide();
     cycles_decide();
     followers_decide();
@@ -57,7 +57,7 @@ impl<'w, 'c, 'a> WholeMap<'w, 'c, 'a> {
     pub fn new(checked: &'w Checked<'c, 'a>) -> WholeMap<'w, 'c, 'a>
         ensures { result ≡ checked.now }
     {
-        is_walked(checked);
+        walk_goes_round(checked);
         WholeMap { checked }
     }
 
@@ -69,7 +69,7 @@ impl<'w, 'c, 'a> WholeMap<'w, 'c, 'a> {
     }
 
     /// What is so of each: its home darts are a combinatorial map, and an edge of it has a `+` dart and a `-` dart.
-    pub fn is_map(&self)
+    pub fn makes_map(&self)
         ensures map { IsMap (library_map (links_of (library_of self.now))) }
         ensures signs { (d : ℕ) → is_home (links_of (library_of self.now)) d ≡ true
             → sign_in ((library_map (links_of (library_of self.now))).flip d) ≢ sign_in d }

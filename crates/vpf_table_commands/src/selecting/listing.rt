@@ -5,7 +5,7 @@ ghost use Rattle.vpf_base.specs.Results.{Told};
 ghost use Rattle.vpf_value.specs.Values.{view};
 ghost use Rattle.vpf_head.specs.Head.{Col};
 ghost use Rattle.vpf_theme.specs.Findings.{cell_of, cells_of};
-ghost use Rattle.vpf_select.specs.Selecting.{IsOwn, IsRefused, RefusesRow, row_in, Selects};
+ghost use Rattle.vpf_select.specs.Selecting.{IsOwn, IsRefused, RefusesRow, row_refused, Selects};
 ghost use Rattle.vpf_replies.specs.Answer.{refused};
 ghost use Rattle.vpf_replies.specs.Selecting.{wrong_row_text};
 ghost use Rattle.vpf_table_commands.specs.Rows.{fitting_answer, listed_answer, on_selected, theme_answer};
@@ -49,7 +49,7 @@ fn unselected(
 ) -> Result<Reply, AllocError>
     requires column { test.now.column < length table.now.head.columns }
     requires row { IsRefused (length table.now.rows) error }
-    ensures { (column : Col) (found : Result (List ℕ) ℕ) → slice_get table.now.head.columns test.now.column ≡ Some column → Told (row_in error) found
+    ensures { (column : Col) (found : Result (List ℕ) ℕ) → slice_get table.now.head.columns test.now.column ≡ Some column → Told (row_refused error) found
         → IfOk result (λ reply. reply ≡ on_selected name.now column.kind (cells_of table.now test.now.column) (view test.now.value) found) }
 {
     match error {

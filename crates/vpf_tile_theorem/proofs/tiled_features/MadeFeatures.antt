@@ -27,7 +27,7 @@ use Rattle.vpf_table_files.specs.Adding.{NamedTable, named_limit, named_table, t
 use Rattle.vpf_feature_files.specs.Schemas.{FeatureTable, Index, Schema}
 use Rattle.vpf_feature_writing.specs.Making.{Made, feature_table_made, feature_tables_made, features_made, index_made, index_made_by, indexes_made, made_then}
 use Rattle.vpf_feature_writing.specs.Making.{schema_made, table_made}
-use Rattle.vpf_feature_reading.specs.Laws.{AreReadTables, IsOwnFile, IsReadGrid, IsReadTable}
+use Rattle.vpf_feature_reading.specs.Laws.{AreReadWithSchema, IsOwnFile, IsReadGrid, IsReadTable}
 use Rattle.vpf_library_commands.specs.Names.{file_in}
 use Rattle.vpf_library_commands.proofs.NameLemmas.{index_within, within_utf8, within_within}
 use Rattle.vpf_library_commands.proofs.ReadTables.{IsSmallFile, all_both, all_front, all_small}
@@ -219,6 +219,6 @@ schema_moves laws out cov (Some fcs) tables p r all =
     (feature_tables_made (within out cov) tables) (table_moves laws out cov (codes "fcs") fcs p schema_is r) (feature_tables_move laws out cov tables p all)
 
 -- the features of a schema that was read
-pub features_move : MakingLaws → (out cov : List ℕ) (S : Schema) (files : List File) → IsPlaced out cov → AreReadTables S
+pub features_move : MakingLaws → (out cov : List ℕ) (S : Schema) (files : List File) → IsPlaced out cov → AreReadWithSchema S
     → features_made cov S ≡ Ok files → AreMoved out cov (features_made (within out cov) S) files
 features_move laws out cov S files p r e = schema_moves laws out cov S.fcs S.tables p r.schema r.tables files e

@@ -37,7 +37,7 @@ use Rattle.vpf_library_commands.specs.Reading.{FeaturedCoverage}
 use Rattle.vpf_library_commands.specs.declared.requesting.MakeRequest.{MakeRequest}
 use Rattle.vpf_library_commands.specs.Agreeing.{CoverageDecides}
 use Rattle.vpf_library_commands.specs.Check.{coverage_finding}
-use Rattle.vpf_library_commands.specs.Tile.{TileParts, featured_in, parts_of, plan_name, read_parts, read_untiled_featured}
+use Rattle.vpf_library_commands.specs.Tile.{TileParts, featured_in, tile_parts, plan_name, read_parts, read_untiled_featured}
 use Rattle.vpf_tile_theorem.specs.Tilings.Cutting.{IsCutFrom}
 use Rattle.vpf_tile_theorem.proofs.tilings.ReadLemmas.{AreReadGrids, IsReadGrid, OpenedIsRead, grid_read, then_ok, tile_read}
 
@@ -120,7 +120,7 @@ parts_read opened files lib cov parts all h =
     let c = then_ok (read_untiled_featured files lib cov 0) _ parts h in
     let t = then_ok (read_tileref files lib c.loaded) _ parts c.next_is in
     let p = then_ok (read_plan files (plan_name lib cov) t.loaded) _ parts t.next_is in
-    let same : parts_of c.value t.value p.value ≡ parts = cc in
+    let same : tile_parts c.value t.value p.value ≡ parts = cc in
     let featured = featured_read opened files lib cov c.value all (ap (λ r. r.0) c.first_is) in
     let tiles = tileref_read opened files lib c.loaded t.value all (ap (λ r. r.0) t.first_is) in
     subst (λ (x : TileParts). AreRead files lib cov x) same (record {

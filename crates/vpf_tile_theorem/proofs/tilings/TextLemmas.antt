@@ -12,7 +12,7 @@ use Rattle.std.proofs.lemmas.Str.{IsUtf8-append, IsUtf8-encode, IsUtf8-nil, NoCh
 use Rattle.std.proofs.lemmas.Option.{none-some}
 use Rattle.vpf_base.proofs.Booleans.{both}
 use Rattle.vpf_library_commands.specs.declared.requesting.MakeRequest.{MakeRequest}
-use Rattle.vpf_library_commands.specs.Make.{is_inside, make_request_of}
+use Rattle.vpf_library_commands.specs.Make.{is_in_folder, make_request_of}
 use Rattle.vpf_tile_theorem.specs.Tilings.Laws.{RequestsHaveNames}
 use Rattle.vpf_source.specs.Names.Naming.{coverage_name, file_name, is_part, joined_parts, named, parts_of, pieces_of, root_of, slash}
 
@@ -140,7 +140,7 @@ spelled_so : (lib cov out : Option (List ℕ)) (request : MakeRequest) → make_
 spelled_so None cov out request h = absurd cc
 spelled_so (Some lib) None out request h = absurd cc
 spelled_so (Some lib) (Some cov) None request h = absurd cc
-spelled_so (Some lib) (Some cov) (Some out) request h = by (is_inside lib out) h
+spelled_so (Some lib) (Some cov) (Some out) request h = by (is_in_folder lib out) h
   where
     by : (b : Bool) → cond {A = Option MakeRequest} b None (Some (record { lib = lib; cov = cov; out = out })) ≡ Some request
         → AreSpelled (Some lib) (Some cov) (Some out) request

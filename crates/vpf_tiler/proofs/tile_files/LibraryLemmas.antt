@@ -15,7 +15,7 @@ use Rattle.vpf_tiling.specs.RankLaws.{up-last}
 use Rattle.vpf_tiling.specs.Ranks.{up_to}
 use Rattle.vpf_table_files.specs.declared.errors.AddError.{AddError}
 use Rattle.vpf_table_files.specs.declared.errors.AddError.TheVariants as errors
-use Rattle.vpf_table_files.specs.Adding.{AreAdded, Fails, NamedTable, error_seen, made_of_tables}
+use Rattle.vpf_table_files.specs.Adding.{AreAdded, FailsAdding, NamedTable, error_seen, made_of_tables}
 use Rattle.vpf_tiler.specs.TileFiles.Tables.{all_tile_tables, library_tables, tileref_table}
 use Rattle.vpf_table_files.specs.AddLaws.{added_then, fails_first, fails_then, made_are, made_fail}
 
@@ -58,23 +58,23 @@ tiles_more tables n old mid new a b =
 
 -- where those of a tile aren't added, the tiles behind it don't matter
 pub tiles_fail : (tables : ℕ → List NamedTable) (n tiles : ℕ) (old mid : List File) (e : AddError) → n < tiles
-    → AreAdded (flat_map tables (up_to n)) old mid → Fails (tables (n + 1)) e → Fails (flat_map tables (up_to tiles)) e
+    → AreAdded (flat_map tables (up_to n)) old mid → FailsAdding (tables (n + 1)) e → FailsAdding (flat_map tables (up_to tiles)) e
 tiles_fail tables n tiles old mid e below a b =
     let s : n + 1 ≡ suc n = omega arith in
     let m : (tiles - suc n) + suc n ≡ tiles = omega arith in
     let p : (rest : List ℕ) × (up_to ((tiles - suc n) + suc n) ≡ up_to (suc n) ++ rest) = up-begins (suc n) (tiles - suc n) in
-    let here : Fails (tables (suc n)) e = subst (λ k. Fails (tables k) e) s b in
-    let so_far : Fails (flat_map tables (up_to (suc n))) e =
-    subst (λ (ts : List NamedTable). Fails ts e) (tables-last tables n) (fails_then (flat_map tables (up_to n)) (tables (suc n)) old mid e a here) in
+    let here : FailsAdding (tables (suc n)) e = subst (λ k. FailsAdding (tables k) e) s b in
+    let so_far : FailsAdding (flat_map tables (up_to (suc n))) e =
+    subst (λ (ts : List NamedTable). FailsAdding ts e) (tables-last tables n) (fails_then (flat_map tables (up_to n)) (tables (suc n)) old mid e a here) in
     let split : flat_map tables (up_to (suc n)) ++ flat_map tables p.0 ≡ flat_map tables (up_to tiles) =
     sym (flat_map-append tables (up_to (suc n)) p.0) ∙ ap (flat_map tables) (sym p.1) ∙ ap (λ k. flat_map tables (up_to k)) m in
-    subst (λ (ts : List NamedTable). Fails ts e) split (fails_first (flat_map tables (up_to (suc n))) (flat_map tables p.0) e so_far)
+    subst (λ (ts : List NamedTable). FailsAdding ts e) split (fails_first (flat_map tables (up_to (suc n))) (flat_map tables p.0) e so_far)
 
 -- ---- all tables
 
 -- the table of tiles isn't added
 pub tileref_fails : (cov : List ℕ) (tables : PrimitiveTables) (c : Primitives) (plan : ℕ → ℕ) (tileref : Grid) (e : AddError)
-    → Fails (tileref_table tileref ∷ []) e → Told (error_seen e) (made_of_tables (library_tables cov tables c plan tileref))
+    → FailsAdding (tileref_table tileref ∷ []) e → Told (error_seen e) (made_of_tables (library_tables cov tables c plan tileref))
 tileref_fails cov tables c plan tileref e a =
     made_fail (library_tables cov tables c plan tileref) e
     (fails_first (tileref_table tileref ∷ []) (all_tile_tables cov (path_texts tileref) tables c plan (length tileref.rows)) e a)
@@ -82,12 +82,12 @@ tileref_fails cov tables c plan tileref e a =
 -- it is, and then those of the tiles aren't
 pub library_fails : (cov : List ℕ) (paths : List (List ℕ)) (tables : PrimitiveTables) (c : Primitives) (plan : ℕ → ℕ) (tiles : ℕ) (tileref : Grid) (old mid : List File) (e : AddError)
     → paths ≡ path_texts tileref → tiles ≡ length tileref.rows
-    → AreAdded (tileref_table tileref ∷ []) old mid → Fails (all_tile_tables cov paths tables c plan tiles) e
+    → AreAdded (tileref_table tileref ∷ []) old mid → FailsAdding (all_tile_tables cov paths tables c plan tiles) e
     → Told (error_seen e) (made_of_tables (library_tables cov tables c plan tileref))
 library_fails cov paths tables c plan tiles tileref old mid e same many a b =
-    let tiled : Fails (all_tile_tables cov (path_texts tileref) tables c plan (length tileref.rows)) e =
-    subst (λ (n : ℕ). Fails (all_tile_tables cov (path_texts tileref) tables c plan n) e) many
-    (subst (λ (ps : List (List ℕ)). Fails (all_tile_tables cov ps tables c plan tiles) e) same b) in
+    let tiled : FailsAdding (all_tile_tables cov (path_texts tileref) tables c plan (length tileref.rows)) e =
+    subst (λ (n : ℕ). FailsAdding (all_tile_tables cov (path_texts tileref) tables c plan n) e) many
+    (subst (λ (ps : List (List ℕ)). FailsAdding (all_tile_tables cov ps tables c plan tiles) e) same b) in
     made_fail (library_tables cov tables c plan tileref) e
     (fails_then (tileref_table tileref ∷ []) (all_tile_tables cov (path_texts tileref) tables c plan (length tileref.rows)) old mid e a tiled)
 

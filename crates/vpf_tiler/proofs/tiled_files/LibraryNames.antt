@@ -20,7 +20,7 @@ use Rattle.vpf_tiling.specs.Ranks.{up_to}
 use Rattle.vpf_tiling.specs.Tiles.{is_made}
 use Rattle.vpf_primitive_tables.specs.TileTables.Grids.{entities_made}
 use Rattle.vpf_table_files.specs.Adding.{NamedTable, files_made, table_within}
-use Rattle.vpf_tiler.specs.TileFiles.Tables.{all_tile_tables, edge_table, entity_tables, face_table, library_tables, node_table, ring_table}
+use Rattle.vpf_tiler.specs.TileFiles.Tables.{all_tile_tables, tile_edge_table, entity_tables, face_table, library_tables, node_table, tile_ring_table}
 use Rattle.vpf_tiler.specs.TileFiles.Tables.{tables_if_made, tile_tables, tileref_table}
 use Rattle.vpf_tiler.proofs.tiled_files.AbsentNames.{one_folder}
 use Rattle.vpf_tiler.proofs.tiled_files.NameLemmas.{within_is, within_utf8}
@@ -56,11 +56,11 @@ ends_in_folder folder g u =
 tile_in_folder : (folder : List ℕ) (T : PrimitiveTables) (c : Primitives) (plan : ℕ → ℕ) (t : ℕ) → IsUtf8 folder
     → AllByRecursion (IsInFolder folder) (tile_tables folder T c plan t)
 tile_in_folder folder T c plan t u = (
-  edges_in_folder folder (edge_table folder T c plan t).grid u,
+  edges_in_folder folder (tile_edge_table folder T c plan t).grid u,
   (
     faces_in_folder folder (face_table folder T c plan t).grid u,
     (
-      rings_in_folder folder (ring_table folder T c plan t).grid u,
+      rings_in_folder folder (tile_ring_table folder T c plan t).grid u,
       (nodes_in_folder folder (node_table folder T c plan t).grid u, by T.end),
     ),
   ),
@@ -112,7 +112,7 @@ tile_apart : (folder : List ℕ) (T : PrimitiveTables) (c : Primitives) (plan : 
     → Apart OtherStem (tile_tables folder T c plan t)
 tile_apart folder T c plan t u =
     let ends = by T.end in
-    letters_apart_in folder (edge_table folder T c plan t) (face_table folder T c plan t) (ring_table folder T c plan t) (node_table folder T c plan t)
+    letters_apart_in folder (tile_edge_table folder T c plan t) (face_table folder T c plan t) (tile_ring_table folder T c plan t) (node_table folder T c plan t)
     (entity_tables folder T.end c plan t)
     (stem_of_three folder 101 100 103 u (omega arith) (omega arith) (omega arith) refl)
     (stem_of_three folder 102 97 99 u (omega arith) (omega arith) (omega arith) refl)

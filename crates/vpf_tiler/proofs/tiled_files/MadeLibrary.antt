@@ -25,7 +25,7 @@ use Rattle.vpf_tiling.specs.RankLaws.{numbered_many}
 use Rattle.vpf_tiling.specs.Tiles.{is_made}
 use Rattle.vpf_primitive_tables.specs.TileTables.Grids.{entities_made, tiles_made}
 use Rattle.vpf_table_files.specs.Adding.{NamedTable, files_made}
-use Rattle.vpf_tiler.specs.TileFiles.Tables.{edge_table, entity_tables, face_table, library_tables, node_table, ring_table}
+use Rattle.vpf_tiler.specs.TileFiles.Tables.{tile_edge_table, entity_tables, face_table, library_tables, node_table, tile_ring_table}
 use Rattle.vpf_tiler.specs.TileFiles.Tables.{tables_if_made, tile_tables, tileref_table}
 use Rattle.vpf_primitive_tables.specs.TileReading.Cuts.{IsCutInto, tables_if_any, tables_of_tile}
 use Rattle.vpf_tiler.specs.TiledFiles.Folders.{CanBeMade, HoldsExactly}
@@ -42,8 +42,8 @@ use Rattle.vpf_tiler.proofs.tiled_files.HeldTiles.{IsMadeOf, as_many, made_held,
 tile_same : (folder : List ℕ) (T : PrimitiveTables) (plan : ℕ → ℕ) (t : ℕ)
     → tile_tables folder T (primitives_of T) plan t ≡ tables_in folder (tables_of_tile T plan t)
 tile_same folder T plan t =
-    ap (λ (x : List NamedTable). edge_table folder T (primitives_of T) plan t ∷ face_table folder T (primitives_of T) plan t
-    ∷ ring_table folder T (primitives_of T) plan t ∷ node_table folder T (primitives_of T) plan t ∷ x) (by T.end)
+    ap (λ (x : List NamedTable). tile_edge_table folder T (primitives_of T) plan t ∷ face_table folder T (primitives_of T) plan t
+    ∷ tile_ring_table folder T (primitives_of T) plan t ∷ node_table folder T (primitives_of T) plan t ∷ x) (by T.end)
   where
     by : (end : Option Grid) → entity_tables folder end (primitives_of T) plan t
         ≡ end_in folder (option_map (λ grid. entities_made grid (primitives_of T) plan t) end)

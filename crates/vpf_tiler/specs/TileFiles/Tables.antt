@@ -17,16 +17,16 @@ entity_tables folder None c plan t = []
 entity_tables folder (Some grid) c plan t = table_within folder (codes "end") (entities_made grid c plan t) ∷ []
 
 -- its tables of edges, faces, rings and connected nodes
-abbrev pub edge_table : (folder : List ℕ) → PrimitiveTables → Primitives → (ℕ → ℕ) → ℕ → NamedTable
-edge_table folder tables c plan t = table_within folder (codes "edg") (edges_made tables.edg c plan t)
+abbrev pub tile_edge_table : (folder : List ℕ) → PrimitiveTables → Primitives → (ℕ → ℕ) → ℕ → NamedTable
+tile_edge_table folder tables c plan t = table_within folder (codes "edg") (edges_made tables.edg c plan t)
 
 -- faces
 abbrev pub face_table : (folder : List ℕ) → PrimitiveTables → Primitives → (ℕ → ℕ) → ℕ → NamedTable
 face_table folder tables c plan t = table_within folder (codes "fac") (faces_made tables.fac c plan t)
 
 -- rings
-abbrev pub ring_table : (folder : List ℕ) → PrimitiveTables → Primitives → (ℕ → ℕ) → ℕ → NamedTable
-ring_table folder tables c plan t = table_within folder (codes "rng") (rings_made tables.rng c plan t)
+abbrev pub tile_ring_table : (folder : List ℕ) → PrimitiveTables → Primitives → (ℕ → ℕ) → ℕ → NamedTable
+tile_ring_table folder tables c plan t = table_within folder (codes "rng") (rings_made tables.rng c plan t)
 
 -- connected nodes
 abbrev pub node_table : (folder : List ℕ) → PrimitiveTables → Primitives → (ℕ → ℕ) → ℕ → NamedTable
@@ -35,7 +35,7 @@ node_table folder tables c plan t = table_within folder (codes "cnd") (nodes_mad
 -- the tables of a tile, in its folder
 abbrev pub tile_tables : (folder : List ℕ) → PrimitiveTables → Primitives → (ℕ → ℕ) → ℕ → List NamedTable
 tile_tables folder tables c plan t =
-    edge_table folder tables c plan t ∷ face_table folder tables c plan t ∷ ring_table folder tables c plan t ∷ node_table folder tables c plan t
+    tile_edge_table folder tables c plan t ∷ face_table folder tables c plan t ∷ tile_ring_table folder tables c plan t ∷ node_table folder tables c plan t
     ∷ entity_tables folder tables.end c plan t
 
 -- the same of tile t of so many, whose folder is within that of the coverage; an empty one has none

@@ -52,7 +52,8 @@ impl<'w, 't, 'a> Making<'w, 't, 'a> {
         files: &mut Vec<File>,
     ) -> Result<(), AddError>
         requires { self.now.cut.now.source ≡ primitives_of self.now.forms }
-        ensures { Adds (entity_tables folder.now self.now.forms.end self.now.cut.now.source (plan_by self.now.cut.now.plan) tile) files.old.items files.new.items result }
+        ensures { Adds (entity_tables folder.now self.now.forms.end self.now.cut.now.source
+            (plan_by self.now.cut.now.plan) tile) files.old.items files.new.items result }
     {
         match self.forms.entities(alloc, self.cut, tile) {
             Ok(None) => Ok(()),
@@ -71,7 +72,8 @@ impl<'w, 't, 'a> Making<'w, 't, 'a> {
     ) -> Result<(), AddError>
         requires source { self.now.cut.now.source ≡ primitives_of self.now.forms }
         requires rings { self.now.rings ≡ self.now.cut.now }
-        ensures { Adds (tile_tables folder.now self.now.forms self.now.cut.now.source (plan_by self.now.cut.now.plan) tile) files.old.items files.new.items result }
+        ensures { Adds (tile_tables folder.now self.now.forms self.now.cut.now.source
+            (plan_by self.now.cut.now.plan) tile) files.old.items files.new.items result }
     {
         let rings = self.rings.of_tile(alloc, tile)?;
         let edges = self.forms.edges(alloc, self.cut, tile);

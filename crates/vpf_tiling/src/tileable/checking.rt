@@ -6,7 +6,8 @@ ghost use Rattle.vpf_prims.specs.Numbering.{IsRowOf};
 ghost use Rattle.vpf_prims.specs.Primitives.{entities_in};
 ghost use Rattle.vpf_prims.specs.Reading.{primitives_of};
 ghost use Rattle.std.specs.Prelude.{Some};
-ghost use Rattle.vpf_tiling.specs.Tileable.Refusals.{edge_outside, edges_outside, entities_outside, entity_outside, first_refusal, no_plan, no_plans, unknown_tile, unknown_tiles};
+ghost use Rattle.vpf_tiling.specs.Tileable.Refusals.{edge_outside, edges_outside, entities_outside, entity_outside};
+ghost use Rattle.vpf_tiling.specs.Tileable.Refusals.{first_refusal, no_plan, no_plans, unknown_tile, unknown_tiles};
 
 use crate::plan::NamedTiles;
 use crate::tileable::planning::is_tile;

@@ -2,7 +2,7 @@
 use Rattle.std.proofs.Common.{◌≡◌, ◌≢◌, ℕ, zero, suc, true, false, not, eqb, refl, sym, ap, ◌∙◌, subst, inl, inr, Some, None}
 use Rattle.std.proofs.lemmas.Bool.{cases_Bool, cases_eq, and_parts, or_cases, eqb-true, eq-eqb, ne_eqb}
 use Rattle.vpf_darts.specs.Darts.{code, tile_in, edge_in, sign_in, flip}
-use Rattle.vpf_darts.specs.Laws.{ComesTo, RemovalLeavesAMap}
+use Rattle.vpf_darts.specs.Laws.{ComesRoundTo, RemovalLeavesAMap}
 use Rattle.vpf_darts.specs.Maps.{IsMap, is_of_any}
 use Rattle.vpf_prims.specs.Primitives.{Primitives, untiled}
 use Rattle.vpf_wing.specs.Links.{DartLinks, link_of, tail_node, local_next}
@@ -208,7 +208,7 @@ is_copy law c plan tiles w t e h = (let a : CopyAt c plan tiles t e = copy_at c 
 
 -- a walk over absent edges to the first present dart is one to the first that has a copy
 pub first_copy : MapLaws → (c : Primitives) (plan : ℕ → ℕ) (tiles : ℕ) → IsTileable c plan tiles → (t k e y : ℕ) → (untiled_links c).has e ≡ true
-    → ComesTo (coverage_map c) (is_of_any flip (absent_darts c plan t)) k e y
+    → ComesRoundTo (coverage_map c) (is_of_any flip (absent_darts c plan t)) k e y
     → IsFirstCopy (library_links c plan tiles) t k (dart_name c plan e) (copy_in c plan t y)
 first_copy law c plan tiles w t zero e y he m =
     subst (λ z. IsCopy (library_links c plan tiles) t (dart_name c plan e) (copy_in c plan t z)) m.1

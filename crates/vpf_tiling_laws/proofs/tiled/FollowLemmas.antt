@@ -6,7 +6,7 @@ use Rattle.std.specs.Option.{option_eq}
 use Rattle.std.specs.Prelude.{filter}
 use Rattle.std.proofs.lemmas.Bool.{cases_Bool, cases_eq, and_parts, and_from, or_from, eqb-true, eq-eqb, ne_eqb}
 use Rattle.vpf_darts.specs.Darts.{code, tile_in, edge_in, sign_in, flip}
-use Rattle.vpf_darts.specs.Laws.{ComesTo}
+use Rattle.vpf_darts.specs.Laws.{ComesRoundTo}
 use Rattle.vpf_darts.specs.Maps.{DartMap, IsMap, AreEdges, is_of, is_of_any}
 use Rattle.vpf_tiling.specs.Ranks.{up_to}
 use Rattle.vpf_prims.specs.Primitives.{Primitives, untiled, edge_count}
@@ -67,7 +67,7 @@ are_edges c plan t few =
     all_filter (λ e. (untiled_links c).has e ≡ true) (λ d. not (is_present c plan t d)) (edge_darts c)
     (all_up (λ e. (untiled_links c).has e ≡ true) (λ e. code 0 e 0) (length c.edges) (plus_has c few))
 
-pub comes_first : (m : DartMap) (passed : ℕ → Bool) (k x y : ℕ) → ComesTo m passed k x y → passed x ≡ false → x ≡ y
+pub comes_first : (m : DartMap) (passed : ℕ → Bool) (k x y : ℕ) → ComesRoundTo m passed k x y → passed x ≡ false → x ≡ y
 comes_first m passed zero x y h p = h.1
 comes_first m passed (suc k) x y h p = absurd (never_both (passed x) h.0 p)
 

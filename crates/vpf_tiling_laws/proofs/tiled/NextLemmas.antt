@@ -2,7 +2,7 @@
 use Rattle.std.proofs.Common.{◌≡◌, ◌≢◌, ℕ, zero, suc, ◌≤◌, Bool, true, false, not, eqb, ◌&&◌, refl, sym, ap, ◌∙◌, subst, inl, inr, Some, List, [], ◌∷◌, length, map}
 use Rattle.std.proofs.lemmas.Bool.{cases_Bool, cases_eq, and_parts, and_from, or_cases, or_left, or_right, eqb-true, eq-eqb, ne_eqb}
 use Rattle.vpf_darts.specs.Darts.{code, tile_in, edge_in, sign_in, flip}
-use Rattle.vpf_darts.specs.Laws.{ComesTo}
+use Rattle.vpf_darts.specs.Laws.{ComesRoundTo}
 use Rattle.vpf_darts.specs.Maps.{is_of, is_of_any}
 use Rattle.vpf_tiling.specs.Ranks.{up_to}
 use Rattle.vpf_prims.specs.Primitives.{Primitives, untiled, edge_count}
@@ -133,7 +133,7 @@ neither c plan t x n = (
 )
 
 pub arrives : (c : Primitives) (plan : ℕ → ℕ) → IsWellFormed c → (t node face : ℕ) → (k x y : ℕ) → (untiled_links c).has x ≡ true → tail_of c x ≡ node
-    → face_id c plan t (face_of c x) ≡ face → ComesTo (coverage_map c) (is_of_any flip (absent_darts c plan t)) k x y → Arrives c plan t node face y
+    → face_id c plan t (face_of c x) ≡ face → ComesRoundTo (coverage_map c) (is_of_any flip (absent_darts c plan t)) k x y → Arrives c plan t node face y
 arrives c plan w t node face zero x y hx tx fx m =
     subst (Arrives c plan t node face) m.1 (record { here = stays_present c plan t x hx m.0; tail = tx; side = fx })
 arrives c plan w t node face (suc k) x y hx tx fx m = (

@@ -18,7 +18,7 @@ use Rattle.vpf_tiling_laws.proofs.tiled.NameLemmas.{present_side}
 use Rattle.vpf_tiling_laws.proofs.tiled.NextLemmas.{tile_arrives}
 use Rattle.vpf_tiling_laws.proofs.tiled.RowLemmas.{item_numbered, rank_row, made_at, made_tables}
 use Rattle.vpf_tiling_laws.proofs.tiled.PlaceLemmas.{Passing, passing}
-use Rattle.vpf_tiling.specs.PresenceLaws.{Held, InFaces, edge_present, holds_held, in_faces, in_zero, no_edge_zero, no_node_zero, present_flip, present_has, source_next, tail_in, tail_next}
+use Rattle.vpf_tiling.specs.PresenceLaws.{Held, InFaces, edge_present, holds_held, in_faces, in_zero, no_edge_zero, no_node_zero, present_flip, present_has, source_next, tail_in_nodes, tail_next}
 use Rattle.vpf_tiling.specs.RankLaws.{numbered_many}
 
 -- a reference to a thing whose home is some tile
@@ -78,7 +78,7 @@ pub node_row_in : (c : Primitives) (plan : ℕ → ℕ) (tiles : ℕ) → IsTile
 node_row_in c plan tiles w t d h =
     subst (λ n. IsRowOf n (local_node c plan t (tail_of c d))) (sym (nodes_many c plan tiles t (made_at c plan tiles w t d h)))
     (rank_row (has_node c plan t) (no_node_zero c plan w.well_formed t) (length c.nodes) (tail_of c d) (node_there c plan t d h)
-    (tail_in c w.well_formed d (present_has c plan t d h)).to_last)
+    (tail_in_nodes c w.well_formed d (present_has c plan t d h)).to_last)
 
 -- the number of a face of the tile
 pub record FaceHere (c : Primitives) (plan : ℕ → ℕ) (tiles t f : ℕ) : Type 0 where

@@ -3,7 +3,7 @@ use Rattle.std.proofs.Common.{◌≡◌, ℕ, zero, suc, ◌≤◌, true, cond, 
 use Rattle.std.specs.Option.{unwrap_or}
 use Rattle.std.proofs.lemmas.Bool.{and_parts, and_from, or_cases, or_left}
 use Rattle.vpf_darts.specs.Darts.{flip}
-use Rattle.vpf_darts.specs.Laws.{ComesTo}
+use Rattle.vpf_darts.specs.Laws.{ComesRoundTo}
 use Rattle.vpf_darts.specs.Maps.{DartMap, turn, is_of_any, without, without_edge}
 use Rattle.vpf_prims.specs.Primitives.{Primitives}
 use Rattle.vpf_wing.specs.Walks.{Steps, LeadsTo}
@@ -28,7 +28,7 @@ without_flip m (e ∷ es) = without_flip (without_edge m e) es
 
 -- what is absent is stepped over
 pub steps_after : (c : Primitives) (plan : ℕ → ℕ) (t k n x y e : ℕ) → is_present c plan t e ≡ true
-    → ComesTo (coverage_map c) (is_of_any flip (absent_darts c plan t)) k x y → Steps (turn (coverage_map c)) n x e
+    → ComesRoundTo (coverage_map c) (is_of_any flip (absent_darts c plan t)) k x y → Steps (turn (coverage_map c)) n x e
     → (j : ℕ) × (j ≤ n) × Steps (turn (coverage_map c)) j y e
 steps_after c plan t zero n x y e h m q = (n, omega arith, subst (λ z. Steps (turn (coverage_map c)) n z e) m.1 q)
 steps_after c plan t (suc k) zero x y e h m q =

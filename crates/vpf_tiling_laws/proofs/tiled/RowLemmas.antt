@@ -29,7 +29,7 @@ use Rattle.vpf_tiling_laws.proofs.tiled.CopyLemmas.{copy_at, copies_have_links, 
 use Rattle.vpf_tiling_laws.proofs.tiled.SideLemmas.{present_home, node_there, above}
 use Rattle.vpf_tiling_laws.proofs.tiled.FollowLemmas.{library_links, reference_id, link_here, link_there}
 use Rattle.vpf_tiling_laws.proofs.tiled.AcrossLemmas.{at_each, one_inside, inside_plain, outside_part, same_part, follows, follow_apart, home_flip, home_sign, home_mark, home_carried, goes_on, tiled_loops}
-use Rattle.vpf_tiling.specs.PresenceLaws.{InNodes, Passes, any_at, held, in_zero, no_node_zero, present_flip, present_has, source_next, tail_in, tail_next}
+use Rattle.vpf_tiling.specs.PresenceLaws.{InNodes, Passes, any_at, held, in_zero, no_node_zero, present_flip, present_has, source_next, tail_in_nodes, tail_next}
 use Rattle.vpf_tiling.specs.RankLaws.{count_is, numbered_many, rank_rises, row_of_number}
 
 pub numbered_at : {X R : Type 0} → (row : ℕ → X → R) (k : ℕ) (xs : List X) (j : ℕ) (d : R) (x : X) → j < length xs
@@ -69,7 +69,7 @@ pub node_row_at : (c : Primitives) (plan : ℕ → ℕ) (tiles : ℕ) → IsTile
     → node_carried (tiled_library c plan tiles) t (local_node c plan t (tail_of c d)) ≡ (kth c.nodes (tail_of c d) absent_node).carried
 node_row_at c plan tiles w t d h = (
     let n : ℕ = tail_of c d in
-    let i : InNodes c n = tail_in c w.well_formed d (present_has c plan t d h) in
+    let i : InNodes c n = tail_in_nodes c w.well_formed d (present_has c plan t d h) in
     ap (λ o. (kth (nodes_in o) (local_node c plan t n) absent_node).carried) (tile_is c plan tiles t (made_at c plan tiles w t d h))
     ∙ ap (λ r.
     r.carried) (row_of_number (numbered_node c (tiled_edges c plan t)) (has_node c plan t) (length c.nodes) n absent_node

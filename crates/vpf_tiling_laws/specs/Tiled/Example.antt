@@ -23,12 +23,12 @@ edge id a b c d e f mark = record {
 }
 
 -- a face and its first ring
-abbrev pub face : ℕ → ℕ → FacePrimitive
-face id ring = record { id = Some id; ring_ptr = plain ring; carried = [] }
+abbrev pub example_face : ℕ → ℕ → FacePrimitive
+example_face id ring = record { id = Some id; ring_ptr = plain ring; carried = [] }
 
 -- a ring, its face and its start edge
 abbrev pub ring : ℕ → ℕ → ℕ → RingPrimitive
-ring id face edge = record { id = Some id; face = plain face; start_edge = plain edge }
+ring id example_face edge = record { id = Some id; face = plain example_face; start_edge = plain edge }
 
 -- a node and its first edge
 abbrev pub node : ℕ → ℕ → NodePrimitive
@@ -40,7 +40,7 @@ coverage = record {
   edges = edge 1 (plain 1) (plain 2) (plain 2) (plain 1) (plain 3) (plain 2) 0
       ∷ edge 2 (plain 2) (plain 1) (plain 3) (plain 1) (plain 3) (plain 1) 0
       ∷ edge 3 (plain 1) (plain 2) (plain 3) (plain 2) (plain 2) (plain 1) 1 ∷ [];
-  faces = face 1 1 ∷ face 2 2 ∷ face 3 3 ∷ [];
+  faces = example_face 1 1 ∷ example_face 2 2 ∷ example_face 3 3 ∷ [];
   rings = ring 1 1 1 ∷ ring 2 2 1 ∷ ring 3 3 2 ∷ [];
   nodes = node 1 1 ∷ node 2 1 ∷ [];
   entities = None;
@@ -51,11 +51,11 @@ abbrev pub plan : ℕ → ℕ
 plan f = if f == 2 then 1 else (if f == 3 then 2 else 0)
 
 -- the primitives of tile 1
-abbrev pub first_tile : Primitives
-first_tile = record {
+abbrev pub example_first_tile : Primitives
+example_first_tile = record {
   edges = edge 1 (cross 1 2 1) (plain 2) (plain 2) (plain 1) (plain 2) (cross 2 2 1) 0
       ∷ edge 2 (plain 1) (cross 2 2 2) (cross 1 2 2) (plain 2) (cross 1 2 1) (plain 1) 1 ∷ [];
-  faces = face 1 1 ∷ face 2 2 ∷ [];
+  faces = example_face 1 1 ∷ example_face 2 2 ∷ [];
   rings = ring 1 1 1 ∷ ring 2 2 1 ∷ [];
   nodes = node 1 1 ∷ node 2 1 ∷ [];
   entities = None;
@@ -66,7 +66,7 @@ abbrev pub second_tile : Primitives
 second_tile = record {
   edges = edge 1 (cross 2 1 2) (plain 1) (plain 2) (plain 1) (plain 2) (cross 2 1 1) 0
       ∷ edge 2 (cross 1 1 1) (plain 2) (plain 2) (cross 1 1 2) (plain 1) (cross 1 1 1) 1 ∷ [];
-  faces = face 1 1 ∷ face 2 2 ∷ [];
+  faces = example_face 1 1 ∷ example_face 2 2 ∷ [];
   rings = ring 1 1 1 ∷ ring 2 2 1 ∷ [];
   nodes = node 1 1 ∷ node 2 1 ∷ [];
   entities = None;
@@ -74,7 +74,7 @@ second_tile = record {
 
 -- the tiled library of the coverage and the plan has these two tiles, and no other
 abbrev pub IsTiled : Type 0
-IsTiled = (map (tiled_library coverage plan 2).tile (0 ∷ 1 ∷ 2 ∷ 3 ∷ []) ≡ None ∷ Some first_tile ∷ Some second_tile ∷ None ∷ [])
+IsTiled = (map (tiled_library coverage plan 2).tile (0 ∷ 1 ∷ 2 ∷ 3 ∷ []) ≡ None ∷ Some example_first_tile ∷ Some second_tile ∷ None ∷ [])
 
 -- its line between tiles is that of tile 2, and without it the darts of both tiles go round in two cycles
 abbrev pub IsTraced : Type 0

@@ -1,7 +1,7 @@
 -- What is so of every well-formed coverage and every plan: its tiled library is the same map with its darts renamed, and agrees.
 use Rattle.std.specs.Prelude.{◌≡◌, ◌↔◌, ℕ, true, List, map, Some}
 use Rattle.vpf_darts.specs.Cycles.{AreCycles, IsListing}
-use Rattle.vpf_darts.specs.Laws.{ComesTo}
+use Rattle.vpf_darts.specs.Laws.{ComesRoundTo}
 use Rattle.vpf_darts.specs.Darts.{flip}
 use Rattle.vpf_darts.specs.Maps.{without, is_of_any}
 use Rattle.vpf_prims.specs.Primitives.{Primitives, untiled}
@@ -23,7 +23,7 @@ FollowingIsNext = (c : Primitives) (plan : ℕ → ℕ) (tiles : ℕ) → IsTile
 -- the next edge in a tile is the first that is present there among the next, the one after it round the node, and so on
 abbrev pub TileNextIsFirstPresent : Type 0
 TileNextIsFirstPresent = (c : Primitives) (plan : ℕ → ℕ) (tiles : ℕ) → IsTileable c plan tiles → (t d : ℕ) → is_present c plan t d ≡ true
-    → (k : ℕ) × ComesTo (coverage_map c) (is_of_any flip (absent_darts c plan t)) k (next_of c d) ((tile_map c plan t).next d)
+    → (k : ℕ) × ComesRoundTo (coverage_map c) (is_of_any flip (absent_darts c plan t)) k (next_of c d) ((tile_map c plan t).next d)
 
 -- the home copy of each copy of a dart is the dart's name
 abbrev pub HomeIsName : Type 0

@@ -151,8 +151,8 @@ few_in n t most = elim (cases_lt 0 t) [
 no_yes : false ≡ true → ⊥
 no_yes e = cc
 
-pub is_library : GridIsLibrary
-is_library n most = record {
+pub tiles_make_library : GridIsLibrary
+tiles_make_library n most = record {
   few = λ t. few_in n t most;
   none_after = λ t h. none_after n t h;
   from_one = λ e. absurd (no_yes e);

@@ -104,8 +104,8 @@ abbrev pub face_cycles : ℕ → List (List ℕ)
 face_cycles n = map (face_darts n) (range_with_len 1 (faces n))
 
 -- the row of a ring: it is of the face with its number
-abbrev pub ring_row : ℕ → RingRow
-ring_row r = record { face_id = r; start_edge = start_edge r }
+abbrev pub grid_ring_row : ℕ → RingRow
+grid_ring_row r = record { face_id = r; start_edge = start_edge r }
 
 -- the edges, by rising number
 abbrev pub edge_rows : ℕ → List EdgeRow
@@ -117,7 +117,7 @@ face_rows n = range_with_len 1 (faces n)
 
 -- the rings
 abbrev pub ring_rows : ℕ → List RingRow
-ring_rows n = map ring_row (range_with_len 1 (faces n))
+ring_rows n = map grid_ring_row (range_with_len 1 (faces n))
 
 -- the first edge of each node
 abbrev pub node_rows : ℕ → List ℕ

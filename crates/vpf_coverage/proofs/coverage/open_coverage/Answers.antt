@@ -3,7 +3,7 @@ use Rattle.std.proofs.lemmas.Result.{err_from_is_err_and}
 use Rattle.vpf_findings.specs.Firsts.{Tells}
 use Rattle.vpf_prims.specs.Coverages.{CoverageTables}
 use Rattle.vpf_numbers.specs.TableLines.{coverage_numbers}
-use Rattle.vpf_coverage.specs.Opened.{IsCounted}
+use Rattle.vpf_coverage.specs.Opened.{HasCountedTiles}
 use Rattle.vpf_coverage.proofs.FileLemmas.{is_counted}
 use Rattle.vpf_coverage.proofs.coverage.open_coverage.Goals as goal
 
@@ -13,7 +13,7 @@ checked-requires-clause-placed c = record { alike = c.in_ok-opened.ensures.alike
 pub checked-requires-clause-counted : goal.checked-requires-clause-counted
 checked-requires-clause-counted c =
     let some = c.requires in
-    subst IsCounted (sym (c.in_ok-opened.ensures.opened some.0 some.1))
+    subst HasCountedTiles (sym (c.in_ok-opened.ensures.opened some.0 some.1))
     (is_counted c.files_are_libraries.ensures.library c.args.lib.now c.args.cov.now some.0 c.args.files.now some.1)
 
 pub returns-clause-first : goal.returns-clause-first

@@ -13,7 +13,7 @@ use Rattle.vpf_cross.proofs.rounds.copy_in.Goals.{else-copy-number-via-then-copy
 pub returns-then-home-number : goal.returns-then-home-number
 returns-then-home-number c =
     let small : c.args.home.edge < 2 ^ 32 = omega arith in
-    let h : HaveCopies (library_of c.args.followed.now) = have_copies c.args.followed.now c.requires.agree.few c.requires.agree.elsewhere c.agrees.ensures c.requires.agree.homes in
+    let h : HaveCopies (library_of c.args.followed.now) = have_copies c.args.followed.now c.requires.agree.few c.requires.agree.elsewhere c.links_follow.ensures c.requires.agree.homes in
     let tile = tile-code c.args.home.tile c.args.home.edge c.args.home.minus small in
     sym (copy_here (library_of c.args.followed.now) c.args.number (tile_dart_code c.args.home) h c.requires.home (tile ∙ c.if-home-number.true))
 
@@ -29,7 +29,7 @@ returns-then-eq c =
     let copy_small : c.flip-copy.result.edge < 2 ^ 32 = omega arith in
     let C = coverage_links c.args.followed.now in
     let y = tile_dart_code c.args.home in
-    let h : HaveCopies (library_of c.args.followed.now) = have_copies c.args.followed.now c.requires.agree.few c.requires.agree.elsewhere c.agrees.ensures c.requires.agree.homes in
+    let h : HaveCopies (library_of c.args.followed.now) = have_copies c.args.followed.now c.requires.agree.few c.requires.agree.elsewhere c.links_follow.ensures c.requires.agree.homes in
     let tile = tile-code c.args.home.tile c.args.home.edge c.args.home.minus small in
     let copy_tile = tile-code c.flip-copy.result.tile c.flip-copy.result.edge c.flip-copy.result.minus copy_small in
     let is : tile_dart_code c.flip-copy.result ≡ flip (home_copy C (flip y)) =
@@ -45,7 +45,7 @@ returns-else-copy-number c =
     let copy_small : c.flip-copy.result.edge < 2 ^ 32 = omega arith in
     let C = coverage_links c.args.followed.now in
     let y = tile_dart_code c.args.home in
-    let h : HaveCopies (library_of c.args.followed.now) = have_copies c.args.followed.now c.requires.agree.few c.requires.agree.elsewhere c.agrees.ensures c.requires.agree.homes in
+    let h : HaveCopies (library_of c.args.followed.now) = have_copies c.args.followed.now c.requires.agree.few c.requires.agree.elsewhere c.links_follow.ensures c.requires.agree.homes in
     let tile = tile-code c.args.home.tile c.args.home.edge c.args.home.minus small in
     let copy_tile = tile-code c.flip-copy.result.tile c.flip-copy.result.edge c.flip-copy.result.minus copy_small in
     let is : tile_dart_code c.flip-copy.result ≡ flip (home_copy C (flip y)) =

@@ -32,7 +32,7 @@ loop-i-preserved c =
                 pushed
                 (w.local_edge.ensures.number ∙ ap (local_edge c.args.cut.now.source (plan_by c.args.cut.now.plan) c.args.tile)
                 (sym (edge_is c.args.cut.now.source (plan_by c.args.cut.now.plan) c.args.tile c.begin_of-first.result.edge c.begin_of-first.result.minus
-                c.is_planned.ensures.tileable.few c.begin_of-first.ensures.there)))
+                c.plan_holds.ensures.tileable.few c.begin_of-first.ensures.there)))
                 c.loop-i.invariant.made;
             small = subst (All HasSmallNumbers) (sym pushed)
                 (All-push HasSmallNumbers c.loop-i.rings.items (record { face = 1; edge = w.local_edge.result }) c.loop-i.invariant.small
@@ -55,5 +55,5 @@ returns-clause-rings c =
     let all : length (numbers_of c.args.cycles.now) ≤ c.loop-i.i = omega arith in
     c.loop-i.invariant.made
     ∙ ap (rings_to c.args.cut.now.source (plan_by c.args.cut.now.plan) c.args.tile) (take_all c.loop-i.i (numbers_of c.args.cycles.now) all)
-    ∙ sym (c.outer_rings_begin_cycles.ensures c.args.cut.now.source (plan_by c.args.cut.now.plan) c.args.cut.now.tiles c.is_planned.ensures.tileable c.args.tile
+    ∙ sym (c.outer_rings_begin_cycles.ensures c.args.cut.now.source (plan_by c.args.cut.now.plan) c.args.cut.now.tiles c.plan_holds.ensures.tileable c.args.tile
     (numbers_of c.args.cycles.now) c.requires)

@@ -25,4 +25,4 @@ returns-clause-fits c = λ like of k v.
     let d = c.args.dart in
     let r = edge_there c.args.checked.now d.tile d.edge c.row_in_tile.result c.row_in_tile.ensures in
     c.rows_of_tiles_fit.ensures.edges c.args.checked.now like r.T.tables.edg
-    (like_there (λ (T : PrimitiveTables). T.edg) c.args.checked.now d.tile d.edge c.row_in_tile.result like c.is_right.ensures r of) of.sound.counts r.found.sound.counts k v c.row_in_tile.result r.found.fits
+    (like_there (λ (T : PrimitiveTables). T.edg) c.args.checked.now d.tile d.edge c.row_in_tile.result like c.numbers_are_right.ensures r of) of.sound.counts r.found.sound.counts k v c.row_in_tile.result r.found.fits

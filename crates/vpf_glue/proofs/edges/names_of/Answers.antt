@@ -17,5 +17,5 @@ returns-clause-numbers c = λ k.
 
 pub returns-clause-small : goal.returns-clause-small
 returns-clause-small c =
-    small_names (whole_in c.args.edges.now) c.edge-joins.result c.sides-right_face.result.0 c.sides-right_face.result.1 c.edge-joins.ensures.rows c.are_few.ensures.edges c.are_few.ensures.nodes
+    small_names (whole_in c.args.edges.now) c.edge-joins.result c.sides-right_face.result.0 c.sides-right_face.result.1 c.edge-joins.ensures.rows c.edges_number_few.ensures.edges c.edges_number_few.ensures.nodes
     c.sides-right_face.ensures.right_few c.sides-right_face.ensures.left_few

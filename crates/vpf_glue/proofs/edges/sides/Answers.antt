@@ -12,14 +12,14 @@ use Rattle.vpf_glue.proofs.edges.sides.Goals as goal
 
 pub face_number-requires : goal.face_number-requires
 face_number-requires c =
-    let right = subst IsRight c.checked_of.ensures c.is_right.ensures in
+    let right = subst IsRight c.checked_of.ensures c.numbers_are_right.ensures in
     subst (λ (v : CoverageTables). IfSome c.faces_of-right.result.0 (IsFaceThere (library_of v))) (sym c.requires.same)
     (subst (λ (o : Option Beyond). IfSome o (IsFaceThere (library_of c.args.edges.now))) (sym c.faces_of-right.ensures.own)
     (side_there c.args.edges.now right (tile_dart_code c.args.dart)))
 
 pub face_number-requires-2 : goal.face_number-requires-2
 face_number-requires-2 c =
-    let right = subst IsRight c.checked_of.ensures c.is_right.ensures in
+    let right = subst IsRight c.checked_of.ensures c.numbers_are_right.ensures in
     subst (λ (v : CoverageTables). IfSome c.faces_of-right.result.1 (IsFaceThere (library_of v))) (sym c.requires.same)
     (subst (λ (o : Option Beyond). IfSome o (IsFaceThere (library_of c.args.edges.now))) (sym c.faces_of-right.ensures.other)
     (side_there c.args.edges.now right ((whole_in c.args.edges.now).darts.flip (tile_dart_code c.args.dart))))

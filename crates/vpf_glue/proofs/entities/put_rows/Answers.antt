@@ -23,7 +23,7 @@ put-requires-clause-head c = c.loop-k.invariant.head ∙ c.requires.head ∙ ap 
 
 pub put-requires-clause-others : goal.put-requires-clause-others
 put-requires-clause-others c =
-    let right = subst IsRight c.checked.ensures c.is_right.ensures in
+    let right = subst IsRight c.checked.ensures c.numbers_are_right.ensures in
     let columns = c.args.form.now.table.head.columns in
     let row = c.row_of-row.result in
     let face = c.containing_face-face.result in

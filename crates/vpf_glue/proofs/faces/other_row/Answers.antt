@@ -21,7 +21,7 @@ returns-clause-row c =
 
 pub returns-clause-fits : goal.returns-clause-fits
 returns-clause-fits c = λ k n.
-    let right = subst IsRight c.checked.ensures c.is_right.ensures in
+    let right = subst IsRight c.checked.ensures c.numbers_are_right.ensures in
     let there = face_there c.args.faces.now c.face.inside.tile c.face.inside.face c.row_in_tile.result
     (subst (λ (v : CoverageTables). IsSomeAnd (table_in v c.face.inside.tile names.Fac) (λ grid. IsRowIn grid c.face.inside.face c.row_in_tile.result)) c.checked-2.ensures c.row_in_tile.ensures) in
     c.rows_of_tiles_fit.ensures.faces c.args.faces.now c.args.like.now there.T.tables.fac

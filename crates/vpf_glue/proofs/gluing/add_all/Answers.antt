@@ -15,7 +15,7 @@ use Rattle.vpf_cut_rings.specs.Rings.{first_rings_of}
 use Rattle.vpf_primitive_tables.specs.TableForms.Models.{PairsLike}
 use Rattle.vpf_table_files.specs.Adding.{Adds, table_within}
 use Rattle.vpf_renumbering.specs.declared.glued_faces.rings.GluedRing.{GluedRing}
-use Rattle.vpf_renumbering.specs.GluedFaces.Rings.{HasHomeStart, ring_of}
+use Rattle.vpf_renumbering.specs.GluedFaces.Rings.{HasHomeStart, ring_said}
 use Rattle.vpf_glue.specs.GluedTables.Grids.{glued_edge_grid, glued_entity_grid, glued_face_grid, glued_node_grid, glued_ring_grid, plan_grid, whole_in}
 use Rattle.vpf_glue.specs.Forms.{tables_by}
 use Rattle.vpf_glue.specs.Sources.{IsOfTile}
@@ -26,12 +26,12 @@ use Rattle.vpf_glue.proofs.gluing.add_all.Goals as goal
 pub write_faces-fac-requires-clause-each : goal.write_faces-fac-requires-clause-each
 write_faces-fac-requires-clause-each c =
     ap (λ (xs : List ℕ). length xs) (c.as_slice-ring_ptrs.ensures.value ∙ c.in_ok-first_rings.ensures.firsts)
-    ∙ length-map-range_with_len (λ k. first_item (λ (r : Ring). eqb r.face k) (map (ring_of (whole_in c.args.faces.now)) c.as_slice-rings.result.now)) 1 (length (whole_in c.args.faces.now).faces + 1)
+    ∙ length-map-range_with_len (λ k. first_item (λ (r : Ring). eqb r.face k) (map (ring_said (whole_in c.args.faces.now)) c.as_slice-rings.result.now)) 1 (length (whole_in c.args.faces.now).faces + 1)
 
 pub write_rings-rng-requires-clause-rings : goal.write_rings-rng-requires-clause-rings
 write_rings-rng-requires-clause-rings c =
-    subst (λ (v : CoverageTables). map (ring_of (whole_in v)) c.as_slice-rings.result.now ≡ glued_rings (whole_in v)) c.requires.same
-    (ap (λ (rs : List GluedRing). map (ring_of (whole_in c.args.faces.now)) rs) c.as_slice-rings.ensures.value ∙ c.in_ok-made.ensures.rings)
+    subst (λ (v : CoverageTables). map (ring_said (whole_in v)) c.as_slice-rings.result.now ≡ glued_rings (whole_in v)) c.requires.same
+    (ap (λ (rs : List GluedRing). map (ring_said (whole_in c.args.faces.now)) rs) c.as_slice-rings.ensures.value ∙ c.in_ok-made.ensures.rings)
 
 pub returns-in_err-add_table : goal.returns-in_err-add_table
 returns-in_err-add_table c =

@@ -8,7 +8,7 @@ use Rattle.vpf_primitive_tables.specs.TableForms.Forms.{edge_kinds_of, head_like
 use Rattle.vpf_primitive_tables.proofs.table_forms.CountedRows.{length-numbered}
 use Rattle.vpf_glue.specs.GluedTables.Grids.{glued_edge_grid, glued_edge_row, plan_grid, whole_in}
 use Rattle.vpf_glue.specs.Forms.{tables_by}
-use Rattle.vpf_glue.specs.Tables.{coverage_tables, last_tables}
+use Rattle.vpf_glue.specs.Tables.{glued_coverage_tables, last_tables}
 use Rattle.vpf_glue.proofs.AddLemmas.{limit_adds}
 use Rattle.vpf_glue.proofs.gluing.add_coverage.Goals as goal
 
@@ -26,5 +26,5 @@ returns-then-count-from c =
 
 pub returns : goal.returns
 returns c =
-    subst (λ (v : CoverageTables). Adds (coverage_tables c.args.cov.now (tables_by c.args.forms.now v) (plan_grid v)) c.args.files.now.items c.add_all.new.files.items c.add_all.result)
+    subst (λ (v : CoverageTables). Adds (glued_coverage_tables c.args.cov.now (tables_by c.args.forms.now v) (plan_grid v)) c.args.files.now.items c.add_all.new.files.items c.add_all.result)
     c.in_ok-edges.ensures c.add_all.ensures

@@ -9,12 +9,12 @@ use Rattle.vpf_glue.proofs.FormLemmas.{forms_same}
 use Rattle.vpf_glue.proofs.gluing.forms_of.Goals as goal
 
 pub new-requires-clause-columns : goal.new-requires-clause-columns
-new-requires-clause-columns c = c.is_right.ensures.columns.suit (first_tile (library_of c.args.checked.now)) c.args.first.now c.requires
+new-requires-clause-columns c = c.numbers_are_right.ensures.columns.suit (first_tile (library_of c.args.checked.now)) c.args.first.now c.requires
 
 pub new-requires-clause-entities : goal.new-requires-clause-entities
 new-requires-clause-entities c = λ grid e.
     let of = subst (λ (o : Option Grid). IfSome o (λ end. IsOfTile (λ T. T.end) c.args.checked.now end)) e c.first_end_of.ensures.of_tile in
-    (c.is_right.ensures.columns.suit of.tile of.T of.has).end grid of.table
+    (c.numbers_are_right.ensures.columns.suit of.tile of.T of.has).end grid of.table
 
 pub returns-clause-tables : goal.returns-clause-tables
 returns-clause-tables c =

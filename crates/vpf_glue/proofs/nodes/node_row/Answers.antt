@@ -19,7 +19,7 @@ pub row_in_tile-requires : goal.row_in_tile-requires
 row_in_tile-requires c =
     let few : c.args.dart.edge < 2 ^ 32 = omega arith in
     let node = c.tail_of-node.ensures ∙ ap (λ (v : CoverageTables). tail_node (links_of (library_of v)) (tile_dart_code c.args.dart)) c.coverage.ensures in
-    let row = tail_row c.args.checked.now c.is_right.ensures (tile_dart_code c.args.dart) c.requires in
+    let row = tail_row c.args.checked.now c.numbers_are_right.ensures (tile_dart_code c.args.dart) c.requires in
     node_listed (tile_at c.args.checked.now c.args.dart.tile) c.tail_of-node.result
     (subst (λ t. IsRowOf (node_count (library_of c.args.checked.now) t) c.tail_of-node.result) (tile_is c.args.dart few)
     (subst (λ n. IsRowOf (node_count (library_of c.args.checked.now) (tile_in (tile_dart_code c.args.dart))) n) (sym node) row))
@@ -39,4 +39,4 @@ returns-clause-fits c = λ like of k n.
     let d = c.args.dart in
     let r = node_there c.args.checked.now d.tile c.tail_of-node.result c.row_in_tile.result c.row_in_tile.ensures in
     c.rows_of_tiles_fit.ensures.nodes c.args.checked.now like r.T.tables.cnd
-    (like_there (λ (T : PrimitiveTables). T.cnd) c.args.checked.now d.tile c.tail_of-node.result c.row_in_tile.result like c.is_right.ensures r of) k n c.row_in_tile.result r.found.fits
+    (like_there (λ (T : PrimitiveTables). T.cnd) c.args.checked.now d.tile c.tail_of-node.result c.row_in_tile.result like c.numbers_are_right.ensures r of) k n c.row_in_tile.result r.found.fits

@@ -4,7 +4,7 @@ use Rattle.vpf_tiling.specs.Ranks.{numbered}
 use Rattle.vpf_tiling.specs.Tiles.{Ring}
 use Rattle.vpf_write.specs.Writing.{Writes}
 use Rattle.vpf_renumbering.specs.declared.glued_faces.rings.GluedRing.{GluedRing}
-use Rattle.vpf_renumbering.specs.GluedFaces.Rings.{ring_of}
+use Rattle.vpf_renumbering.specs.GluedFaces.Rings.{ring_said}
 use Rattle.vpf_glue.specs.GluedTables.Grids.{whole_in}
 use Rattle.vpf_primitive_tables.specs.TableForms.Forms.{ring_kinds, ring_row, rings_like, table_like}
 use Rattle.vpf_primitive_tables.proofs.table_forms.CountedRows.{numbered-map, put_all, put_more}
@@ -13,7 +13,7 @@ use Rattle.vpf_glue.proofs.rings.write_rings.Goals as goal
 pub loop-k-preserved : goal.loop-k-preserved
 loop-k-preserved c =
     let W = whole_in c.args.edges.now in
-    let row = λ (k : ℕ) (r : GluedRing). ring_row c.args.form.now.head.columns k (ring_of (whole_in c.args.edges.now) r) in
+    let row = λ (k : ℕ) (r : GluedRing). ring_row c.args.form.now.head.columns k (ring_said (whole_in c.args.edges.now) r) in
     record {
       like = c.in_ok-put.ensures.like ∙ c.loop-k.invariant.like;
       put = let put = rw (c.loop-k.invariant.like, c.edge_number-edge.ensures.number) at c.in_ok-put.ensures.put in
@@ -24,9 +24,9 @@ pub returns : goal.returns
 returns c =
     let g = c.args.form.now in
     let columns = c.args.form.now.head.columns in
-    let of = ring_of (whole_in c.args.edges.now) in
+    let of = ring_said (whole_in c.args.edges.now) in
     let rings = c.args.rings.now in
-    let done = put_all c.loop-k.made.tally (λ (k : ℕ) (r : GluedRing). ring_row c.args.form.now.head.columns k (ring_of (whole_in c.args.edges.now) r)) c.args.rings.now c.loop-k.k (omega arith) c.loop-k.invariant.put in
+    let done = put_all c.loop-k.made.tally (λ (k : ℕ) (r : GluedRing). ring_row c.args.form.now.head.columns k (ring_said (whole_in c.args.edges.now) r)) c.args.rings.now c.loop-k.k (omega arith) c.loop-k.invariant.put in
     let written = c.finish.ensures (numbered (ring_row columns) (map of rings)) (rw (numbered-map (ring_row columns) of rings) done) in
     subst (λ (rs : List Ring). Writes (rings_like c.args.form.now rs) c.finish.result) c.requires.rings
     (subst (λ (g : Grid). Writes (table_like g ring_kinds (numbered (ring_row c.args.form.now.head.columns) (map of rings))) c.finish.result) c.loop-k.invariant.like written)

@@ -3,12 +3,12 @@ use Rattle.vpf_tiling.specs.Ranks.{numbered}
 use Rattle.vpf_write.specs.Tallies.{Holds}
 use Rattle.vpf_primitive_tables.specs.TableForms.Forms.{ring_row}
 use Rattle.vpf_renumbering.specs.declared.glued_faces.rings.GluedRing.{GluedRing}
-use Rattle.vpf_renumbering.specs.GluedFaces.Rings.{ring_of}
+use Rattle.vpf_renumbering.specs.GluedFaces.Rings.{ring_said}
 use Rattle.vpf_glue.specs.GluedTables.Grids.{whole_in}
 use Rattle.vpf_glue.proofs.rings.write_rings.Given as goal
 
 abbrev pub invariant-loop-k : goal.invariant-loop-k
 invariant-loop-k l = record {
   like : l.made.like ≡ l.form;
-  put : Holds l.made.tally (numbered (λ (k : ℕ) (r : GluedRing). ring_row l.form.head.columns k (ring_of (whole_in l.edges) r)) (take l.k l.rings));
+  put : Holds l.made.tally (numbered (λ (k : ℕ) (r : GluedRing). ring_row l.form.head.columns k (ring_said (whole_in l.edges) r)) (take l.k l.rings));
 }

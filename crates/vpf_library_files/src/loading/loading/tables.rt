@@ -23,7 +23,7 @@ use vpf_table::laws::{opened_is_read, opened_is_spelled};
 use vpf_triplet::PlaceError;
 
 /// What a slice of bytes holds are bytes.
-fn has_bytes(bytes: &[u8])
+fn bytes_are_bytes(bytes: &[u8])
     ensures { IsBytes bytes.now }
 {}
 
@@ -109,7 +109,7 @@ fn index_beside<T: Tree>(
     ensures files { T.files tree.new ≡ T.files tree.old }
 {
     opened_is_spelled();
-    has_bytes(bytes);
+    bytes_are_bytes(bytes);
     let table = table_in(alloc, name, bytes)?;
     if !table.header().varies() {
         return Ok(None);

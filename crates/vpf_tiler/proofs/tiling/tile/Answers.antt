@@ -30,7 +30,7 @@ so_of_answer c P of tables at =
       well_formed = s.well_formed;
       right = c.requires.tileref;
       bounded = c.requires.bounded;
-      tiles = c.is_readable.ensures.writable;
+      tiles = c.source_reads.ensures.writable;
     } in
     answered P of c.args.cov.now c.source_of-source.result.now tables c.args.plan.now c.args.tileref.now c.cut_files.result (same_tables c tables at) text given
     c.cut_files.ensures

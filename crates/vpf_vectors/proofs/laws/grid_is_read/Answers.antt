@@ -6,7 +6,7 @@ use Rattle.vpf_vectors.specs.Cells.Rows.{edge_rows, face_rows, ring_rows, node_r
 use Rattle.vpf_vectors.specs.declared.headers.TheConstants.{FACES, NODES, PLAN}
 use Rattle.vpf_vectors.specs.Heads.{face_head, node_head, plan_head}
 use Rattle.vpf_vectors.specs.Library.{tiles, grid_tables}
-use Rattle.vpf_vectors.specs.Tables.{tileref_table, edge_table, ring_table, pair_table}
+use Rattle.vpf_vectors.specs.Tables.{grid_tileref, edge_table, ring_table, pair_table}
 use Rattle.vpf_vectors.proofs.HeadLemmas.{faces_read, nodes_read, plan_read, faces_have_pairs, nodes_have_pairs, plan_has_pairs}
 use Rattle.vpf_vectors.proofs.LimitLemmas.{tileref_limit, edges_limit, rings_limit, pairs_limit}
 use Rattle.vpf_vectors.proofs.ReadLemmas.{tileref_is_writable, edges_are_writable, rings_are_writable, pairs_are_writable}
@@ -20,7 +20,7 @@ returns c = λ n even least most.
     let again = c.written_is_read.ensures.read_again in
     let some : 1 ≤ n = omega arith in
     let small_edges = edges_are_small c.darts_are_in_range.ensures c.nexts_are_a_map.ensures.map n some most in
-    let tileref = again (tileref_table (tiles n)) (tileref_is_writable sound (tiles n) (few_tiles n most)) (tileref_limit (tiles n) (few_tiles n most)) in
+    let tileref = again (grid_tileref (tiles n)) (tileref_is_writable sound (tiles n) (few_tiles n most)) (tileref_limit (tiles n) (few_tiles n most)) in
     let edg = again (edge_table (edge_rows n)) (edges_are_writable sound (edge_rows n) (edges_are_few n most) small_edges)
     (edges_limit (edge_rows n) (edges_are_few n most)) in
     let fac = again (pair_table face_head 1 (face_rows n))

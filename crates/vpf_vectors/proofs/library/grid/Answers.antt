@@ -5,13 +5,13 @@ use Rattle.vpf_vectors.specs.Cells.Rows.{edge_rows, face_rows, ring_rows, node_r
 use Rattle.vpf_wing.specs.WellFormed.{IsWellFormed}
 use Rattle.vpf_vectors.specs.Heads.{face_head, node_head, plan_head}
 use Rattle.vpf_vectors.specs.Library.{named_file, tiles}
-use Rattle.vpf_vectors.specs.Tables.{tileref_table, edge_table, ring_table, pair_table}
+use Rattle.vpf_vectors.specs.Tables.{grid_tileref, edge_table, ring_table, pair_table}
 use Rattle.vpf_vectors.proofs.FileLemmas.{holds_table, one_more_file}
 use Rattle.vpf_vectors.proofs.library.grid.Goals as goal
 
 pub returns-clause-files : goal.returns-clause-files
 returns-clause-files c =
-    let tileref : Grid = tileref_table (tiles c.args.n) in
+    let tileref : Grid = grid_tileref (tiles c.args.n) in
     let edg : Grid = edge_table (edge_rows c.args.n) in
     let fac : Grid = pair_table face_head 1 (face_rows c.args.n) in
     let rng : Grid = ring_table (ring_rows c.args.n) in

@@ -1,7 +1,7 @@
 use Rattle.std.proofs.Common.{◌≡◌, ℕ, Bool, ap, sym, subst, arith, IfOk}
-use Rattle.vpf_copies.specs.Lists.{is_paired, IsWithin}
+use Rattle.vpf_copies.specs.Lists.{is_paired, AreNumbersWithin}
 use Rattle.vpf_copies.specs.Placing.{has_end}
-use Rattle.vpf_copies.specs.Presence.{Presence, AreCopies, has, is_one_of, present}
+use Rattle.vpf_copies.specs.Presence.{Presence, AreCopies, has, is_one_of, presence_of}
 use Rattle.vpf_copies.proofs.PlacingLemmas.{ends_are, ends_step, ends_within}
 use Rattle.vpf_copies.proofs.copies.Copies.of_nodes.Goals as goal
 
@@ -13,14 +13,14 @@ of_pairs-requires c =
     let p = c.args.edges.now in
     let same : is_paired c.loop-k.pairs.items ≡ has_end p c.args.ends.now = ends_are p c.args.ends.now c.loop-k.k c.loop-k.pairs.items (omega (arith, c.items-k-end.ensures)) c.loop-k.invariant in
     let copies : AreCopies p c.edges.inside.by_item = subst (λ (p : Presence). AreCopies p c.edges.inside.by_item) c.edges.view_is c.edges.invariant in
-    let within : IsWithin (has_end p c.args.ends.now) c.edges.inside.tiles c.args.nodes = subst (λ n. IsWithin (has_end p c.args.ends.now) n c.args.nodes) (sym (ap (λ (p : Presence). p.tiles) c.edges.view_is)) (ends_within p c.edges.inside.by_item c.args.ends.now c.args.nodes copies c.requires.edges c.requires.within) in
-    subst (λ (test : ℕ → ℕ → Bool). IsWithin test c.edges.inside.tiles c.args.nodes) (sym same) within
+    let within : AreNumbersWithin (has_end p c.args.ends.now) c.edges.inside.tiles c.args.nodes = subst (λ n. AreNumbersWithin (has_end p c.args.ends.now) n c.args.nodes) (sym (ap (λ (p : Presence). p.tiles) c.edges.view_is)) (ends_within p c.edges.inside.by_item c.args.ends.now c.args.nodes copies c.requires.edges c.requires.within) in
+    subst (λ (test : ℕ → ℕ → Bool). AreNumbersWithin test c.edges.inside.tiles c.args.nodes) (sym same) within
 
 pub returns-clause-copies : goal.returns-clause-copies
 returns-clause-copies c =
     let p = c.args.edges.now in
     let same : is_paired c.loop-k.pairs.items ≡ has_end p c.args.ends.now = ends_are p c.args.ends.now c.loop-k.k c.loop-k.pairs.items (omega (arith, c.items-k-end.ensures)) c.loop-k.invariant in
-    subst (λ (test : ℕ → ℕ → Bool). IfOk c.of_pairs.result (λ copies. copies ≡ present c.args.nodes p.tiles test)) same (subst (λ n. IfOk c.of_pairs.result (λ copies. copies ≡ present c.args.nodes n (is_paired c.loop-k.pairs.items))) (ap (λ (p : Presence). p.tiles) c.edges.view_is) c.of_pairs.ensures.copies)
+    subst (λ (test : ℕ → ℕ → Bool). IfOk c.of_pairs.result (λ copies. copies ≡ presence_of c.args.nodes p.tiles test)) same (subst (λ n. IfOk c.of_pairs.result (λ copies. copies ≡ presence_of c.args.nodes n (is_paired c.loop-k.pairs.items))) (ap (λ (p : Presence). p.tiles) c.edges.view_is) c.of_pairs.ensures.copies)
 
 pub returns-clause-has : goal.returns-clause-has
 returns-clause-has c =

@@ -23,7 +23,7 @@ returns-clause-few c =
     sym (length-map c.loop-face.rings.items ring_of) ∙ ap length made in
     let most = rings_few c.args.self.now.source (plan_by c.args.self.now.plan) c.args.tile in
     let edges : length c.args.self.now.source.edges < 2 ^ 24 =
-    subst (λ (k : Cutting). length k.source.edges < 2 ^ 24) c.self.view_is c.is_planned.ensures.tileable.few in
+    subst (λ (k : Cutting). length k.source.edges < 2 ^ 24) c.self.view_is c.plan_holds.ensures.tileable.few in
     let rings : length c.args.self.now.source.rings < 2 ^ 24 =
     subst (λ (k : Cutting). length k.source.rings < 2 ^ 24) c.self.view_is
     (subst (λ (p : Primitives). length p.rings < 2 ^ 24) c.source.ensures (omega arith)) in

@@ -21,7 +21,7 @@ ring-start-requires c =
     let many : length c.in_tile-ring-items.result.now ≡ length (items_in c.self.inside.by_face c.args.face) = ap length c.in_tile-ring-items.ensures.items in
     let inside : c.loop-ring.ring-index < length (items_in c.self.inside.by_face c.args.face) = omega arith in
     let k : IsKeptRing c.self.inside.cut.now.source (plan_by c.self.inside.cut.now.plan) c.args.tile c.args.face (get_or (items_in c.self.inside.by_face c.args.face) c.loop-ring.ring-index 0) =
-    kept_ring c.self.inside.cut.now.source c.is_planned.ensures.tileable.well_formed c.self.inside.by_face c.self.invariant (plan_by c.self.inside.cut.now.plan) c.args.tile c.args.face h
+    kept_ring c.self.inside.cut.now.source c.plan_holds.ensures.tileable.well_formed c.self.inside.by_face c.self.invariant (plan_by c.self.inside.cut.now.plan) c.args.tile c.args.face h
     c.loop-ring.ring-index inside in
     subst (λ (p : Primitives). IsRowOf (length p.rings) (get_or c.in_tile-ring-items.result.now c.loop-ring.ring-index 0)) (sym c.source.ensures)
     (subst (λ (xs : List ℕ). IsRowOf (length c.self.inside.cut.now.source.rings) (get_or xs c.loop-ring.ring-index 0)) (sym c.in_tile-ring-items.ensures.items) k.row)
@@ -33,7 +33,7 @@ local_edge-edge-requires c =
     let many : length c.in_tile-ring-items.result.now ≡ length (items_in c.self.inside.by_face c.args.face) = ap length c.in_tile-ring-items.ensures.items in
     let inside : c.loop-ring.ring-index < length (items_in c.self.inside.by_face c.args.face) = omega arith in
     let k : IsKeptRing c.self.inside.cut.now.source (plan_by c.self.inside.cut.now.plan) c.args.tile c.args.face (get_or (items_in c.self.inside.by_face c.args.face) c.loop-ring.ring-index 0) =
-    kept_ring c.self.inside.cut.now.source c.is_planned.ensures.tileable.well_formed c.self.inside.by_face c.self.invariant (plan_by c.self.inside.cut.now.plan) c.args.tile c.args.face h
+    kept_ring c.self.inside.cut.now.source c.plan_holds.ensures.tileable.well_formed c.self.inside.by_face c.self.invariant (plan_by c.self.inside.cut.now.plan) c.args.tile c.args.face h
     c.loop-ring.ring-index inside in
     let start : c.ring-start.result.1
     ≡ id_of (kth c.self.inside.cut.now.source.rings (get_or (items_in c.self.inside.by_face c.args.face) c.loop-ring.ring-index 0) absent_ring).start_edge =

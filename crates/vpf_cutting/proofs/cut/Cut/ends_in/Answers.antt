@@ -35,10 +35,10 @@ returns-clause-end c = c.local_node-2.ensures.number ∙ ap (local_node c.args.s
 pub returns-clause-start_row : goal.returns-clause-start_row
 returns-clause-start_row c =
     subst (IsRowOf (length (present_nodes c.args.self.now.source (plan_by c.args.self.now.plan) c.args.tile))) (sym c.local_node.ensures.number)
-    (node_within c.args.self.now.source (plan_by c.args.self.now.plan) c.args.tile c.head-start.result c.is_planned.ensures.tileable.well_formed (head_there c.args.self.now.source (plan_by c.args.self.now.plan) c.args.tile (code 0 c.args.edge 1) c.head-start.result (side_is c.args.self.now.source (plan_by c.args.self.now.plan) c.args.tile c.args.edge true ∙ c.requires)
+    (node_within c.args.self.now.source (plan_by c.args.self.now.plan) c.args.tile c.head-start.result c.plan_holds.ensures.tileable.well_formed (head_there c.args.self.now.source (plan_by c.args.self.now.plan) c.args.tile (code 0 c.args.edge 1) c.head-start.result (side_is c.args.self.now.source (plan_by c.args.self.now.plan) c.args.tile c.args.edge true ∙ c.requires)
     (c.head-start.ensures ∙ ap (λ (d : Dart). head_of c.args.self.now.source (dart_code d)) c.flip-minus.ensures)))
 
 pub returns-clause-end_row : goal.returns-clause-end_row
 returns-clause-end_row c =
     subst (IsRowOf (length (present_nodes c.args.self.now.source (plan_by c.args.self.now.plan) c.args.tile))) (sym c.local_node-2.ensures.number)
-    (node_within c.args.self.now.source (plan_by c.args.self.now.plan) c.args.tile c.head-end.result c.is_planned.ensures.tileable.well_formed (head_there c.args.self.now.source (plan_by c.args.self.now.plan) c.args.tile (code 0 c.args.edge 0) c.head-end.result c.requires c.head-end.ensures))
+    (node_within c.args.self.now.source (plan_by c.args.self.now.plan) c.args.tile c.head-end.result c.plan_holds.ensures.tileable.well_formed (head_there c.args.self.now.source (plan_by c.args.self.now.plan) c.args.tile (code 0 c.args.edge 0) c.head-end.result c.requires c.head-end.ensures))

@@ -9,10 +9,10 @@ use Rattle.vpf_cutting.proofs.cut.Cut.next_in.Goals as goal
 
 pub next_kept-next-requires-clause-map : goal.next_kept-next-requires-clause-map
 next_kept-next-requires-clause-map c =
-    c.well_formed_has_map.ensures c.args.self.now.source c.is_planned.ensures.tileable.few c.is_planned.ensures.tileable.well_formed
+    c.well_formed_has_map.ensures c.args.self.now.source c.plan_holds.ensures.tileable.few c.plan_holds.ensures.tileable.well_formed
 
 pub next_kept-next-requires-clause-edges : goal.next_kept-next-requires-clause-edges
-next_kept-next-requires-clause-edges c = absent_edges c.args.self.now.source (plan_by c.args.self.now.plan) c.args.tile c.is_planned.ensures.tileable.few
+next_kept-next-requires-clause-edges c = absent_edges c.args.self.now.source (plan_by c.args.self.now.plan) c.args.tile c.plan_holds.ensures.tileable.few
 
 pub next_kept-next-requires-clause-has : goal.next_kept-next-requires-clause-has
 next_kept-next-requires-clause-has c = present_has c.args.self.now.source (plan_by c.args.self.now.plan) c.args.tile (dart_code c.args.dart) c.requires
@@ -29,5 +29,5 @@ pub returns-clause-there : goal.returns-clause-there
 returns-clause-there c =
     let small : c.next_kept-next.result.edge < 2 ^ 32 = omega arith in
     let code = same_code c.args.self.now.source c.next_kept-next.result small c.next_kept-next.ensures.has in
-    next_there c.first_kept_dart.ensures c.args.self.now c.is_planned.ensures (c.well_formed_has_map.ensures c.args.self.now.source c.is_planned.ensures.tileable.few c.is_planned.ensures.tileable.well_formed) c.args.tile (dart_code c.args.dart) _ c.requires
+    next_there c.first_kept_dart.ensures c.args.self.now c.plan_holds.ensures (c.well_formed_has_map.ensures c.args.self.now.source c.plan_holds.ensures.tileable.few c.plan_holds.ensures.tileable.well_formed) c.args.tile (dart_code c.args.dart) _ c.requires
     (ap (λ x. (untiled_links c.args.self.now.source).has x) (sym code) ∙ c.next_kept-next.ensures.has) (returns-clause-next c)

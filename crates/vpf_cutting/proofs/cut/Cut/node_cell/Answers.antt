@@ -19,7 +19,7 @@ returns-then-onward-tile-clause-value c =
 
 pub local_node-there-requires : goal.local_node-there-requires
 local_node-there-requires c =
-    head_onward c.args.self.now c.is_planned.ensures c.args.dart c.head-node.result c.args.onward
+    head_onward c.args.self.now c.plan_holds.ensures c.args.dart c.head-node.result c.args.onward
     (present_row c.args.self.now.source (plan_by c.args.self.now.plan) c.args.tile c.args.dart c.requires.present) c.requires.onward c.head-node.ensures
 
 pub returns-clause-value : goal.returns-clause-value

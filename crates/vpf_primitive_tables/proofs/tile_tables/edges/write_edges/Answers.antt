@@ -14,7 +14,7 @@ use Rattle.vpf_cutting.specs.Cuts.{plan_by}
 use Rattle.vpf_triplet.specs.declared.kinds.Kind.{Kind}
 use Rattle.vpf_table.specs.Grid.{Grid, Row}
 use Rattle.vpf_write.specs.Tallies.{Holds}
-use Rattle.vpf_primitive_tables.specs.TableForms.Models.{values_of}
+use Rattle.vpf_primitive_tables.specs.TableForms.Models.{values_of_edge}
 use Rattle.vpf_primitive_tables.specs.TableForms.Forms.{EdgeValues, edge_kinds_of, edge_values_of, head_like}
 use Rattle.vpf_primitive_tables.specs.TileTables.Grids.{edge_values}
 use Rattle.vpf_primitive_tables.proofs.table_forms.CountedRows.{put_all, put_more, rows_within}
@@ -65,7 +65,7 @@ put-requires-clause-others c =
     let f = c.args.form.now in
     let columns = f.table.head.columns in
     let row = c.row_of-row.result in
-    let v = values_of c.id_cells-cells.result in
+    let v = values_of_edge c.id_cells-cells.result in
     let fits = subst (λ (g : Grid). FitsRow g.head.columns row) c.table.ensures c.row_of-row.ensures.fits in
     subst (λ (h : Head). FitsElsewhere (edge_values_of columns (c.loop-k.k + 1) v) h.columns row) (sym c.loop-k.invariant.head)
     (c.own_rows_fit.ensures.edges f.references columns row fits (c.loop-k.k + 1) v)

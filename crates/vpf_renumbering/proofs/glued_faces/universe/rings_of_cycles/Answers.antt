@@ -8,14 +8,14 @@ use Rattle.vpf_darts.specs.Listings.{numbers_of}
 use Rattle.vpf_prims.specs.Coverages.{CoverageTables}
 use Rattle.vpf_prims.specs.Libraries.{library_of}
 use Rattle.vpf_wing.specs.Links.{links_of}
-use Rattle.vpf_renumbering.specs.GluedFaces.Rings.{HasHomeStart, is_universe, rings_made, rings_of_cycles}
+use Rattle.vpf_renumbering.specs.GluedFaces.Rings.{HasHomeStart, is_universe, rings_glued, rings_of_cycles}
 use Rattle.vpf_renumbering.proofs.glued_faces.UniverseLemmas.{no_more, none_yet, one_more, universe_of}
 use Rattle.vpf_renumbering.proofs.glued_faces.universe.rings_of_cycles.Goals as goal
 use Rattle.vpf_renumbering.proofs.glued_faces.universe.rings_of_cycles.Goals.{then-face_id-eq-UNIVERSE+in_ok-push, else-face_id-eq-UNIVERSE}
 
 pub loop-i-init : goal.loop-i-init
 loop-i-init c = record {
-  made = ap (rings_made (library_of c.args.checked.now)) c.new-rings.ensures.items ∙ none_yet (library_of c.args.checked.now) (numbers_of c.args.cycles.now);
+  made = ap (rings_glued (library_of c.args.checked.now)) c.new-rings.ensures.items ∙ none_yet (library_of c.args.checked.now) (numbers_of c.args.cycles.now);
   home = λ k d lt. absurd (let none : length c.new-rings.result.items ≡ 0 = ap (λ xs. length xs) c.new-rings.ensures.items in omega arith);
 }
 
@@ -42,7 +42,7 @@ loop-i-preserved c =
           let elsewhere : is_universe (library_of c.args.checked.now) (tile_dart_code c.begin_of-start.result) ≡ false =
           universe_of (library_of c.args.checked.now) (tile_dart_code c.begin_of-start.result) c.face_id.result c.begin_of-start.ensures.home face false (ne_eqb c.face_id.result 1 w.if-face_id-eq-UNIVERSE.false) in
           record {
-            made = ap (λ v. rings_made (library_of c.args.checked.now) v.items) w.rings-is
+            made = ap (λ v. rings_glued (library_of c.args.checked.now) v.items) w.rings-is
                 ∙ no_more (library_of c.args.checked.now) (numbers_of c.args.cycles.now) c.loop-i.i c.begin_of-start.result inside c.begin_of-start.ensures.first elsewhere
                 c.loop-i.rings.items c.loop-i.invariant.made;
             home = subst (All (HasHomeStart (library_of c.args.checked.now))) (sym (ap (λ v. v.items) w.rings-is)) c.loop-i.invariant.home;

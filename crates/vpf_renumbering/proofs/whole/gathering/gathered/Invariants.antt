@@ -1,5 +1,5 @@
-use Rattle.vpf_renumbering.specs.Whole.Gathering.{AreGatheredTo}
+use Rattle.vpf_renumbering.specs.Whole.Gathering.{AreHomesTo}
 use Rattle.vpf_renumbering.proofs.whole.gathering.gathered.Given as goal
 
 abbrev pub invariant-loop-number : goal.invariant-loop-number
-invariant-loop-number l = AreGatheredTo l.coverage l.number 0 l.darts.items
+invariant-loop-number l = AreHomesTo l.coverage l.number 0 l.darts.items

@@ -1,5 +1,5 @@
-use Rattle.vpf_renumbering.specs.Whole.Gathering.{AreGatheredTo}
+use Rattle.vpf_renumbering.specs.Whole.Gathering.{AreHomesTo}
 use Rattle.vpf_renumbering.proofs.whole.gathering.put_tile.Given as goal
 
 abbrev pub invariant-loop-k : goal.invariant-loop-k
-invariant-loop-k l = AreGatheredTo l.coverage l.number l.k l.darts.items
+invariant-loop-k l = AreHomesTo l.coverage l.number l.k l.darts.items

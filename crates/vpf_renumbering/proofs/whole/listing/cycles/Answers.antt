@@ -7,4 +7,4 @@ use Rattle.vpf_renumbering.proofs.whole.listing.cycles.Goals as goal
 
 pub list_kept-requires : goal.list_kept-requires
 list_kept-requires c =
-    none_passed (library_of c.args.whole.now) (library_map (links_of (library_of c.args.whole.now))) c.is_map.ensures.map (λ d. refl) c.args.darts.now c.requires
+    none_passed (library_of c.args.whole.now) (library_map (links_of (library_of c.args.whole.now))) c.makes_map.ensures.map (λ d. refl) c.args.darts.now c.requires

@@ -2,4 +2,4 @@ use Rattle.std.proofs.Common.{Some}
 use Rattle.vpf_table.proofs.table_file.TableFile.with_index.Goals as goal
 
 pub returns-in-Ok-clause-found : goal.returns-in-Ok-clause-found
-returns-in-Ok-clause-found c = c.opened_is_spelled.ensures c.args.self.bytes (Some c.args.index.now) c.args.self.grid c.has_bytes.ensures c.has_bytes-2.ensures c.in-Ok.ensures.exact
+returns-in-Ok-clause-found c = c.opened_is_spelled.ensures c.args.self.bytes (Some c.args.index.now) c.args.self.grid c.bytes_are_bytes.ensures c.bytes_are_bytes-2.ensures c.in-Ok.ensures.exact

@@ -5,7 +5,7 @@ use Rattle.vpf_vectors.specs.Cells.Rows.{face_cycles}
 use Rattle.vpf_vectors.proofs.grid_coverage.GridFacts.{GridFacts}
 use Rattle.vpf_vectors.proofs.grid_coverage.DartLemmas.{small_edges}
 use Rattle.vpf_vectors.proofs.grid_coverage.NextLemmas.{next-is, map-is}
-use Rattle.vpf_vectors.proofs.grid_coverage.NumberLemmas.{numbered, is_library}
+use Rattle.vpf_vectors.proofs.grid_coverage.NumberLemmas.{numbered, tiles_make_library}
 use Rattle.vpf_vectors.proofs.grid_coverage.CycleLemmas.{cycles, loops}
 use Rattle.vpf_vectors.proofs.grid_coverage.laws.grid_is_well_formed.Goals as goal
 use Rattle.vpf_vectors.proofs.grid_coverage.laws.grid_is_well_formed.Goals.{After-faces_are_listed}
@@ -27,7 +27,7 @@ returns-clause-well_formed c n le most =
     record { numbered = numbered (facts c) n le; loops = loops (facts c) n le (small_edges n most); cycles = cycles (facts c) n le (small_edges n most) }
 
 pub returns-clause-library : goal.returns-clause-library
-returns-clause-library c = is_library
+returns-clause-library c = tiles_make_library
 
 pub returns-clause-nexts : goal.returns-clause-nexts
 returns-clause-nexts c n d le most h = next-is (facts c) n d le (small_edges n most) h

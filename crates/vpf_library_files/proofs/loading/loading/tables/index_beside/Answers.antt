@@ -9,7 +9,7 @@ returns-then-not-varies-clause-are g c =
       inl (record {
         bytes = bytes;
         are = refl;
-        opened = c.opened_is_spelled.ensures bytes None grid c.has_bytes.ensures tt c.in_ok-table.ensures.read;
+        opened = c.opened_is_spelled.ensures bytes None grid c.bytes_are_bytes.ensures tt c.in_ok-table.ensures.read;
         one_length = rw c.header.ensures at (sym c.varies.ensures ∙ c.if-not-varies.true);
       }),
     )

@@ -20,7 +20,7 @@ pub returns-then-dart-clause-there : goal.returns-then-dart-clause-there
 returns-then-dart-clause-there c =
     subst (λ x. stands_in x (plus_darts (whole_of (library_of c.args.self.now))) ≡ true) (sym (returns-then-dart-clause-dart c))
     (plus_there (library_of c.args.self.now)
-    (paired_of c.self.inside c.args.self.now c.self.view_is c.self.invariant c.is_map.ensures.map c.is_map.ensures.signs) (tile_dart_code c.args.dart) c.requires)
+    (paired_of c.self.inside c.args.self.now c.self.view_is c.self.invariant c.makes_map.ensures.map c.makes_map.ensures.signs) (tile_dart_code c.args.dart) c.requires)
 
 pub returns-else-dart-clause-dart : goal.returns-else-dart-clause-dart
 returns-else-dart-clause-dart c = plus_same (library_of c.args.self.now) c.args.dart c.if-dart.false
@@ -29,4 +29,4 @@ pub returns-else-dart-clause-there : goal.returns-else-dart-clause-there
 returns-else-dart-clause-there c =
     subst (λ x. stands_in x (plus_darts (whole_of (library_of c.args.self.now))) ≡ true) (sym (plus_same (library_of c.args.self.now) c.args.dart c.if-dart.false))
     (plus_there (library_of c.args.self.now)
-    (paired_of c.self.inside c.args.self.now c.self.view_is c.self.invariant c.is_map.ensures.map c.is_map.ensures.signs) (tile_dart_code c.args.dart) c.requires)
+    (paired_of c.self.inside c.args.self.now c.self.view_is c.self.invariant c.makes_map.ensures.map c.makes_map.ensures.signs) (tile_dart_code c.args.dart) c.requires)

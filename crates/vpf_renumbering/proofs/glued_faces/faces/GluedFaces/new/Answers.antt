@@ -22,11 +22,11 @@ small n h = omega arith
 pub counts-requires : goal.counts-requires
 counts-requires c =
     subst (λ (v : CoverageTables). length (whole_of (library_of v)).faces < 2 ^ 32) (sym c.coverage.ensures)
-    (small (length (whole_of (library_of c.args.checked.now)).faces) (few c.args.checked.now (few_faces (library_of c.args.checked.now) c.is_joined.ensures) c.requires))
+    (small (length (whole_of (library_of c.args.checked.now)).faces) (few c.args.checked.now (few_faces (library_of c.args.checked.now) c.faces_are_joined.ensures) c.requires))
 
 pub invariant_of-result : goal.invariant_of-result
 invariant_of-result c = record {
   edges = c.requires;
-  faces = few c.args.checked.now (few_faces (library_of c.args.checked.now) c.is_joined.ensures) c.requires;
+  faces = few c.args.checked.now (few_faces (library_of c.args.checked.now) c.faces_are_joined.ensures) c.requires;
   counted = subst (λ (v : CoverageTables). c.in_ok-counts.counts.items ≡ map (faces_before (library_of v)) (range_with_len 0 (last_tile v + 2))) c.coverage.ensures c.in_ok-counts.ensures;
 }

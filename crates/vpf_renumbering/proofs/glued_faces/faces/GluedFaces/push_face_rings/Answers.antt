@@ -14,7 +14,7 @@ use Rattle.vpf_prims.specs.References.{id_of}
 use Rattle.vpf_wing.specs.Links.{links_of}
 use Rattle.vpf_tiling_laws.specs.Gluing.Whole.{ring_start_dart}
 use Rattle.vpf_cut_rings.proofs.PlaceLemmas.{IsRingOfFace, kept_at}
-use Rattle.vpf_renumbering.specs.GluedFaces.Rings.{HasHomeStart, rings_made}
+use Rattle.vpf_renumbering.specs.GluedFaces.Rings.{HasHomeStart, rings_glued}
 use Rattle.vpf_renumbering.proofs.glued_faces.RingLemmas.{face_made, more_made, one_ring, ring_at, start_home}
 use Rattle.vpf_renumbering.proofs.glued_faces.faces.GluedFaces.push_face_rings.Goals as goal
 
@@ -61,7 +61,7 @@ returns-clause-rings c =
     let many : length c.in_tile-ring-items.result.now ≡ length (items_in c.args.by_face.now c.args.face) = ap length c.in_tile-ring-items.ensures.items in
     let all : length (items_in c.args.by_face.now c.args.face) ≤ c.loop-ring.ring-index = omega arith in
     c.loop-ring.invariant.made
-    ∙ ap (λ ks. rings_made (library_of c.args.self.now) c.args.rings.now.items ++ map (ring_at (library_of c.args.self.now) c.args.tile c.args.face) ks)
+    ∙ ap (λ ks. rings_glued (library_of c.args.self.now) c.args.rings.now.items ++ map (ring_at (library_of c.args.self.now) c.args.tile c.args.face) ks)
     (take_all c.loop-ring.ring-index (items_in c.args.by_face.now c.args.face) all)
-    ∙ ap (λ v. rings_made (library_of c.args.self.now) c.args.rings.now.items ++ v)
+    ∙ ap (λ v. rings_glued (library_of c.args.self.now) c.args.rings.now.items ++ v)
     (face_made c.args.self.now c.args.tile c.args.face c.args.tables.now c.requires.tile c.args.by_face.now c.requires.kept c.requires.other)

@@ -1,5 +1,5 @@
 use Rattle.std.proofs.Common.{arith}
-use Rattle.vpf_table.proofs.indexing.has_bytes.Goals as goal
+use Rattle.vpf_table.proofs.indexing.bytes_are_bytes.Goals as goal
 
 pub returns : goal.returns
 returns c = λ i. omega (arith, c.type_inv.bytes i)

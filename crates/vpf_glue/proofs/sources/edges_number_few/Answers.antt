@@ -2,7 +2,7 @@ use Rattle.std.proofs.Common.{◌≡◌, ℕ, ◌≤◌, ◌*◌, List, length, 
 use Rattle.std.proofs.lemmas.List.{length-map}
 use Rattle.vpf_base.specs.Limits.{most_rows}
 use Rattle.vpf_darts.specs.Darts.{tile_dart_code}
-use Rattle.vpf_glue.proofs.sources.are_few.Goals as goal
+use Rattle.vpf_glue.proofs.sources.edges_number_few.Goals as goal
 
 pub returns-clause-edges : goal.returns-clause-edges
 returns-clause-edges c =

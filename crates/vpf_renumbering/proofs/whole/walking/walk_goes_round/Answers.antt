@@ -3,7 +3,7 @@ use Rattle.vpf_prims.specs.Coverages.{CoverageTables}
 use Rattle.vpf_prims.specs.Libraries.{IsLibrary, library_of}
 use Rattle.vpf_numbers.specs.TableLines.{coverage_numbers}
 use Rattle.vpf_trace.proofs.CheckedLemmas.{checked_traceable}
-use Rattle.vpf_trace.proofs.stepping.is_traceable.Goals as goal
+use Rattle.vpf_renumbering.proofs.whole.walking.walk_goes_round.Goals as goal
 
 pub returns : goal.returns
 returns c =
@@ -13,6 +13,6 @@ returns c =
       followers = c.followers_decide.ensures;
       flips = c.homes_flip_back.ensures;
     }) c.args.checked.now
-    (subst (λ (v : CoverageTables). IsLibrary (library_of v)) c.coverage-coverage.ensures c.is_library.ensures)
-    (subst (λ (v : CoverageTables). coverage_numbers v ≡ None) c.coverage-coverage.ensures c.has_numbers.ensures)
-    c.agrees.ensures
+    (subst (λ (v : CoverageTables). IsLibrary (library_of v)) c.coverage-coverage.ensures c.tiles_make_library.ensures)
+    (subst (λ (v : CoverageTables). coverage_numbers v ≡ None) c.coverage-coverage.ensures c.numbers_hold.ensures)
+    c.topology_holds.ensures
