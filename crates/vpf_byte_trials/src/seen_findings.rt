@@ -12,7 +12,11 @@ use vpf_value::cell_at;
 
 const ONE: Count = Count::Fixed(1);
 
-const TWO: Count = Count::Fixed(2);
+const DART: TileDart = TileDart {
+    tile: 0,
+    edge: 2,
+    minus: false,
+};
 
 /// A cell of row 3 of `edg`, in little-endian order, that is found in place of another thing, and the line.
 const LINES: [(Kind, Count, &[u8], Seen<'static>, &str); 10] = [
@@ -25,7 +29,7 @@ const LINES: [(Kind, Count, &[u8], Seen<'static>, &str); 10] = [
     ),
     (
         Kind::Z,
-        TWO,
+        Count::Fixed(2),
         b"\x01\0\0\0\x02\0\0\0\x03\0\0\0\x04\0\0\0\x05\0\0\0\x0a\xff\0\x40",
         Seen::Word(SeenWord::Number),
         "disagree 3 t/edg row 3 a\\22: [00000001 00000002 00000003; 00000004 00000005 4000ff0a], number\n",
@@ -39,7 +43,7 @@ const LINES: [(Kind, Count, &[u8], Seen<'static>, &str); 10] = [
     ),
     (
         Kind::C,
-        TWO,
+        Count::Fixed(2),
         b"\x01\0\0\0\x02\0\0\0\x03\0\0\0\x04\0\0\0",
         Seen::Word(SeenWord::Path),
         "disagree 3 t/edg row 3 a\\22: [00000001 00000002; 00000003 00000004], path\n",
@@ -55,22 +59,14 @@ const LINES: [(Kind, Count, &[u8], Seen<'static>, &str); 10] = [
         Kind::I,
         ONE,
         b"\xff\xff\xff\xff",
-        Seen::Dart(TileDart {
-            tile: 1,
-            edge: 2,
-            minus: false,
-        }),
+        Seen::Dart(TileDart { tile: 1, ..DART }),
         "disagree 3 t/edg row 3 a\\22: -1, 1:2+\n",
     ),
     (
         Kind::S,
         ONE,
         b"\x09\0",
-        Seen::Dart(TileDart {
-            tile: 0,
-            edge: 2,
-            minus: false,
-        }),
+        Seen::Dart(DART),
         "disagree 3 t/edg row 3 a\\22: 9, 2+\n",
     ),
     (
@@ -86,7 +82,7 @@ const LINES: [(Kind, Count, &[u8], Seen<'static>, &str); 10] = [
     ),
     (
         Kind::T,
-        TWO,
+        Count::Fixed(2),
         b"b\\",
         Seen::Kind(Kind::I, ONE),
         "disagree 3 t/edg row 3 a\\22: \"b\\5c\", I,1\n",

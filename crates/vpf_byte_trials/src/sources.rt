@@ -176,8 +176,7 @@ fn puts_all_bytes(rt: HostRuntime) -> Result<(), Fail> {
     ];
     for (piece, failing, want, written) in cases {
         let mut sink = MemSink::new(alloc, piece.max(1), vec![in alloc; failing]?);
-        let put = put_all(&mut sink, b"abcde");
-        same(&rt, put, want, (piece, failing));
+        same(&rt, put_all(&mut sink, b"abcde"), want, (piece, failing));
         same(&rt, sink.bytes(), written, (piece, failing));
     }
     Ok(())
@@ -260,7 +259,6 @@ fn makes_the_folders(rt: HostRuntime) -> Result<(), Fail> {
     let neighbour = format!(in alloc; "{root}/lib/cov/edx")?;
     let behind = format!(in alloc; "{root}/lib/cov/edg/t1/edg")?;
     let folder = format!(in alloc; "{root}/lib")?;
-    // A run that was cut off may have left them.
     let _left = fs::remove_dir_all(&rt, root);
     let mut tree = FolderTree::new(alloc, &rt);
     same(&rt, tree.size(&name), Ok(None), "before");
@@ -300,14 +298,13 @@ fn reads_the_folders(rt: HostRuntime) -> Result<(), Fail> {
     same(&rt, large, Some(LoadError::TooLarge { size: 10 }), name);
     // Each of the first five goes on where the one before it ended.
     let pieces: [&[u8]; 7] = [b"0123", b"4567", b"89", b"", b"", b"", b"789"];
+    let mut buf = [0; 4];
     for (at, want) in [0, 4, 8, 10, 10, 11, 7].iter().zip(pieces) {
-        let mut buf = [0; 4];
         let count = tree.read_at(name, *at, &mut buf)?;
         same(&rt, &buf[..count], want, at);
     }
     let behind = format!(in alloc; "{name}/edg")?;
     let absent = format!(in alloc; "{name}.absent")?;
-    let mut buf = [0; 4];
     for (name, size, read) in [
         (absent.as_str(), Ok(None), Ok(0)),
         ("vpf_source_no_such_folder/edg", Ok(None), Ok(0)),

@@ -10,8 +10,7 @@ use vpf_table::{Cells, TableView};
 use vpf_write::laws::joined_rows_are_cut;
 use vpf_write::{CellList, WriteError, Written, write};
 
-/// A table, what is written of its cells, and its index: a number with the most significant byte first; triplet ids, the
-/// first of which is spelled wide, and numbers.
+/// A table, what is written of its cells, and its index: a number, and triplet ids of which the first is spelled wide.
 const TABLES: [(&[u8], &[u8], Option<&[u8]>); 2] = [
     (
         b"\0\0\0\x22M;Table;-;id=I,1,P,Row Id,-,-,-,:;\0\0\0\x07",

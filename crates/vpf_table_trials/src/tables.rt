@@ -5,6 +5,7 @@ use std::alloc::Global;
 use std::marker::Brand;
 use std::sync::ledger::{Blank, Ledger};
 use std::test::Fail;
+use vpf_feed::accepts;
 use vpf_source::Steps;
 use vpf_table::{Bound, ColumnAt, Limit, TableFile, TableView};
 use vpf_theme::Form;
@@ -140,6 +141,14 @@ fn finds_rows_and_cells(rt: HostRuntime) -> Result<(), Fail> {
             assert!(rt; has_row(&table, k, want), "row {k}");
         }
     }
+    Ok(())
+}
+
+#[test]
+fn passes_empty_pieces(rt: HostRuntime) -> Result<(), Fail> {
+    let none = Vec::new(rt.alloc());
+    let pieces = [none, FIXED.to_vec(rt.alloc())?, Vec::new(rt.alloc())];
+    same(&rt, accepts(rt.alloc(), &pieces)?.rows, 3, "rows");
     Ok(())
 }
 
