@@ -1,9 +1,10 @@
-"""Sees that the pages of docs/ name what is there, and says what they lack: pages.py, at the root of the clone.
+"""Sees that the pages of docs/ name what is there, and that specs/ is laid out as they say, and tells what is lacking: pages.py, at the root of the clone.
 
-DEFINITIONS: each word stands in a module of `specs/` that is named beside it, and the modules to read are all that the contract of `run` reaches, definition by definition.
-ARCHITECTURE: each crate stands in one layer, above none that it names, and has a row with the crates right below it. Each crate has a README. REFUSALS:
-each code of FORMAT, each rule of AGREEMENT, and each refusal and bound of COMMANDS, has a row. HEADLINE and CALLING: what is quoted is the source's. README: at most 130 lines, of at most 100
-characters but for rows of tables. No sentence has more than 50 words, but for the headline. Links of the READMEs and of docs/ lead to files and headings that are there."""
+DEFINITIONS: each word stands in a module of `specs/` that is named beside it. What the contract of `run` reaches, definition by definition, are exactly the modules outside of the folders `Inner`, lists of modules
+apart; how many it reached is printed. No name has two definitions in `specs/`. No file names lemmas of another crate's `proofs/`, but for those of vpf_base. ARCHITECTURE: each crate stands in one layer and in one
+family, above none that it names, and has a row with the crates right below it. Each crate has a README. REFUSALS: each code of FORMAT, each rule of AGREEMENT, and each refusal and bound of COMMANDS, has a row.
+HEADLINE and CALLING: what is quoted is the source's. README: at most 130 lines, of at most 100 characters but for rows of tables. No sentence has more than 50 words. Links of the READMEs and of docs/ lead to files
+and headings that are there."""
 import functools
 import pathlib
 import re
@@ -86,7 +87,7 @@ defined = {key: definitions(text) for key, text in modules.items()}
 
 
 def reached():
-    """The modules of all definitions that the contract of `run` comes to."""
+    """The definitions that the contract of `run` comes to, each in its module."""
     seen, todo = set(), [(key, name) for name, key in imports(pathlib.Path("crates/vpf_run/src/running.rt").read_text()).items()]
     while todo:
         key, name = todo.pop()
@@ -100,21 +101,47 @@ def reached():
                 todo.append((key, word))
             elif word in taken[key]:
                 todo.append((taken[key][word], word))
-    return {key for key, _ in seen}
+    return {(key, name) for key, name in seen if name in defined[key]}
+
+
+def is_list(text):
+    """Whether a module has no definition, and only lists others or passes them on."""
+    return not re.search(r"^(?!--|pub mod |pub use )\S", text, re.M)
+
+
+def see_inner():
+    found = reached()
+    read = {key for key, _ in found}
+    outside = {key for key, text in modules.items() if not is_list(text) and "Inner" not in key[1].split(".")}
+    lacks.extend(f"{crate} {module} stands outside of Inner, and `run` doesn't reach it" for crate, module in sorted(outside - read))
+    lacks.extend(f"{crate} {module} stands in Inner, and `run` reaches it" for crate, module in sorted(read - outside))
+    if not found:
+        lacks.append("the contract of `run` reaches no definition")
+    return f"the contract of `run` reaches {len(found)} definitions in {len(read)} modules"
+
+
+def see_names():
+    meant = {}
+    for key, text in modules.items():
+        heads = re.findall(r"^(?:pub )?(?:unfoldable |abbrev )?(?:pub )?(?:lemma )?([A-Za-z_◌][\w\-◌|&=<>+*/%^]*) : .", text, re.M)
+        for name in heads + re.findall(r"^pub (?:record|data) ([A-Z]\w*)", text, re.M):
+            meant.setdefault(name, set()).add(" ".join(key))
+    lacks.extend(f"{name} is defined in {', '.join(sorted(places))}" for name, places in sorted(meant.items()) if len(places) > 1)
+
+
+def see_proofs():
+    for folder in ("src", "specs", "proofs"):
+        for path in sorted(it for end in ("rt", "antt") for it in pathlib.Path().glob(f"crates/*/{folder}/**/*.{end}")):
+            named = set(re.findall(r"\b(vpf\w*)(?:\.|::)proofs(?:\.|::)", path.read_text())) - {path.parts[1], "vpf_base"}
+            lacks.extend(f"{path} names lemmas of {crate}" for crate in sorted(named))
 
 
 def see_definitions():
-    to_read = set()
     for cells in rows(page("DEFINITIONS.md")):
-        numbered = cells[0].isdigit()
-        named = modules_named(cells[1] if numbered else cells[-1])
+        named = modules_named(cells[-1])
         lacks.extend(f"DEFINITIONS names {crate} {module}, which isn't there" for crate, module in named if (crate, module) not in modules)
-        if numbered:
-            to_read.update(named)
-            continue
         text = "\n".join(modules.get(key, "") for key in named)
         lacks.extend(f"DEFINITIONS: {word} isn't in {named}" for words in ticked(cells[1]) for word in re.findall(r"[A-Za-z_]\w*", words) if named and not re.search(rf"\b{word}\b", text))
-    lacks.extend(f"DEFINITIONS doesn't say to read {crate} {module}" for crate, module in sorted(reached() - to_read))
 
 
 @functools.cache
@@ -122,14 +149,20 @@ def all_below(crate):
     return {it for name in below.get(crate, ()) for it in {name} | all_below(name)}
 
 
+def see_places(what, lines):
+    """Sees that each crate stands in a line of a picture, and names none of a line above it."""
+    place = {crate: k for k, line in enumerate(lines) for crate in line}
+    twice = {crate for k, line in enumerate(lines) for crate in line if place[crate] != k}
+    lacks.extend(f"ARCHITECTURE: the {what} of {crate}" for crate, names in below.items()
+                 if crate in twice or any(place.get(it, len(lines)) < place.get(crate, -1) for it in names) or crate not in place)
+
+
 def see_architecture():
     text = page("ARCHITECTURE.md")
-    layers = [line.split()[1:] for line in re.findall(r"^    (?:commands|libraries|topology|tables|bytes) .*$", text, re.M)]
-    place = {crate: k for k, layer in enumerate(layers) for crate in layer}
+    see_places("layer", [line.split()[1:] for line in re.findall(r"^    (?:commands|libraries|topology|tables|bytes) .*$", text, re.M)])
+    see_places("family", [re.findall(r"\bvpf\w*", line) for line in re.findall(r"^    [1-8] \w+ .*$", text, re.M)])
     says = {name: cells[2] for cells in rows(text) if len(cells) == 3 for name in re.findall(r"vpf\w*", cells[0])}
     for crate, names in below.items():
-        if crate not in place or any(place.get(name, len(layers)) < place[crate] for name in names):
-            lacks.append(f"ARCHITECTURE: the layer of {crate}")
         right_below = {name for name in names if not name.startswith("vpf") or not any(name in all_below(other) for other in names)}
         if set(re.findall(r"\w+", says.get(crate, "no row"))) != right_below:
             lacks.append(f"ARCHITECTURE: {crate} stands on {sorted(right_below)}")
@@ -203,8 +236,7 @@ def sentences(text):
 def see_sentences():
     for path in [pathlib.Path("README.md"), pathlib.Path("CONTRIBUTING.md"), *sorted(pathlib.Path("docs").glob("*.md"))]:
         for it in sentences(path.read_text()):
-            # the headline stands word for word
-            if len(it.split()) > 50 and not it.startswith("For every well-formed untiled coverage and plan"):
+            if len(it.split()) > 50:
                 lacks.append(f"{path}: {len(it.split())} words: {' '.join(it.split()[:8])} ..")
 
 
@@ -215,6 +247,9 @@ def see_front():
         lacks.append(f"README has {len(lines)} lines")
 
 
+told = see_inner()
+see_names()
+see_proofs()
 see_definitions()
 see_architecture()
 see_quotes()
@@ -223,5 +258,6 @@ see_front()
 see_readmes()
 see_refusals()
 see_links()
+print(told)
 print("\n".join(lacks) or "the pages name what is there")
 sys.exit(bool(lacks))

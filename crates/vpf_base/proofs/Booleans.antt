@@ -1,6 +1,6 @@
 -- What a test says of its parts.
-use Rattle.std.proofs.Common.{◌≡◌, Bool, true, false, cond, refl, inl, inr, ◌⊎◌}
-use Rattle.std.specs.Prelude.{not, ◌&&◌, ◌||◌}
+use Rattle.std.proofs.Common.{ℕ, ◌≡◌, Bool, true, false, cond, refl, inl, inr, ◌⊎◌}
+use Rattle.std.specs.Prelude.{not, ◌&&◌, ◌||◌, ◌↔◌}
 
 -- both of two tests hold
 pub both : (a b : Bool) → (a && b) ≡ true → (a ≡ true) × (b ≡ true)
@@ -61,3 +61,16 @@ same_bool false false up down = refl
 pub tested : {A : Type 0} (b : Bool) (x y z : A) → cond b x y ≡ z → ((b ≡ true) × (x ≡ z)) ⊎ ((b ≡ false) × (y ≡ z))
 tested true x y z e = inl (refl, e)
 tested false x y z e = inr (refl, e)
+
+-- whichever a test says
+pub either : (b : Bool) {P : Type 0} → (b ≡ true → P) → (b ≡ false → P) → P
+either true f g = f refl
+either false f g = g refl
+
+-- one fact exactly where another, and that exactly where a third
+pub through : {P Q R : Type 0} → (P ↔ Q) → (Q ↔ R) → P ↔ R
+through f g = (λ p. g.0 (f.0 p), λ r. f.1 (g.1 r))
+
+-- one where a test passes, and none else
+abbrev pub one_if : Bool → ℕ
+one_if b = cond b 1 0

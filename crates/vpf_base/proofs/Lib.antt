@@ -3,3 +3,5 @@ pub mod Results
 pub mod Lists
 pub mod ByteLists
 pub mod Digits
+pub mod NumberLemmas
+pub mod Options

@@ -1,6 +1,7 @@
 -- What a result says of the steps that it came from.
-use Rattle.std.proofs.Common.{◌≡◌, Bool, true, false, cond, Result, Ok, Err, refl}
+use Rattle.std.proofs.Common.{◌≡◌, Bool, true, false, cond, Result, Ok, Err, refl, rules}
 use Rattle.vpf_base.specs.Results.{◌>>=◌}
+use Rattle.std.specs.Prelude.{IfOk}
 
 -- a value, as the result of a step that may fail
 abbrev pub done : {A E : Type 0} → A → Result A E
@@ -41,3 +42,8 @@ guarded true p r y e = absurd cc
 pub bind_ok : {A B E : Type 0} (r : Result A E) (f : A → Result B E) (y : B) → (r >>= f) ≡ Ok y → (x : A) × (r ≡ Ok x) × (f x ≡ Ok y)
 bind_ok (Ok x) f y e = (x, refl, e)
 bind_ok (Err p) f y e = absurd cc
+
+-- what is so of a value is so of it in other words
+pub if_ok_more : {V E : Type 0} (P Q : V → Type 0) (r : Result V E) → ((v : V) → P v → Q v) → IfOk r P → IfOk r Q
+if_ok_more P Q (Ok v) more h = more v h
+if_ok_more P Q (Err x) more h = search rules

@@ -9,7 +9,7 @@ use Rattle.vpf_theme.specs.Agreeing.{scan_of}
 use Rattle.vpf_theme.specs.Findings.{cells_of}
 use Rattle.vpf_select.specs.Selecting.{selected}
 use Rattle.vpf_select.specs.Words.{value_in}
-use Rattle.vpf_calling.specs.Having.{having_at, word_value}
+use Rattle.vpf_calling.specs.Inner.Having.{having_at, word_value}
 
 -- what a word says in a column that is there
 pub word_said : (g : Grid) (c : ℕ) (word : List ℕ) (value : Option Value) → c < length g.head.columns → ((column : Col) → slice_get g.head.columns c ≡ Some column → value ≡ value_in column.kind column.count word)

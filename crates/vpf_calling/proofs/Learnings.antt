@@ -1,5 +1,5 @@
 -- What a caller learns, error by error.
-use Rattle.std.proofs.Common.{◌≡◌, ℕ, None, Result, Ok, Err, refl, sym, ap, subst, ◌∙◌}
+use Rattle.std.proofs.Common.{◌≡◌, ℕ, List, None, Result, Ok, Err, refl, sym, ap, subst, ◌∙◌}
 use Rattle.std.specs.Prelude.{IsErrOf}
 use Rattle.vpf_triplet.specs.Results.{Told}
 use Rattle.vpf_findings.specs.Firsts.{Tells}
@@ -7,13 +7,14 @@ use Rattle.vpf_findings.specs.declared.errors.FindError.{FindError}
 use Rattle.vpf_findings.specs.declared.errors.FindError.TheVariants as errors
 use Rattle.vpf_prims.specs.Coverages.{CoverageTables}
 use Rattle.vpf_numbers.specs.TableLines.{coverage_numbers}
+use Rattle.vpf_source.specs.declared.file.File.{File}
 use Rattle.vpf_library_files.specs.Loading.Loading.{LoadedCoverage, Read, loaded_read, stop_seen}
 use Rattle.vpf_library_files.specs.declared.loading.loading.LoadStop.{LoadStop}
 use Rattle.vpf_library_files.specs.declared.loading.loading.LoadStop.TheVariants as stops
 use Rattle.vpf_cross.specs.CrossFinding.{topology_finding}
 use Rattle.vpf_calling.specs.declared.cycles.Unknown.{Unknown}
 use Rattle.vpf_calling.specs.declared.cycles.Unknown.TheVariants as unknown
-use Rattle.vpf_calling.specs.Learning.{IsUnfound, IsUnread, Learns}
+use Rattle.vpf_calling.specs.Inner.Learning.{IsUnfound, IsUnread, Learns}
 
 -- the check of the topology stopped
 pub unchecked : (V : Type 0) (c : CoverageTables) (error : FindError) (why : Unknown) → IsUnfound error why → coverage_numbers c ≡ None → Tells {V = V} (Err error) (topology_finding c) → Learns c (Err why)
@@ -32,3 +33,7 @@ unloaded c n (stops.Place name place) why read by told is = unread_by c n (stops
 unloaded c n (stops.Limit name limit) why read by told is = unread_by c n (stops.Limit name limit) why read told is
 unloaded c n (stops.Finding name own) why read by told is = unread_by c n (stops.Finding name own) why read told is
 unloaded c n (stops.Varies name) why read by told is = unread_by c n (stops.Varies name) why read told is
+
+-- the load is done: then a coverage is read
+pub not_stopped : (stop : LoadStop) (n : ℕ) (files : List File) (read : Read LoadedCoverage) → loaded_read read ≡ Ok files → read ≡ (Err stop, n) → ⊥
+not_stopped stop n files read told is = let bad : loaded_read read ≡ Err stop = ap loaded_read is in cc

@@ -1,2 +1,1 @@
-pub mod Learning
-pub mod Having
+pub mod Inner

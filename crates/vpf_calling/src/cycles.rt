@@ -1,12 +1,13 @@
 //! The boundary cycles of a coverage that agrees.
 
-ghost use Rattle.std.specs.Prelude.{◌≡◌, ℕ, IsErrOf, Ok, Some};
+ghost use Rattle.std.specs.Prelude.{◌≡◌, ℕ, Err, IsErr, IsErrOf, Ok, Some};
 ghost use Rattle.vpf_source.specs.Causes.{Rose, Stood};
 ghost use Rattle.vpf_source.specs.Files.{Files};
 ghost use Rattle.vpf_prims.specs.Coverages.{CoverageTables};
 ghost use Rattle.vpf_library_files.specs.Loading.Holding.{AreCoverageFiles, AreOfCoverage};
 ghost use Rattle.vpf_library_files.specs.Loading.Loading.{LoadedCoverage, read_coverage};
-ghost use Rattle.vpf_calling.specs.Learning.{IsUnread, Learns};
+ghost use Rattle.vpf_library_files.specs.declared.loading.loading.LoadStop.{LoadStop as Stopped};
+ghost use Rattle.vpf_calling.specs.Inner.Learning.{IsUnread, Learns};
 
 use std::alloc::{AllocError, Global};
 use vpf_coverage::open_coverage;
@@ -40,7 +41,7 @@ impl From<AllocError> for Unknown {
 }
 
 impl From<FindError<'_>> for Unknown {
-    ghost use Rattle.vpf_calling.specs.Learning.{IsUnfound};
+    ghost use Rattle.vpf_calling.specs.Inner.Learning.{IsUnfound};
 
     ghost from_gives = { IsUnfound };
 
@@ -87,6 +88,9 @@ pub fn count_cycles<T: Tree>(
     // Of the coverage that the tree holds this is learned.
     ensures learned { (files : Files) → T.files tree.old ≡ Some files
         → (c : LoadedCoverage) (n : ℕ) → read_coverage files lib.now cov.now 0 ≡ (Ok c, n) → Learns c.coverage result }
+    // Where it holds none, nothing is counted.
+    ensures unread { (files : Files) → T.files tree.old ≡ Some files
+        → (stop : Stopped) (n : ℕ) → read_coverage files lib.now cov.now 0 ≡ (Err stop, n) → IsErr result }
     // A fault is told exactly where a call of the tree failed.
     ensures fault { IsErrOf result Unknown.Fault → Rose (T.faults tree.old) (T.faults tree.new) }
     ensures stood { ¬ IsErrOf result Unknown.Fault → Stood (T.faults tree.old) (T.faults tree.new) }

@@ -3,7 +3,7 @@
 ghost use Rattle.std.specs.Prelude.{◌≡◌, ◌<◌, IfOk, length};
 ghost use Rattle.std.specs.Option.{option_map};
 ghost use Rattle.vpf_table.specs.Reading.{table_of};
-ghost use Rattle.vpf_calling.specs.Having.{having_in, having_at, rows_having};
+ghost use Rattle.vpf_calling.specs.Inner.Having.{having_in, having_at, rows_having};
 
 use std::alloc::{AllocError, Global};
 use vpf_select::{SelectError, Test, select_rows, value_in};

@@ -11,10 +11,10 @@ use Rattle.vpf_library_files.specs.Tileref.Stops.{path_texts}
 use Rattle.vpf_library_files.specs.Tileref.Tileref.{name_column, paths_of, row_path}
 use Rattle.vpf_library_files.specs.Loading.Loading.{within}
 use Rattle.vpf_library_files.specs.Loading.Holding.{AreCoverageFiles, AreTiledFiles, AreTilesFiles, AreUntiledFiles}
-use Rattle.vpf_library_files.specs.Loading.Laws.{FilesAreLibraries}
+use Rattle.vpf_library_files.specs.Inner.Loading.Laws.{FilesAreLibraries}
 use Rattle.vpf_coverage.specs.declared.opening.opening.OpenCoverage.{OpenCoverage}
-use Rattle.vpf_coverage.specs.Opening.Opened.{opened_coverage}
-use Rattle.vpf_coverage.specs.Opened.{HasCountedTiles}
+use Rattle.vpf_coverage.specs.Inner.Opening.Opened.{opened_coverage}
+use Rattle.vpf_coverage.specs.Inner.Opened.{HasCountedTiles}
 
 -- as many tiles as paths
 tiles_by_paths : (folder : List ℕ) (at : ℕ) (paths : List (List ℕ)) (tiles : List (Option TileTables)) (files : List File) → AreTilesFiles folder at paths tiles files → length tiles ≡ length paths

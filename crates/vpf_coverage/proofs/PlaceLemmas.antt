@@ -4,12 +4,12 @@ use Rattle.std.specs.Option.{option_map}
 use Rattle.vpf_prims.specs.declared.views.PrimitiveViews.{PrimitiveViews}
 use Rattle.vpf_prims.specs.Reading.{PrimitiveTables}
 use Rattle.vpf_prims.specs.Tables.{TileTables}
-use Rattle.vpf_prims.specs.Views.{tables_in_view}
+use Rattle.vpf_prims.specs.Inner.Views.{tables_in_view}
 use Rattle.vpf_prims.specs.Coverages.{tile_at}
 use Rattle.vpf_numbers.specs.Around.{Around, around_of, tables_around}
 use Rattle.vpf_coverage.specs.declared.opening.opening.OpenCoverage.{OpenCoverage}
-use Rattle.vpf_coverage.specs.Opening.Opened.{opened_coverage, placed_view, placed_views}
-use Rattle.vpf_coverage.specs.Opened.{IsPlaced}
+use Rattle.vpf_coverage.specs.Inner.Opening.Opened.{opened_coverage, placed_view, placed_views}
+use Rattle.vpf_coverage.specs.Inner.Opened.{IsPlaced}
 
 -- what stands at a number
 pub placed_at : (firsts : List ℕ) (tiles : List (Option PrimitiveViews)) (t : ℕ) → length firsts ≡ length tiles

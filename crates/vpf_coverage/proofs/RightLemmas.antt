@@ -5,7 +5,7 @@ use Rattle.vpf_findings.specs.declared.errors.FindError.{FindError}
 use Rattle.vpf_findings.specs.declared.errors.FindError.TheVariants as errors
 use Rattle.vpf_findings.specs.Findings.{Disagreement, disagreement_of}
 use Rattle.vpf_findings.specs.Firsts.{◌or◌, Tells, first_over}
-use Rattle.vpf_findings.specs.FirstLaws.{over_pass, over_stop, over_end}
+use Rattle.vpf_findings.specs.Inner.FirstLaws.{over_pass, over_stop, over_end}
 use Rattle.vpf_prims.specs.declared.views.PrimitiveViews.{PrimitiveViews}
 use Rattle.vpf_prims.specs.declared.views.TileColumns.{TileColumns}
 use Rattle.vpf_prims.specs.Coverages.{last_tile, tile_at}
@@ -13,8 +13,8 @@ use Rattle.vpf_prims.specs.Libraries.{in_tile, in_tiles}
 use Rattle.vpf_numbers.specs.Around.{around_of}
 use Rattle.vpf_numbers.specs.TableLines.{coverage_numbers, numbers_finding}
 use Rattle.vpf_coverage.specs.declared.opening.opening.OpenCoverage.{OpenCoverage}
-use Rattle.vpf_coverage.specs.Opening.Opened.{opened_coverage}
-use Rattle.vpf_coverage.specs.Opened.{AreAllRight, AreRightIn, HasCountedTiles, IsPlaced}
+use Rattle.vpf_coverage.specs.Inner.Opening.Opened.{opened_coverage}
+use Rattle.vpf_coverage.specs.Inner.Opened.{AreAllRight, AreRightIn, HasCountedTiles, IsPlaced}
 use Rattle.vpf_coverage.proofs.PlaceLemmas.{placed_length}
 
 -- what is found in a tile

@@ -5,8 +5,8 @@ use Rattle.std.proofs.lemmas.List.Elements.{All-head, All-tail}
 use Rattle.vpf_prims.specs.declared.views.PrimitiveViews.{PrimitiveViews}
 use Rattle.vpf_prims.specs.declared.views.TileColumns.{TileColumns}
 use Rattle.vpf_prims.specs.Tables.{TileTables}
-use Rattle.vpf_coverage.specs.Opening.Opened.{placed_view, placed_views}
-use Rattle.vpf_coverage.specs.Opened.{AreAllRight, AreRightIn}
+use Rattle.vpf_coverage.specs.Inner.Opening.Opened.{placed_view, placed_views}
+use Rattle.vpf_coverage.specs.Inner.Opened.{AreAllRight, AreRightIn}
 
 placed_first : (first : ℕ) (firsts : List ℕ) (views : Option PrimitiveViews) (tiles : List (Option PrimitiveViews))
     → placed_views (first ∷ firsts) (views ∷ tiles) ≡ placed_view first views ∷ placed_views firsts tiles

@@ -1,3 +1,1 @@
-pub mod Opened
-pub mod Coverages
-pub mod Opening
+pub mod Inner

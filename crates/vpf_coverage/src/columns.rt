@@ -6,8 +6,8 @@ ghost use Rattle.vpf_prims.specs.Coverages.{tile_at};
 ghost use Rattle.vpf_prims.specs.Libraries.{in_tile};
 ghost use Rattle.vpf_numbers.specs.Around.{around_of};
 ghost use Rattle.vpf_numbers.specs.TableLines.{coverage_numbers, numbers_finding};
-ghost use Rattle.vpf_coverage.specs.Opening.Opened.{opened_coverage};
-ghost use Rattle.vpf_coverage.specs.Opened.{AreAllRight, AreRightIn, HasCountedTiles, IsPlaced};
+ghost use Rattle.vpf_coverage.specs.Inner.Opening.Opened.{opened_coverage};
+ghost use Rattle.vpf_coverage.specs.Inner.Opened.{AreAllRight, AreRightIn, HasCountedTiles, IsPlaced};
 
 use crate::opening::{OpenCoverage, views_at};
 use std::alloc::Global;

@@ -5,8 +5,8 @@ ghost use Rattle.vpf_findings.specs.Firsts.{Tells};
 ghost use Rattle.vpf_prims.specs.Coverages.{CoverageTables};
 ghost use Rattle.vpf_library_files.specs.Loading.Holding.{AreCoverageFiles, AreOfCoverage};
 ghost use Rattle.vpf_numbers.specs.TableLines.{coverage_numbers};
-ghost use Rattle.vpf_coverage.specs.Opening.Opened.{opened_coverage};
-ghost use Rattle.vpf_coverage.specs.Opened.{HasCountedTiles, IsPlaced};
+ghost use Rattle.vpf_coverage.specs.Inner.Opening.Opened.{opened_coverage};
+ghost use Rattle.vpf_coverage.specs.Inner.Opened.{HasCountedTiles, IsPlaced};
 
 use crate::columns::columns_of;
 use crate::opening::{OpenCoverage, open_files};
@@ -31,7 +31,7 @@ impl<'a> Model for Coverage<'a> {
 
     ghost Value = { CoverageTables };
 
-    ghost use Rattle.vpf_coverage.specs.Coverages.{IsCoverage, coverage_of};
+    ghost use Rattle.vpf_coverage.specs.Inner.Coverages.{IsCoverage, coverage_of};
 
     ghost view = { coverage_of };
 

@@ -1,8 +1,8 @@
 //! The tiles of tables whose columns are known.
 
 ghost use Rattle.std.specs.Prelude.{◌≡◌, ◌<◌, ◌^◌, All, IfOk, IfSome, List, length};
-ghost use Rattle.vpf_coverage.specs.Opening.Opened.{placed_view, placed_views};
-ghost use Rattle.vpf_coverage.specs.Opened.{AreAllRight, AreRightIn};
+ghost use Rattle.vpf_coverage.specs.Inner.Opening.Opened.{placed_view, placed_views};
+ghost use Rattle.vpf_coverage.specs.Inner.Opened.{AreAllRight, AreRightIn};
 
 use std::alloc::{AllocError, Global};
 use vpf_prims::{PrimitiveViews, Tile, TileColumns};

@@ -1,28 +1,26 @@
 -- What is so of each dart where nothing disagrees in what follows darts, and in home copies.
-use Rattle.std.proofs.Common.{◌≡◌, ℕ, zero, suc, ◌+◌, ◌^◌, ◌<◌, ◌≤◌, Bool, true, false, eqb, Option, Some, None, List, [], ◌∷◌, length, get_or, refl, sym, ap, subst, ◌∙◌, arith, inl, inr}
+use Rattle.std.proofs.Common.{[], ◌≡◌, ℕ, zero, suc, ◌+◌, ◌<◌, ◌≤◌, Bool, true, false, eqb, Option, Some, None, List, ◌∷◌, length, get_or, refl, sym, ap, subst, ◌∙◌, arith}
 use Rattle.std.specs.Prelude.{if◌then◌else◌}
-use Rattle.std.proofs.lemmas.Bool.{and_parts, cases_eq, eqb-true}
+use Rattle.std.proofs.lemmas.Bool.{eqb-true}
 use Rattle.vpf_darts.specs.Darts.{code, tile_in, edge_in, sign_in, sign_of, flip}
-use Rattle.vpf_findings.specs.FirstLaws.{or-none_both}
+use Rattle.vpf_findings.specs.Inner.FirstLaws.{or-none_both, unless_none}
 use Rattle.vpf_prims.specs.Coverages.{CoverageTables, tile_at, last_tile}
-use Rattle.vpf_prims.specs.Lists.{kth}
 use Rattle.vpf_prims.specs.Numbering.{IsRowOf}
-use Rattle.vpf_prims.specs.Primitives.{EdgePrimitive, absent_edge, edge_count, edges_in}
+use Rattle.vpf_prims.specs.Primitives.{edge_count, edges_in}
 use Rattle.vpf_prims.specs.Reading.{primitives_of}
 use Rattle.vpf_prims.specs.Tables.{TileTables}
-use Rattle.vpf_wing.specs.Links.{DartLinks, Link, beyond_of, face_by, is_minus, link_of}
+use Rattle.vpf_wing.specs.Links.{DartLinks, is_minus}
 use Rattle.vpf_follow.specs.FollowLines.{follow_line, follow_line_at, follow_lines, follows_finding}
-use Rattle.vpf_follow.specs.Following.{beyond_tile, follow, home_copy, is_far_face, is_outside}
-use Rattle.vpf_follow.specs.Homes.{HasFewEdges}
+use Rattle.vpf_follow.specs.Following.{follow, home_copy, is_outside}
+use Rattle.vpf_follow.specs.Inner.Homes.{HasFewEdges}
 use Rattle.vpf_prims.specs.Libraries.{in_tiles, library_of, primitives_in}
-use Rattle.vpf_cross.specs.Copies.{FacesAreElsewhere}
+use Rattle.vpf_cross.specs.Inner.Copies.{FacesAreElsewhere}
 use Rattle.vpf_cross.specs.HomeLines.{copies_lines, coverage_links, home_flip_line, home_lines, homes_finding, outside_lines}
 use Rattle.vpf_cross.proofs.CopyLemmas.{HaveCopies}
 use Rattle.vpf_cross.proofs.DartLists.{IsOfTiles, parts-code, sign-small}
 use Rattle.vpf_cross.proofs.DartLists as darts
-use Rattle.vpf_cross.proofs.LinkLemmas.{face_at}
 use Rattle.vpf_cross.proofs.LoopLemmas.{no_edge, no_tile}
-use Rattle.vpf_cross.proofs.NumberLemmas.{unless_none}
+use Rattle.vpf_follow.specs.Inner.FollowLaws.{outside_has}
 
 -- the tile of a dart, and its edge there
 pub record IsThere (c : CoverageTables) (d : ℕ) : Type 0 where
@@ -53,9 +51,6 @@ dart-code d = ap (code (tile_in d) (edge_in d)) (sign_at (sign_in d) (sign-small
 if_none : {F : Type 0} (b : Bool) (o : Option F) → b ≡ true → (if b then o else None) ≡ None → o ≡ None
 if_none true o t h = h
 if_none false o t h = absurd cc
-
-pub outside_has : (C : DartLinks) (d : ℕ) → is_outside C d ≡ true → C.has d ≡ true
-outside_has C d h = (and_parts (C.has d) (is_far_face (C.face d)) h).0
 
 outside_line : (c : CoverageTables) (t : ℕ) (T : TileTables) (k : ℕ) (m : Bool) → copies_lines c t T k ≡ None → outside_lines c t T k m ≡ None
 outside_line c t T k false h = (or-none_both (outside_lines c t T k false) (outside_lines c t T k true) h).0

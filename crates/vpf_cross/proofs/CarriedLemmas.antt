@@ -5,7 +5,7 @@ use Rattle.std.proofs.lemmas.List.{length-map}
 use Rattle.vpf_triplet.specs.declared.triplets.Triplet.{Triplet}
 use Rattle.vpf_table.specs.Grid.{Row, Grid}
 use Rattle.vpf_findings.specs.Firsts.{unless}
-use Rattle.vpf_findings.specs.FirstLaws.{over_pass, over_stop, over_end}
+use Rattle.vpf_findings.specs.Inner.FirstLaws.{over_pass, over_stop, over_end}
 use Rattle.vpf_prims.specs.Columns.{in_table}
 use Rattle.vpf_prims.specs.Coverages.{CoverageTables, tile_at}
 use Rattle.vpf_prims.specs.Lists.{kth}

@@ -1,7 +1,6 @@
 -- The columns and cells without a role, one after another.
-use Rattle.std.proofs.Common.{◌≡◌, ℕ, zero, suc, ◌+◌, ◌-◌, ◌<◌, ◌≤◌, Bool, true, false, Option, Some, None, List, [], ◌∷◌, length, map, drop, get_or, add-one, refl, sym, ap, ◌∙◌, arith, inl, inr}
+use Rattle.std.proofs.Common.{[], ◌≡◌, ℕ, zero, suc, ◌+◌, ◌-◌, ◌<◌, ◌≤◌, Bool, true, false, Option, Some, None, List, ◌∷◌, length, drop, add-one, refl, sym, ap, ◌∙◌, arith, inl, inr}
 use Rattle.std.specs.Prelude.{◌↔◌, IsTrue, slice_get}
-use Rattle.std.specs.List.{list_any}
 use Rattle.std.proofs.Math.Seq.{drop-cons}
 use Rattle.std.proofs.lemmas.Bool.{cases_lt}
 use Rattle.std.proofs.lemmas.Option.{get_or_from_slice_get}
@@ -9,10 +8,9 @@ use Rattle.vpf_value.specs.Values.{Value, TextOf}
 use Rattle.vpf_head.specs.Head.{Col}
 use Rattle.vpf_table.specs.Grid.{Row, Grid}
 use Rattle.vpf_findings.specs.Firsts.{◌or◌}
-use Rattle.vpf_prims.specs.declared.roles.Role.{Role as LentRole}
 use Rattle.vpf_prims.specs.Lists.{kth}
 use Rattle.vpf_prims.specs.Numbering.{IsRowOf}
-use Rattle.vpf_prims.specs.Roles.{Role, role_of}
+use Rattle.vpf_prims.specs.Roles.{Role}
 use Rattle.vpf_prims.specs.Reading.{carried_in, has_role}
 use Rattle.vpf_prims.specs.Suiting.{carried_columns}
 use Rattle.vpf_cross.specs.Carrying.{CarryNone, Difference, IsNextCarried, carried_at, cell_difference, first_difference}
@@ -31,15 +29,6 @@ pub none_there : (cs : List Col) (xs : List Value) → first_difference cs xs []
 none_there [] xs = refl
 none_there (c ∷ cs) [] = refl
 none_there (c ∷ cs) (x ∷ xs) = refl
-
--- a role passes the test
-pub any_found : (p : Role → Bool) (roles : List LentRole) (i : ℕ) (d : LentRole) → i < length roles → p (role_of (get_or roles i d)) ≡ true → list_any p (map role_of (drop i roles)) ≡ true
-any_found p roles i d h is = rw (drop-cons roles i d, is) refl
-
--- a role doesn't
-pub any_passed : (p : Role → Bool) (roles : List LentRole) (i : ℕ) (d : LentRole) → i < length roles → p (role_of (get_or roles i d)) ≡ false
-    → list_any p (map role_of (drop (i + 1) roles)) ≡ list_any p (map role_of (drop i roles))
-any_passed p roles i d h is = rw (drop-cons roles i d, is, add-one) refl
 
 -- a column without a role is carried
 pub columns_found : (roles : List Role) (columns : List Col) (c : ℕ) (column : Col) → c < length columns → slice_get columns c ≡ Some column → has_role roles column ≡ false
@@ -78,11 +67,6 @@ cells_end roles columns row c h = rw (drop_past columns c h) refl
 
 pub columns_end : (roles : List Role) (columns : List Col) (c : ℕ) → length columns ≤ c → carried_columns roles (drop c columns) ≡ []
 columns_end roles columns c h = rw (drop_past columns c h) refl
-
--- the item of a number
-pub item_found : {X : Type 0} (xs : List X) (k : ℕ) (d x : X) → 1 ≤ k → slice_get xs (k - 1) ≡ Some x → kth xs k d ≡ x
-item_found xs zero d x low some = absurd (omega arith)
-item_found xs (suc k) d x low some = let e : suc k - 1 ≡ k = omega arith in get_or_from_slice_get xs k x d (rw e at some)
 
 -- there is none past the end
 pub item_past : {X : Type 0} (xs : List X) (k : ℕ) (d : X) → length xs < k → kth xs k d ≡ d

@@ -7,9 +7,10 @@ use Rattle.vpf_darts.specs.Darts.{code, tile_in, flip}
 use Rattle.vpf_prims.specs.Primitives.{Library, edge_count}
 use Rattle.vpf_wing.specs.Links.{Beyond, DartLinks, links_of, only}
 use Rattle.vpf_follow.specs.Following.{beyond_tile, is_far_face, is_home, is_outside, is_named, face_name, same_beyond, follow, follow_to, follows_to, first_home, home_copy}
-use Rattle.vpf_cross.specs.Copies.{FacesAreElsewhere}
+use Rattle.vpf_cross.specs.Inner.Copies.{FacesAreElsewhere}
 use Rattle.vpf_cross.specs.RoundLines.{copy_in_tile}
-use Rattle.vpf_cross.proofs.DartLists.{Among, find_found, find_missed, darts_are, darts_hold, flip-flip}
+use Rattle.vpf_cross.proofs.DartLists.{Among, find_found, find_missed, darts_are, darts_hold}
+use Rattle.vpf_wing.specs.Inner.DartLaws.{flip-flip}
 
 -- the one of two darts that passes
 only_at : (p : ℕ → Bool) (d z : ℕ) (a b : Bool) → p d ≡ a → p (flip d) ≡ b

@@ -10,10 +10,10 @@ use Rattle.vpf_prims.specs.Numbering.{IsRowOf}
 use Rattle.vpf_prims.specs.Reading.{primitives_of}
 use Rattle.vpf_prims.specs.Tables.{TileTables}
 use Rattle.vpf_follow.specs.Following.{dart_numbered, number_seen}
-use Rattle.vpf_follow.specs.Homes.{IsDartIn}
+use Rattle.vpf_follow.specs.Inner.Homes.{IsDartIn}
 use Rattle.vpf_prims.specs.Libraries.{library_of}
 use Rattle.vpf_cross.proofs.AgreeLemmas.{tile_within}
-use Rattle.vpf_cross.proofs.DartLists.{flip-has}
+use Rattle.vpf_wing.specs.Inner.DartLaws.{flip-has}
 use Rattle.vpf_cross.proofs.LinkLemmas.{edge-code, flip-code, minus-code, tile-code}
 use Rattle.vpf_cross.proofs.NextLemmas.{has_code}
 

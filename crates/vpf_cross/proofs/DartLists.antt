@@ -1,8 +1,8 @@
 -- The darts of a library in their order, and what is found first among them.
-use Rattle.std.proofs.Common.{◌≡◌, ◌⊎◌, ℕ, zero, suc, ◌^◌, ◌<◌, ◌≤◌, Bool, true, false, cond, ◌&&◌, leb, Some, None, List, [], ◌∷◌, ◌++◌, refl, sym, subst, arith, inl, inr}
+use Rattle.std.proofs.Common.{[], ◌≡◌, ◌⊎◌, ℕ, zero, suc, ◌^◌, ◌<◌, ◌≤◌, Bool, true, false, cond, ◌&&◌, leb, Some, None, List, ◌∷◌, ◌++◌, refl, sym, subst, arith, inl, inr}
 use Rattle.std.specs.Prelude.{find}
 use Rattle.std.proofs.lemmas.Bool.{cases_eq, and_parts, and_from, leb-true, le-leb}
-use Rattle.vpf_darts.specs.Darts.{code, tile_in, edge_in, sign_in, flip}
+use Rattle.vpf_darts.specs.Darts.{code, tile_in, edge_in, sign_in}
 use Rattle.vpf_prims.specs.Primitives.{Library, edge_count}
 use Rattle.vpf_wing.specs.Links.{links_of, row_darts, tile_darts}
 use Rattle.vpf_cross.proofs.LinkLemmas.{tile-code, edge-code}
@@ -159,25 +159,3 @@ darts_are L few d h = has_from L d (in_tiles_darts (edge_count L) L.last d few h
 
 pub darts_hold : (L : Library) (d : ℕ) → (links_of L).has d ≡ true → Among (links_of L).darts d
 darts_hold L d h = from_tiles_darts (edge_count L) L.last d (there L d h)
-
-pub tile-flip : (x : ℕ) → tile_in (flip x) ≡ tile_in x
-unfolding tile_in flip
-tile-flip x = omega arith
-
-pub edge-flip : (x : ℕ) → edge_in (flip x) ≡ edge_in x
-unfolding edge_in flip
-edge-flip x = omega arith
-
-pub flip-flip : (x : ℕ) → flip (flip x) ≡ x
-unfolding flip
-flip-flip x = omega arith
-
--- the other dart of an edge is a dart
-pub flip-has : (L : Library) (x : ℕ) → (links_of L).has x ≡ true → (links_of L).has (flip x) ≡ true
-flip-has L x h =
-    let i : IsOfTiles (edge_count L) L.last x = there L x h in
-    has_from L (flip x) (record {
-      from_one = subst (λ e. 1 ≤ e) (sym (edge-flip x)) i.from_one;
-      to_count = subst (λ t. edge_in (flip x) ≤ edge_count L t) (sym (tile-flip x)) (subst (λ e. e ≤ edge_count L (tile_in x)) (sym (edge-flip x)) i.to_count);
-      to_last = subst (λ t. t ≤ L.last) (sym (tile-flip x)) i.to_last;
-    })

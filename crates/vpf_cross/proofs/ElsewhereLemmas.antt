@@ -1,15 +1,16 @@
 -- Faces of other tiles are in other tiles.
-use Rattle.std.proofs.Common.{◌≡◌, ℕ, Bool, true, false, Option, Some, None, refl, sym, ap, ◌∙◌}
+use Rattle.std.proofs.Common.{◌≡◌, ℕ, Option, Some, None, refl}
 use Rattle.vpf_darts.specs.Darts.{tile_in, edge_in}
 use Rattle.vpf_prims.specs.Coverages.{CoverageTables}
 use Rattle.vpf_prims.specs.Libraries.{library_of}
 use Rattle.vpf_prims.specs.Primitives.{face_count}
-use Rattle.vpf_wing.specs.Links.{Beyond, edge_of_dart, face_by, is_minus, link_of, links_of}
-use Rattle.vpf_follow.specs.Following.{beyond_tile, is_outside}
-use Rattle.vpf_cross.specs.Copies.{FacesAreElsewhere}
+use Rattle.vpf_wing.specs.Links.{Beyond, edge_of_dart, face_by, is_minus}
+use Rattle.vpf_follow.specs.Following.{beyond_tile}
+use Rattle.vpf_cross.specs.Inner.Copies.{FacesAreElsewhere}
 use Rattle.vpf_cross.specs.HomeLines.{coverage_links}
-use Rattle.vpf_cross.specs.Laws.{AreNumbered}
-use Rattle.vpf_cross.proofs.AgreeLemmas.{is_there, outside_has}
+use Rattle.vpf_cross.specs.Inner.Laws.{AreNumbered}
+use Rattle.vpf_cross.proofs.AgreeLemmas.{is_there}
+use Rattle.vpf_follow.specs.Inner.FollowLaws.{outside_has}
 use Rattle.vpf_cross.proofs.LawNumbered.{GoesOn, dart_row, face_named, face_on}
 
 beyond_some : (o : Option Beyond) (t : ℕ) → beyond_tile o ≡ Some t → (p : Beyond) × (o ≡ Some p) × (p.tile ≡ t)

@@ -24,10 +24,10 @@ use Rattle.vpf_prims.specs.Tables.{TileTables, at_citation, cited_cell, edg_at}
 use Rattle.vpf_wing.specs.Links.{DartLinks}
 use Rattle.vpf_follow.specs.FollowLines.{at_wing_of}
 use Rattle.vpf_follow.specs.Following.{home_copy, number_seen}
-use Rattle.vpf_follow.specs.Homes.{IsDartIn}
+use Rattle.vpf_follow.specs.Inner.Homes.{IsDartIn}
 use Rattle.vpf_follow.specs.SideLines.{face_citation}
 use Rattle.vpf_cross.specs.Carrying.{Difference, carried_at, first_difference}
-use Rattle.vpf_cross.specs.Laws.{AreNumbered}
+use Rattle.vpf_cross.specs.Inner.Laws.{AreNumbered}
 use Rattle.vpf_cross.specs.HomeLines.{coverage_links, home_carried_line, home_flip_line, home_lines, home_mark_line, home_sign_line, mark_seen}
 use Rattle.vpf_cross.proofs.AgreeLemmas.{is_there}
 use Rattle.vpf_cross.proofs.CarriedLemmas.{at_number}

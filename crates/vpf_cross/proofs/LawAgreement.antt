@@ -1,29 +1,29 @@
 -- Where its numbers are right, there is no finding on the topology of a coverage exactly where it agrees.
 use Rattle.std.proofs.Common.{◌≡◌, ◌↔◌, ℕ, true, false, sym, ap, ◌∙◌, inl, inr, Option, Some, None}
 use Rattle.std.proofs.lemmas.Bool.{cases_Bool}
-use Rattle.vpf_darts.specs.Laws.{DartLiesOnCycle}
+use Rattle.vpf_darts.specs.Inner.Laws.{DartLiesOnCycle}
 use Rattle.vpf_findings.specs.Findings.{Disagreement}
 use Rattle.vpf_findings.specs.Firsts.{◌or◌}
-use Rattle.vpf_findings.specs.FirstLaws.{or-none_both}
+use Rattle.vpf_findings.specs.Inner.FirstLaws.{or-none_both}
 use Rattle.vpf_prims.specs.Primitives.{Library, has_tables}
 use Rattle.vpf_prims.specs.Tables.{TileTables}
 use Rattle.vpf_prims.specs.Coverages.{CoverageTables, tile_at}
 use Rattle.vpf_wing.specs.CycleLines.{loops_finding, cycles_finding}
 use Rattle.vpf_wing.specs.WellFormed.{HasCycles}
-use Rattle.vpf_wing.specs.Laws.{CyclesDecide}
+use Rattle.vpf_wing.specs.Inner.Laws.{CyclesDecide}
 use Rattle.vpf_prims.specs.Libraries.{IsLibrary, primitives_in, library_of, in_tiles}
 use Rattle.vpf_follow.specs.SideLines.{sides_finding}
 use Rattle.vpf_follow.specs.FollowLines.{follows_finding}
 use Rattle.vpf_follow.specs.Sided.{HasSides, HasFollowers}
-use Rattle.vpf_follow.specs.Laws.{SidesDecide, FollowersDecide, TileLoopsDecide, HomesExist}
-use Rattle.vpf_wing.specs.DartLaws.{never_both}
-use Rattle.vpf_follow.specs.TileLaws.{or-silent, tile-below, tiles-none, tiles-silent}
+use Rattle.vpf_follow.specs.Inner.Laws.{SidesDecide, FollowersDecide, TileLoopsDecide, HomesExist}
+use Rattle.vpf_wing.specs.Inner.DartLaws.{never_both}
+use Rattle.vpf_follow.specs.Inner.TileLaws.{or-silent, tile-below, tiles-none, tiles-silent}
 use Rattle.vpf_cross.specs.HomeLines.{coverage_links, homes_finding}
 use Rattle.vpf_cross.specs.RoundLines.{rounds_finding}
 use Rattle.vpf_cross.specs.CarriedLines.{carried_finding, inhabited_finding}
 use Rattle.vpf_cross.specs.CrossFinding.{across_finding, topology_finding_of, topology_finding}
 use Rattle.vpf_cross.specs.Agreeing.{HasHomes, AgreesAcross, LibraryAgrees}
-use Rattle.vpf_cross.specs.Laws.{AreWhole, AreNumbered, AgreementDecides}
+use Rattle.vpf_cross.specs.Inner.Laws.{AreWhole, AreNumbered, AgreementDecides}
 use Rattle.vpf_cross.proofs.LawNumbered.{tables_of_tile, tile_has_tables}
 use Rattle.vpf_cross.proofs.LawHomes.{homes_decide}
 use Rattle.vpf_cross.proofs.LawRounds.{rounds_decide}

@@ -1,14 +1,13 @@
 -- There is no finding on carried cells exactly where shared nodes and the universe carry the same everywhere.
-use Rattle.std.proofs.Common.{◌≡◌, ℕ, zero, suc, ◌+◌, ◌≤◌, Bool, true, not, refl, sym, ap, ◌∙◌, subst, inl, inr, arith, Option, Some, None, List, [], length}
+use Rattle.std.proofs.Common.{[], ◌≡◌, ℕ, ◌+◌, ◌≤◌, Bool, true, not, refl, sym, ap, ◌∙◌, subst, inl, inr, arith, Option, Some, None, List, length}
 use Rattle.std.specs.Option.{option_map, unwrap_or}
-use Rattle.std.proofs.lemmas.Bool.{cases_Bool}
 use Rattle.std.proofs.lemmas.List.{length-map}
 use Rattle.vpf_triplet.specs.declared.triplets.Triplet.{Triplet}
 use Rattle.vpf_head.specs.Head.{Col}
 use Rattle.vpf_darts.specs.Darts.{code, tile_in, edge_in, sign_of}
 use Rattle.vpf_findings.specs.Findings.{Disagreement}
 use Rattle.vpf_findings.specs.Firsts.{unless}
-use Rattle.vpf_findings.specs.FirstLaws.{or-none_both, option_map-none, over_none}
+use Rattle.vpf_findings.specs.Inner.FirstLaws.{or-none_both, option_map-none, over_none}
 use Rattle.vpf_prims.specs.Columns.{in_table}
 use Rattle.vpf_prims.specs.Lists.{kth}
 use Rattle.vpf_prims.specs.Primitives.{FacePrimitive, NodePrimitive, Library, absent_face, absent_node, faces_in, nodes_in, has_tables, node_count, face_count}
@@ -21,15 +20,16 @@ use Rattle.vpf_wing.specs.Links.{Beyond, links_of, edge_of_dart, is_minus, node_
 use Rattle.vpf_prims.specs.Libraries.{primitives_in, library_of, in_tiles}
 use Rattle.vpf_follow.specs.Libraries.{over_edges}
 use Rattle.vpf_follow.specs.SideLines.{node_citation}
-use Rattle.vpf_follow.specs.Homes.{HasFewEdges}
-use Rattle.vpf_wing.specs.DartLaws.{some-or-none, none_is_some, same_some, code-minus}
-use Rattle.vpf_follow.specs.TileLaws.{TileOfDart, dart-tile, DartOfEdge, edge-dart, tile-below, both_lines, or-silent, tiles-none, tiles-silent, darts-none, darts-silent}
+use Rattle.vpf_follow.specs.Inner.Homes.{HasFewEdges}
+use Rattle.vpf_wing.specs.Inner.DartLaws.{some-or-none, none_is_some, code-minus}
+use Rattle.vpf_follow.specs.Inner.TileLaws.{TileOfDart, dart-tile, DartOfEdge, edge-dart, tile-below, both_lines, or-silent, tiles-none, tiles-silent, darts-none, darts-silent}
 use Rattle.vpf_cross.specs.Carrying.{Difference, first_difference}
 use Rattle.vpf_cross.specs.CarriedLines.{node_carried, universe_carried, first_passing, first_tile, shared_node_line, head_node_line, universe_line, carried_finding}
 use Rattle.vpf_cross.specs.Agreeing.{AreCarried}
-use Rattle.vpf_cross.specs.Laws.{AreWhole, AreNumbered, CarriedDecides}
+use Rattle.vpf_cross.specs.Inner.Laws.{AreWhole, AreNumbered, CarriedDecides}
 use Rattle.vpf_cross.proofs.LawCells.{none_differ, none_for_same, carries, row_filled, row_said}
 use Rattle.vpf_cross.proofs.LawNumbered.{tables_of_tile, tile_has_tables, dart_row, GoesOn, reference_on, node_named}
+use Rattle.vpf_cross.specs.Inner.CarriedLaws.{passing_is}
 
 -- the columns of a tile's nodes and faces without a role
 abbrev node_cells : TileTables → List Col
@@ -63,14 +63,6 @@ universe_carries c whole s S t T es e low =
     ∙ ap (λ (x : FacePrimitive). length x.carried) (row_said face_in_row T.tables.fac absent_face 1 (omega arith) most)
     ∙ carries face_roles T.tables.fac.head.columns (kth T.tables.fac.rows 1 []) filled
     ∙ whole.faces t s T S e es
-
--- the first number that passes does
-passing_is : (p : ℕ → Bool) (k n s : ℕ) → first_passing p k n ≡ Some s → p s ≡ true
-passing_is p k zero s h = absurd (none_is_some s h)
-passing_is p k (suc n) s h = elim (cases_Bool (p k)) [
-  | inl t ↦ (let h' = rw t at h in let e : k ≡ s = same_some k s h' in subst (λ z. p z ≡ true) e t)
-  | inr f ↦ (let h' = rw f at h in passing_is p (suc k) n s h')
-]
 
 -- where a tile has tables, the first one that has them does
 first_has : (L : Library) (t : ℕ) → t ≤ L.last → has_tables L t ≡ true → has_tables L (first_tile L) ≡ true

@@ -9,14 +9,14 @@ use Rattle.vpf_head.specs.Head.{Col}
 use Rattle.vpf_table.specs.Grid.{Row, Grid}
 use Rattle.vpf_findings.specs.Findings.{CellSeen}
 use Rattle.vpf_findings.specs.Firsts.{unless}
-use Rattle.vpf_findings.specs.FirstLaws.{or-none_both}
+use Rattle.vpf_findings.specs.Inner.FirstLaws.{or-none_both}
 use Rattle.vpf_prims.specs.Lists.{kth}
 use Rattle.vpf_prims.specs.Roles.{Role}
 use Rattle.vpf_prims.specs.Reading.{carried_in, has_role, rows_said}
 use Rattle.vpf_prims.specs.Suiting.{carried_columns}
 use Rattle.vpf_theme.specs.Ordering.{same_value}
-use Rattle.vpf_theme.specs.KeyLaws.{Decides-same_value, same_yes}
-use Rattle.vpf_follow.specs.TileLaws.{unless-none, unless-true, or-silent}
+use Rattle.vpf_theme.specs.Inner.KeyLaws.{Decides-same_value, same_yes}
+use Rattle.vpf_follow.specs.Inner.TileLaws.{unless-none, unless-true, or-silent}
 use Rattle.vpf_cross.specs.Carrying.{Difference, first_difference}
 
 abbrev difference_at : Col → Value → Value → Difference

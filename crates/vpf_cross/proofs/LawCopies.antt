@@ -7,13 +7,13 @@ use Rattle.vpf_prims.specs.Coverages.{CoverageTables}
 use Rattle.vpf_wing.specs.Links.{DartLinks}
 use Rattle.vpf_prims.specs.Libraries.{library_of}
 use Rattle.vpf_follow.specs.Following.{is_home, home_copy}
-use Rattle.vpf_follow.specs.Laws.{HomesExist}
-use Rattle.vpf_wing.specs.DartLaws.{some-or-none, never_both, flip-flip, flip-has, flip-tile}
-use Rattle.vpf_follow.specs.FollowLaws.{home_has, home_self, away_outside}
+use Rattle.vpf_follow.specs.Inner.Laws.{HomesExist}
+use Rattle.vpf_wing.specs.Inner.DartLaws.{some-or-none, never_both, flip-flip, flip-has, flip-tile}
+use Rattle.vpf_follow.specs.Inner.FollowLaws.{home_has, home_self, away_outside}
 use Rattle.vpf_cross.specs.HomeLines.{coverage_links}
 use Rattle.vpf_cross.specs.RoundLines.{copy_in_tile}
 use Rattle.vpf_cross.specs.Agreeing.{IsCopy}
-use Rattle.vpf_cross.specs.Laws.{FlipsInTiles, CopiesAreOne, FlipsGiveCopies, flip_in_tile}
+use Rattle.vpf_cross.specs.Inner.Laws.{FlipsInTiles, CopiesAreOne, FlipsGiveCopies, flip_in_tile}
 use Rattle.vpf_cross.proofs.LawUnique.{one_copy}
 use Rattle.vpf_cross.proofs.LawRounds.{copy_found, found_copy}
 

@@ -7,7 +7,7 @@ use Rattle.vpf_head.specs.Head.{Col}
 use Rattle.vpf_darts.specs.Darts.{code, tile_in, edge_in, sign_in, sign_of, flip}
 use Rattle.vpf_findings.specs.Findings.{Disagreement}
 use Rattle.vpf_findings.specs.Firsts.{◌or◌}
-use Rattle.vpf_findings.specs.FirstLaws.{or-none_both, option_map-none}
+use Rattle.vpf_findings.specs.Inner.FirstLaws.{or-none_both, option_map-none}
 use Rattle.vpf_prims.specs.Columns.{in_table}
 use Rattle.vpf_prims.specs.Lists.{kth}
 use Rattle.vpf_prims.specs.Primitives.{EdgePrimitive, absent_edge}
@@ -20,14 +20,14 @@ use Rattle.vpf_wing.specs.Links.{DartLinks, is_minus}
 use Rattle.vpf_prims.specs.Libraries.{library_of}
 use Rattle.vpf_follow.specs.Following.{is_outside, home_copy}
 use Rattle.vpf_follow.specs.Sided.{HasFollowers}
-use Rattle.vpf_follow.specs.Laws.{HomesExist}
-use Rattle.vpf_wing.specs.DartLaws.{code-minus, code-sign, sign-small}
-use Rattle.vpf_follow.specs.TileLaws.{TileOfDart, dart-tile, DartOfEdge, edge-dart, unless-none, unless-true, or-silent, darts-none, darts-silent, options-same, same-options}
-use Rattle.vpf_follow.specs.FollowLaws.{home_has, outside_has}
+use Rattle.vpf_follow.specs.Inner.Laws.{HomesExist}
+use Rattle.vpf_wing.specs.Inner.DartLaws.{code-minus, code-sign, sign-small}
+use Rattle.vpf_follow.specs.Inner.TileLaws.{TileOfDart, dart-tile, DartOfEdge, edge-dart, unless-none, unless-true, or-silent, darts-none, darts-silent, options-same, same-options}
+use Rattle.vpf_follow.specs.Inner.FollowLaws.{home_has, outside_has}
 use Rattle.vpf_cross.specs.Carrying.{Difference, first_difference}
 use Rattle.vpf_cross.specs.HomeLines.{coverage_links, home_flip_line, home_sign_line, home_mark_line, home_carried_line, home_lines, outside_lines}
 use Rattle.vpf_cross.specs.Agreeing.{HasHomes}
-use Rattle.vpf_cross.specs.Laws.{AreWhole, HomesDecide, HomesFlipBack}
+use Rattle.vpf_cross.specs.Inner.Laws.{AreWhole, HomesDecide, HomesFlipBack}
 use Rattle.vpf_cross.proofs.LawCells.{none_differ, none_for_same, carries, row_filled, row_said}
 
 -- a dart and its home copy are of one edge

@@ -4,7 +4,7 @@ use Rattle.std.specs.Option.{option_map, unwrap_or}
 use Rattle.std.proofs.lemmas.Bool.{eqb-false, ne_eqb, not-true, not_from_false}
 use Rattle.std.proofs.lemmas.List.{length-map}
 use Rattle.vpf_table.specs.Grid.{Grid}
-use Rattle.vpf_findings.specs.FirstLaws.{over_none, over_silent}
+use Rattle.vpf_findings.specs.Inner.FirstLaws.{over_none, over_silent}
 use Rattle.vpf_prims.specs.Lists.{kth}
 use Rattle.vpf_prims.specs.Numbering.{IsRowOf}
 use Rattle.vpf_prims.specs.Primitives.{EntityPrimitive, absent_entity, entities_in}
@@ -13,9 +13,9 @@ use Rattle.vpf_prims.specs.References.{id_of}
 use Rattle.vpf_prims.specs.Tables.{TileTables}
 use Rattle.vpf_prims.specs.Coverages.{tile_at}
 use Rattle.vpf_prims.specs.Libraries.{primitives_in, library_of}
-use Rattle.vpf_follow.specs.TileLaws.{unless-none, unless-true, tiles-none, tiles-silent}
+use Rattle.vpf_follow.specs.Inner.TileLaws.{unless-none, unless-true, tiles-none, tiles-silent}
 use Rattle.vpf_cross.specs.CarriedLines.{universe_entity_line, inhabited_finding_in, inhabited_finding}
-use Rattle.vpf_cross.specs.Laws.{InhabitedDecides}
+use Rattle.vpf_cross.specs.Inner.Laws.{InhabitedDecides}
 
 -- the entity nodes of a tile, and that one of them lies in a face
 abbrev entities_of : TileTables → List EntityPrimitive

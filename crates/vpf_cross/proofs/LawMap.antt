@@ -7,11 +7,11 @@ use Rattle.vpf_prims.specs.Primitives.{Library}
 use Rattle.vpf_wing.specs.Links.{DartLinks, links_of}
 use Rattle.vpf_follow.specs.Following.{is_home, home_copy, library_map}
 use Rattle.vpf_follow.specs.Sided.{HasFollowers}
-use Rattle.vpf_follow.specs.Laws.{HomesExist}
-use Rattle.vpf_wing.specs.DartLaws.{flip-flip, flip-sign, flip-has}
-use Rattle.vpf_follow.specs.FollowLaws.{home_has, home_self, away_outside, home_moves, away_stays, next_apart}
+use Rattle.vpf_follow.specs.Inner.Laws.{HomesExist}
+use Rattle.vpf_wing.specs.Inner.DartLaws.{flip-flip, flip-sign, flip-has}
+use Rattle.vpf_follow.specs.Inner.FollowLaws.{home_has, home_self, away_outside, home_moves, away_stays, next_apart}
 use Rattle.vpf_cross.specs.Agreeing.{HasHomes}
-use Rattle.vpf_cross.specs.Laws.{AgreeingHasMap}
+use Rattle.vpf_cross.specs.Inner.Laws.{AgreeingHasMap}
 
 -- the home copy of a dart has its sign
 same_sign : (C : DartLinks) → HasHomes C → (x : ℕ) → C.has x ≡ true → sign_in (home_copy C x) ≡ sign_in x

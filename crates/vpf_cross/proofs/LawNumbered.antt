@@ -9,8 +9,8 @@ use Rattle.vpf_prims.specs.Tables.{TileTables}
 use Rattle.vpf_prims.specs.Coverages.{CoverageTables, tile_at}
 use Rattle.vpf_wing.specs.Links.{Beyond, link_of, links_of, edge_of_dart, wing_by, node_by, face_by}
 use Rattle.vpf_prims.specs.Libraries.{primitives_in, library_of}
-use Rattle.vpf_wing.specs.DartLaws.{IsThere, has-there, none_is_some, same_some, never_both}
-use Rattle.vpf_cross.specs.Laws.{AreNumbered}
+use Rattle.vpf_wing.specs.Inner.DartLaws.{IsThere, has-there, none_is_some, same_some, never_both}
+use Rattle.vpf_cross.specs.Inner.Laws.{AreNumbered}
 
 -- a tile that has tables, by its tables
 tables_there : (o : Option TileTables) → is_there (primitives_in o) ≡ true → (T : TileTables) × (o ≡ Some T)

@@ -2,22 +2,22 @@
 use Rattle.std.proofs.Common.{◌≡◌, ℕ, zero, suc, ◌+◌, ◌<◌, Bool, true, false, eqb, ◌&&◌, refl, sym, ap, ◌∙◌, subst, inl, inr, arith, Option, Some, None, length}
 use Rattle.std.proofs.lemmas.Bool.{and_parts, and_from, eqb-true, eq-eqb}
 use Rattle.vpf_darts.specs.Darts.{code, tile_in, edge_in, sign_of, flip}
-use Rattle.vpf_darts.specs.Laws.{DartLiesOnCycle}
+use Rattle.vpf_darts.specs.Inner.Laws.{DartLiesOnCycle}
 use Rattle.vpf_prims.specs.Primitives.{Library}
 use Rattle.vpf_prims.specs.Tables.{TileTables}
 use Rattle.vpf_prims.specs.Coverages.{CoverageTables}
 use Rattle.vpf_wing.specs.Links.{DartLinks, links_of, is_minus, local_next}
 use Rattle.vpf_prims.specs.Libraries.{library_of}
 use Rattle.vpf_follow.specs.Following.{is_home, follow, home_copy}
-use Rattle.vpf_follow.specs.Homes.{HasFewEdges}
-use Rattle.vpf_follow.specs.Laws.{HomesExist}
-use Rattle.vpf_wing.specs.DartLaws.{some-or-none, none_is_some, same_some, code-minus, darts-stand, stands-has, found-passes, found-some}
-use Rattle.vpf_follow.specs.TileLaws.{TileOfDart, dart-tile, DartOfEdge, edge-dart, unless-none, unless-true, darts-none, darts-silent}
-use Rattle.vpf_follow.specs.FollowLaws.{follow_home}
+use Rattle.vpf_follow.specs.Inner.Homes.{HasFewEdges}
+use Rattle.vpf_follow.specs.Inner.Laws.{HomesExist}
+use Rattle.vpf_wing.specs.Inner.DartLaws.{some-or-none, none_is_some, same_some, code-minus, darts-stand, stands-has, found-passes, found-some}
+use Rattle.vpf_follow.specs.Inner.TileLaws.{TileOfDart, dart-tile, DartOfEdge, edge-dart, unless-none, unless-true, darts-none, darts-silent}
+use Rattle.vpf_follow.specs.Inner.FollowLaws.{follow_home}
 use Rattle.vpf_cross.specs.HomeLines.{coverage_links}
 use Rattle.vpf_cross.specs.RoundLines.{copy_in_tile, first_copy, first_copy_line, round_line}
 use Rattle.vpf_cross.specs.Agreeing.{IsCopy, IsFirstCopy, GoesOnHere}
-use Rattle.vpf_cross.specs.Laws.{RoundsDecide}
+use Rattle.vpf_cross.specs.Inner.Laws.{RoundsDecide}
 use Rattle.vpf_cross.proofs.LawNumbered.{tile_has_tables}
 use Rattle.vpf_cross.proofs.LawWalks.{after}
 use Rattle.vpf_cross.proofs.LawTurns.{Agreed, turning, follow_turn, turns_home, is_last_turn, IsLastTurn, last_turn, WalkRound, walk_round}

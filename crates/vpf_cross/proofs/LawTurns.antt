@@ -2,15 +2,15 @@
 use Rattle.std.proofs.Common.{◌≡◌, ℕ, zero, suc, ◌<◌, ◌≤◌, true, false, cond, sym, ap, ◌∙◌, inl, inr, Some, length}
 use Rattle.std.proofs.lemmas.Bool.{cases_Bool}
 use Rattle.vpf_darts.specs.Darts.{tile_in, flip}
-use Rattle.vpf_darts.specs.Laws.{DartLiesOnCycle}
+use Rattle.vpf_darts.specs.Inner.Laws.{DartLiesOnCycle}
 use Rattle.vpf_darts.specs.Maps.{DartMap, IsMap, turn}
 use Rattle.vpf_prims.specs.Primitives.{Library}
 use Rattle.vpf_wing.specs.Links.{DartLinks, links_of}
 use Rattle.vpf_follow.specs.Following.{is_home, follow, home_copy, library_map}
 use Rattle.vpf_follow.specs.Sided.{HasFollowers}
-use Rattle.vpf_follow.specs.Laws.{HomesExist}
-use Rattle.vpf_wing.specs.DartLaws.{same_some, never_both, dart_bound, darts-below, stands_in, darts-stand, flip-has, flip-tile}
-use Rattle.vpf_follow.specs.FollowLaws.{home_has, home_self, away_outside, home_moves, away_stays}
+use Rattle.vpf_follow.specs.Inner.Laws.{HomesExist}
+use Rattle.vpf_wing.specs.Inner.DartLaws.{same_some, never_both, dart_bound, darts-below, stands_in, darts-stand, flip-has, flip-tile}
+use Rattle.vpf_follow.specs.Inner.FollowLaws.{home_has, home_self, away_outside, home_moves, away_stays}
 use Rattle.vpf_cross.specs.Agreeing.{HasHomes, IsCopy}
 use Rattle.vpf_cross.proofs.LawMap.{flip_is, is_map}
 use Rattle.vpf_cross.proofs.LawWalks.{after, FirstStep, first_step, steps_below, StepBefore, round}

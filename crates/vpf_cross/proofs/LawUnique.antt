@@ -10,14 +10,14 @@ use Rattle.vpf_wing.specs.Links.{links_of, Beyond, Link, DartLinks, edge_of_dart
 use Rattle.vpf_prims.specs.Libraries.{library_of}
 use Rattle.vpf_follow.specs.Following.{beyond_tile, is_own_face, is_far_face, is_inside, is_outside, is_home, is_named, face_name, follow_to, follow, home_copy}
 use Rattle.vpf_follow.specs.Sided.{HasSides, HasFollowers}
-use Rattle.vpf_follow.specs.Homes.{HasFewEdges}
-use Rattle.vpf_follow.specs.Laws.{HomesExist}
-use Rattle.vpf_wing.specs.DartLaws.{never_both, none_is_some, same_some, code-tile, flip-flip, flip-tile, flip-has, only-passes}
-use Rattle.vpf_follow.specs.TileLaws.{TileOfDart, dart-tile}
-use Rattle.vpf_follow.specs.FollowLaws.{home_has, home_self, outside_has, away_outside}
+use Rattle.vpf_follow.specs.Inner.Homes.{HasFewEdges}
+use Rattle.vpf_follow.specs.Inner.Laws.{HomesExist}
+use Rattle.vpf_wing.specs.Inner.DartLaws.{never_both, none_is_some, same_some, code-tile, flip-flip, flip-tile, flip-has, only-passes}
+use Rattle.vpf_follow.specs.Inner.TileLaws.{TileOfDart, dart-tile}
+use Rattle.vpf_follow.specs.Inner.FollowLaws.{home_has, home_self, outside_has, away_outside}
 use Rattle.vpf_cross.specs.HomeLines.{coverage_links}
 use Rattle.vpf_cross.specs.Agreeing.{IsCopy}
-use Rattle.vpf_cross.specs.Laws.{AreNumbered, FlipsBack}
+use Rattle.vpf_cross.specs.Inner.Laws.{AreNumbered, FlipsBack}
 use Rattle.vpf_cross.proofs.LawNumbered.{dart_row, GoesOn, reference_on, reference_here, face_on, wing_named, face_named}
 
 -- each dart has a home copy, and those of both darts of an edge are of one edge

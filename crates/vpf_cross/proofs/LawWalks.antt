@@ -1,8 +1,9 @@
 -- Walks along a function on numbers: the first step that comes to a number on a cycle, and how few there are before it.
-use Rattle.std.proofs.Common.{◌≡◌, ℕ, zero, suc, ◌+◌, ◌-◌, ◌<◌, ◌≤◌, true, false, cond, eqb, refl, sym, ap, ◌∙◌, subst, inl, inr, arith, List, [], ◌∷◌, ◌++◌, length, map}
+use Rattle.std.proofs.Common.{[], ◌≡◌, ℕ, zero, suc, ◌+◌, ◌-◌, ◌<◌, ◌≤◌, true, false, cond, eqb, refl, sym, ap, ◌∙◌, subst, inl, inr, arith, List, ◌∷◌, ◌++◌, length, map}
 use Rattle.std.proofs.lemmas.Bool.{cases_Bool, cases_eq, or_cases, or_left, or_right, eqb-true}
 use Rattle.vpf_darts.specs.Cycles.{IsCycle, first_of}
-use Rattle.vpf_wing.specs.DartLaws.{never_both, stands_in}
+use Rattle.vpf_wing.specs.Inner.DartLaws.{never_both, stands_in}
+use Rattle.vpf_follow.specs.Inner.HomeLaws.{after_first as rest_of}
 
 -- what comes k steps after x
 unfoldable pub after : (ℕ → ℕ) → ℕ → ℕ → ℕ
@@ -78,11 +79,6 @@ steps_below f (suc j) x z xs e before all =
     (all (suc i) (omega arith)) in
     let rest : j < length (leaving x xs) = steps_below f j (f x) z (leaving x xs) e (λ i lt. before (suc i) (omega arith)) left in
     omega arith
-
--- along a cycle, steps lead from its first to one before it
-rest_of : List ℕ → List ℕ
-rest_of [] = []
-rest_of (x ∷ xs) = xs
 
 pub record StepBefore (f : ℕ → ℕ) (x y : ℕ) : Type 0 where
   pub steps : ℕ

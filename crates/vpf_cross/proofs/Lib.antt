@@ -22,9 +22,7 @@ mod HomeLemmas
 mod LinkLemmas
 mod LoopLemmas
 mod NextLemmas
-mod NumberLemmas
 mod RoundLemmas
 pub mod ElsewhereLemmas
 pub mod LikeLemmas
 pub mod LikeTiles
-pub use Rattle.vpf_follow.proofs.ListLemmas

@@ -1,5 +1,5 @@
 -- Columns whose names stand at the same places: as many of them have no role.
-use Rattle.std.proofs.Common.{◌≡◌, ℕ, zero, suc, ◌+◌, nat_lt, Bool, true, false, not, Option, Some, None, List, [], ◌∷◌, length, map, cond, filter, refl, sym, ap, ◌∙◌, arith}
+use Rattle.std.proofs.Common.{[], ◌≡◌, ℕ, suc, ◌+◌, nat_lt, Bool, true, false, not, Option, Some, None, List, ◌∷◌, length, cond, filter, refl, sym, ap, ◌∙◌, arith}
 use Rattle.std.specs.List.{AllByRecursion, IsDistinct, position, position_or_len}
 use Rattle.std.specs.Option.{option_map}
 use Rattle.std.specs.Str.{bytes_eq}
@@ -10,6 +10,7 @@ use Rattle.vpf_head.specs.Head.{Col, names, place_of}
 use Rattle.vpf_prims.specs.Reading.{has_role}
 use Rattle.vpf_prims.specs.Roles.{Role}
 use Rattle.vpf_prims.specs.Suiting.{carried_columns}
+use Rattle.vpf_base.proofs.Options.{none_some}
 
 -- one name, letters made small
 small_same : (x y : List ℕ) → same_name x y ≡ true → lowercase x ≡ lowercase y
@@ -91,9 +92,6 @@ carried_more roles x y a b true true e h = let r = h in omega (arith, r)
 carried_more roles x y a b false false e h = h
 carried_more roles x y a b true false e h = absurd cc
 carried_more roles x y a b false true e h = absurd cc
-
-none_some : (k : ℕ) → None ≡ Some k → ⊥
-none_some k e = cc
 
 counts_alike : (roles : List Role) (a b : List Col) → IsDistinct same_name (names a) → IsDistinct same_name (names b) → StandAlike a b
     → length (carried_columns roles a) ≡ length (carried_columns roles b)

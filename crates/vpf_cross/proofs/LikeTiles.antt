@@ -1,30 +1,25 @@
 -- Tiles that have the columns of the first carry as many without a role.
-use Rattle.std.proofs.Common.{◌≡◌, ℕ, zero, suc, ◌-◌, ◌<◌, ◌≤◌, Bool, true, false, Option, Some, None, List, [], ◌∷◌, length, map, get_or, refl, sym, ap, subst, ◌∙◌, arith}
-use Rattle.std.specs.Prelude.{IfSome, slice_index_or}
-use Rattle.std.specs.Option.{option_map}
-use Rattle.std.specs.List.{IsDistinct}
-use Rattle.vpf_head.specs.Folding.{same_name}
-use Rattle.vpf_head.specs.Head.{Col, names}
+use Rattle.std.proofs.Common.{[], ◌≡◌, ℕ, zero, suc, ◌-◌, Bool, true, false, Option, Some, None, List, ◌∷◌, length, get_or, refl, sym, ap, subst, ◌∙◌, arith}
+use Rattle.vpf_head.specs.Head.{Col}
 use Rattle.vpf_table.specs.Grid.{Grid}
-use Rattle.vpf_prims.specs.Coverages.{CoverageTables, last_tile, tile_at}
-use Rattle.vpf_prims.specs.Laws.{AreFilled}
+use Rattle.vpf_prims.specs.Coverages.{CoverageTables, tile_at}
 use Rattle.vpf_prims.specs.Libraries.{IsLibrary, library_of}
 use Rattle.vpf_prims.specs.Reading.{PrimitiveTables}
 use Rattle.vpf_prims.specs.Roles.{Role, edge_roles, face_roles, node_roles}
 use Rattle.vpf_prims.specs.Suiting.{carried_columns}
 use Rattle.vpf_prims.specs.Tables.{TileTables}
-use Rattle.vpf_numbers.specs.Around.{around_of, first_having, model_in}
-use Rattle.vpf_numbers.specs.Matching.{AreLike, ColumnsMatch, HaveColumns, HaveSameColumns}
-use Rattle.vpf_library_files.specs.Loading.Laws.{AreNamedApart, IsNamedApart}
-use Rattle.vpf_cross.specs.Laws.{AreWhole, LikeAreWhole}
+use Rattle.vpf_numbers.specs.Around.{first_having, model_in}
+use Rattle.vpf_numbers.specs.Matching.{AreLike, HaveSameColumns}
+use Rattle.vpf_library_files.specs.Inner.Loading.Laws.{IsNamedApart}
+use Rattle.vpf_cross.specs.Inner.Laws.{LikeAreWhole}
 use Rattle.vpf_cross.proofs.LikeLemmas.{carried_alike}
+use Rattle.vpf_base.proofs.Booleans.{either}
+use Rattle.vpf_base.proofs.Lists.{within}
+use Rattle.vpf_cross.specs.Inner.LikeLaws.{tables_of_tiles}
 
 -- a table that each tile with tables has
 abbrev OfTables : Type 0
 OfTables = PrimitiveTables → Grid
-
-abbrev tables_of_tiles : List (Option TileTables) → List (Option PrimitiveTables)
-tables_of_tiles tiles = map (option_map (λ (T : TileTables). T.tables)) tiles
 
 -- where a tile has tables, some tile is the first
 first_there : (of : OfTables) (tiles : List (Option TileTables)) (t : ℕ) (T : TileTables) → get_or tiles t None ≡ Some T
@@ -51,11 +46,6 @@ two_alike roles of c s t S T tiled at_s at_t like_s like_t apart_s apart_t =
     let b = like_there roles _ (of T.tables).head.columns first.0 model like_t in
     carried_alike roles (of S.tables).head.columns (of T.tables).head.columns apart_s apart_t (λ name. a.places name ∙ sym (b.places name))
 
-within : {X : Type 0} (xs : List (Option X)) (t : ℕ) (x : X) → get_or xs t None ≡ Some x → t < length xs
-within [] t x e = absurd cc
-within (y ∷ xs) zero x e = omega arith
-within (y ∷ xs) (suc t) x e = let r = within xs t x e in omega (arith, r)
-
 -- a coverage that isn't tiled has one tile
 only_tile : (c : CoverageTables) → IsLibrary (library_of c) → c.is_tiled ≡ false → (s t : ℕ) (S T : TileTables) → tile_at c s ≡ Some S → tile_at c t ≡ Some T → S ≡ T
 only_tile c library untiled s t S T at_s at_t =
@@ -67,10 +57,6 @@ only_tile c library untiled s t S T at_s at_t =
   where
     of_some : (S T : TileTables) → Some S ≡ Some T → S ≡ T
     of_some S T e = cc
-
-either : (b : Bool) {P : Type 0} → (b ≡ true → P) → (b ≡ false → P) → P
-either true f g = f refl
-either false f g = g refl
 
 pub like_are_whole : LikeAreWhole
 like_are_whole c library columns rows = record {

@@ -2,7 +2,7 @@
 use Rattle.std.proofs.Common.{◌≡◌, ℕ, zero, suc, ◌+◌, ◌-◌, ◌<◌, ◌≤◌, Option, Some, None, length, refl, sym, ap, ◌∙◌, arith}
 use Rattle.vpf_findings.specs.Findings.{Disagreement}
 use Rattle.vpf_findings.specs.Firsts.{first_over}
-use Rattle.vpf_findings.specs.FirstLaws.{over_pass, over_stop, over_end, over_none}
+use Rattle.vpf_findings.specs.Inner.FirstLaws.{over_pass, over_stop, over_end, over_none}
 use Rattle.vpf_prims.specs.Coverages.{CoverageTables, tile_at, last_tile}
 use Rattle.vpf_prims.specs.Reading.{primitives_of}
 use Rattle.vpf_prims.specs.Tables.{TileTables}

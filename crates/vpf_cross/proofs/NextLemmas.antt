@@ -1,5 +1,5 @@
 -- The next of a dart in its tile, by the rows of edges.
-use Rattle.std.proofs.Common.{◌≡◌, ℕ, zero, suc, ◌-◌, ◌^◌, ◌<◌, ◌≤◌, Bool, true, false, not, Some, None, List, [], ◌∷◌, length, map, get_or, refl, sym, ap, ◌∙◌, arith}
+use Rattle.std.proofs.Common.{◌≡◌, ℕ, zero, suc, ◌-◌, ◌^◌, ◌<◌, ◌≤◌, Bool, true, false, not, Some, None, List, length, map, refl, sym, ap, ◌∙◌, arith}
 use Rattle.std.specs.Prelude.{if◌then◌else◌}
 use Rattle.std.specs.Option.{option_map}
 use Rattle.vpf_darts.specs.declared.darts.Dart.{Dart}
@@ -11,19 +11,15 @@ use Rattle.vpf_prims.specs.Numbering.{IsRowOf}
 use Rattle.vpf_prims.specs.Primitives.{Primitives, EdgePrimitive, absent_edge, edge_count, own_edge, own_edges}
 use Rattle.vpf_prims.specs.Reading.{primitives_of}
 use Rattle.vpf_prims.specs.References.{id_of}
-use Rattle.vpf_prims.specs.Owning.{NamesItsOwn, OwnsEdge}
+use Rattle.vpf_prims.specs.Inner.Owning.{NamesItsOwn, OwnsEdge}
 use Rattle.vpf_prims.specs.Tables.{TileTables}
 use Rattle.vpf_wing.specs.Links.{Link, face_by, is_next, local_next, next_to, node_by, only, tail_node, wing_by}
-use Rattle.vpf_wing.specs.Nexts.{edge_at, face, follows, head, next_dart, no_edge, tail, the_one, wing}
+use Rattle.vpf_wing.specs.Nexts.{edge_at, face, follows, head, next_dart, tail, the_one, wing}
 use Rattle.vpf_prims.specs.Libraries.{library_of}
 use Rattle.vpf_cross.specs.HomeLines.{coverage_links}
 use Rattle.vpf_cross.proofs.DartLists.{IsOfTiles, has_from}
 use Rattle.vpf_cross.proofs.LinkLemmas.{edge-code, edges_at, flip-code, flip-plus, face_at, node_at, tile-code, wing_at}
-
-own_edge_at : (es : List EdgePrimitive) (i : ℕ) → get_or (map own_edge es) i no_edge ≡ own_edge (get_or es i absent_edge)
-own_edge_at [] i = refl
-own_edge_at (e ∷ es) zero = refl
-own_edge_at (e ∷ es) (suc i) = own_edge_at es i
+use Rattle.vpf_wing.specs.Inner.RangeLaws.{own_edge_at}
 
 -- an edge of a tile by its own numbers
 own_row : (es : List EdgePrimitive) (k : ℕ) → 1 ≤ k → edge_at (map own_edge es) k ≡ own_edge (kth es k absent_edge)

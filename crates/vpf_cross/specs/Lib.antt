@@ -2,17 +2,15 @@ pub mod Carrying
 pub mod HomeLines
 pub mod RoundLines
 pub mod CarriedLines
-pub mod Copies
 pub mod Agreeing
 pub mod CrossFinding
-pub mod Checked
-pub mod Example
-pub mod Laws
-pub use Rattle.vpf_follow.specs.Homes as FollowHomes
+pub use Rattle.vpf_follow.specs.Inner.Homes as FollowHomes
 pub use Rattle.vpf_follow.specs.Following
 pub use Rattle.vpf_follow.specs.Sided
-pub use Rattle.vpf_follow.specs.FollowLaws
-pub use Rattle.vpf_follow.specs.Laws as VpfFollowLaws
+pub use Rattle.vpf_follow.specs.Inner.FollowLaws
+pub use Rattle.vpf_follow.specs.Inner.Laws as VpfFollowLaws
 pub use Rattle.vpf_follow.specs.FollowLines
 pub use Rattle.vpf_follow.specs.SideLines
-pub use Rattle.vpf_follow.specs.TileLaws
+pub use Rattle.vpf_follow.specs.Inner.TileLaws
+pub mod Inner
+pub use Rattle.vpf_follow.specs.Inner.ListLaws

@@ -4,7 +4,7 @@ ghost use Rattle.std.specs.Prelude.{[], ◌≡◌, ◌↔◌, ◌<◌, IsTrue, M
 ghost use Rattle.std.specs.List.{list_any};
 ghost use Rattle.vpf_value.specs.Values.{view};
 ghost use Rattle.vpf_head.specs.Folding.{same_name};
-ghost use Rattle.vpf_head.specs.Views.{col};
+ghost use Rattle.vpf_head.specs.Inner.Views.{col};
 ghost use Rattle.vpf_findings.specs.Firsts.{unless};
 ghost use Rattle.vpf_theme.specs.Ordering.{same_value};
 ghost use Rattle.vpf_prims.specs.Lists.{kth};

@@ -31,7 +31,7 @@ impl<'c, 'a> Model for Checked<'c, 'a> {
 
     ghost Value = { CoverageTables };
 
-    ghost use Rattle.vpf_cross.specs.Checked.{IsChecked, checked_coverage};
+    ghost use Rattle.vpf_cross.specs.Inner.Checked.{IsChecked, checked_coverage};
 
     ghost view = { checked_coverage };
 
@@ -114,7 +114,7 @@ pub fn check_coverage<'c, 'a>(
 impl<'c, 'a> Checked<'c, 'a> {
     ghost use Rattle.std.specs.Prelude.{◌≡◌, None};
     ghost use Rattle.std.specs.Option.{option_map};
-    ghost use Rattle.vpf_cross.specs.Checked.{KeepsFollowed};
+    ghost use Rattle.vpf_cross.specs.Inner.Checked.{KeepsFollowed};
     ghost use Rattle.vpf_cross.specs.CrossFinding.{topology_finding};
 
     /// The coverage.

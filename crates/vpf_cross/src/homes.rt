@@ -14,7 +14,7 @@ ghost use Rattle.vpf_prims.specs.Roles.{edge_roles};
 ghost use Rattle.vpf_prims.specs.Suiting.{carried_columns};
 ghost use Rattle.vpf_follow.specs.FollowLines.{at_wing_of};
 ghost use Rattle.vpf_follow.specs.Following.{home_copy};
-ghost use Rattle.vpf_follow.specs.Homes.{IsDartIn};
+ghost use Rattle.vpf_follow.specs.Inner.Homes.{IsDartIn};
 ghost use Rattle.vpf_cross.specs.Carrying.{carried_at, difference_of, first_difference};
 ghost use Rattle.vpf_cross.specs.HomeLines.{copies_lines, coverage_links, home_carried_line, home_flip_line, home_lines, home_mark_line};
 ghost use Rattle.vpf_cross.specs.HomeLines.{homes_finding, outside_lines};

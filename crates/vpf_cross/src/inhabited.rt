@@ -50,7 +50,7 @@ fn check_entity<'a>(
 
 /// Each entity node of the tile of this number lies in a face that the tile has, and not in the universe (MIL-STD-2407, 5.2.3, cross-tile
 /// topology). The first that doesn't is the finding. It takes no memory.
-#[tactic(auto, using(vpf_findings::specs::FirstLaws::over_pass, vpf_findings::specs::FirstLaws::over_stop, vpf_findings::specs::FirstLaws::over_end))]
+#[tactic(auto, using(vpf_findings::specs::Inner::FirstLaws::over_pass, vpf_findings::specs::Inner::FirstLaws::over_stop, vpf_findings::specs::Inner::FirstLaws::over_end))]
 pub fn check_inhabited<'a>(tile: &Tile<'a>, number: u32) -> Result<(), Finding<'a>>
     ensures { Finds result (inhabited_finding number tile.now) }
 {

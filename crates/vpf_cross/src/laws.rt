@@ -1,8 +1,8 @@
 //! What is so of every tiled library.
 
-ghost use Rattle.vpf_cross.specs.Example.{TilesAreFound};
-ghost use Rattle.vpf_cross.specs.Laws.{AgreeingHasMap, AgreementDecides, CarriedDecides, CopiesAreOne, FlipsGiveCopies};
-ghost use Rattle.vpf_cross.specs.Laws.{HomesDecide, HomesFlipBack, InhabitedDecides, LikeAreWhole, RoundsDecide};
+ghost use Rattle.vpf_cross.specs.Inner.Example.{TilesAreFound};
+ghost use Rattle.vpf_cross.specs.Inner.Laws.{AgreeingHasMap, AgreementDecides, CarriedDecides, CopiesAreOne, FlipsGiveCopies};
+ghost use Rattle.vpf_cross.specs.Inner.Laws.{HomesDecide, HomesFlipBack, InhabitedDecides, LikeAreWhole, RoundsDecide};
 
 use vpf_darts::laws::darts_lie_on_cycles;
 use vpf_follow::laws::{followers_decide, homes_exist, sides_decide, tile_loops_decide};

@@ -1,8 +1,8 @@
 //! What is so of the tiles of each coverage.
 
-ghost use Rattle.vpf_follow.specs.Homes.{HasFewEdges};
+ghost use Rattle.vpf_follow.specs.Inner.Homes.{HasFewEdges};
 ghost use Rattle.vpf_prims.specs.Libraries.{library_of};
-ghost use Rattle.vpf_cross.specs.Copies.{FacesAreElsewhere};
+ghost use Rattle.vpf_cross.specs.Inner.Copies.{FacesAreElsewhere};
 ghost use Rattle.vpf_cross.specs.HomeLines.{coverage_links};
 
 use vpf_follow::coverage::Coverage;

@@ -9,8 +9,8 @@ ghost use Rattle.vpf_prims.specs.Numbering.{IsRowOf};
 ghost use Rattle.vpf_prims.specs.Reading.{primitives_of};
 ghost use Rattle.vpf_wing.specs.Links.{local_next};
 ghost use Rattle.vpf_follow.specs.Following.{follow, is_home};
-ghost use Rattle.vpf_follow.specs.Homes.{IsDartIn};
-ghost use Rattle.vpf_cross.specs.Copies.{HomesAgree};
+ghost use Rattle.vpf_follow.specs.Inner.Homes.{IsDartIn};
+ghost use Rattle.vpf_cross.specs.Inner.Copies.{HomesAgree};
 ghost use Rattle.vpf_cross.specs.HomeLines.{coverage_links};
 ghost use Rattle.vpf_cross.specs.RoundLines.{copy_in_tile, first_copy, round_line, round_lines, rounds_finding};
 

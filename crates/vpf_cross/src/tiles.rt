@@ -6,7 +6,7 @@ ghost use Rattle.vpf_wing.specs.CycleLines.{cycles_finding, loops_finding};
 ghost use Rattle.vpf_prims.specs.Libraries.{in_tiles, library_of};
 ghost use Rattle.vpf_follow.specs.SideLines.{sides_finding};
 ghost use Rattle.vpf_cross.specs.CarriedLines.{carried_finding, inhabited_finding};
-ghost use Rattle.vpf_cross.specs.Copies.{HomesAgree};
+ghost use Rattle.vpf_cross.specs.Inner.Copies.{HomesAgree};
 ghost use Rattle.vpf_cross.specs.HomeLines.{coverage_links, homes_finding};
 ghost use Rattle.vpf_cross.specs.RoundLines.{rounds_finding};
 

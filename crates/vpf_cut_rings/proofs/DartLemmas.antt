@@ -1,5 +1,5 @@
 -- The darts of a tile: those that are present, in their order.
-use Rattle.std.proofs.Common.{◌≡◌, ℕ, zero, suc, ◌<◌, Bool, true, false, not, ◌||◌, ◌&&◌, refl, sym, ap, ◌∙◌, inl, inr, arith, List, [], ◌∷◌, ◌++◌, length}
+use Rattle.std.proofs.Common.{[], ◌≡◌, ℕ, zero, suc, ◌<◌, Bool, true, false, not, ◌||◌, ◌&&◌, refl, sym, ap, ◌∙◌, inl, inr, arith, List, ◌∷◌, ◌++◌, length}
 use Rattle.std.specs.Prelude.{filter, flat_map}
 use Rattle.std.specs.List.{AllByRecursion}
 use Rattle.std.proofs.lemmas.Bool.{cases_Bool}
@@ -8,14 +8,15 @@ use Rattle.std.proofs.lemmas.List.Elements.{filter-append}
 use Rattle.vpf_darts.specs.Darts.{code, flip}
 use Rattle.vpf_darts.specs.Maps.{DartMap, is_of, is_of_any, without, without_edge}
 use Rattle.vpf_prims.specs.Primitives.{Primitives, untiled}
-use Rattle.vpf_wing.specs.DartLaws.{darts-stand, flip-flip, never_both, stands_in}
+use Rattle.vpf_wing.specs.Inner.DartLaws.{darts-stand, flip-flip, never_both, stands_in}
 use Rattle.vpf_wing.specs.Links.{row_darts}
 use Rattle.vpf_tiling.specs.Presence.{absent_darts, coverage_map, has_edge, is_present, present_edges, tile_map, untiled_links}
-use Rattle.vpf_tiling.specs.PresenceLaws.{other-code, present_flip, present_has, stands_filter}
-use Rattle.vpf_tiling.specs.RankLaws.{up-last}
+use Rattle.vpf_tiling.specs.Inner.PresenceLaws.{other-code, present_flip, present_has, stands_filter}
+use Rattle.vpf_tiling.specs.Inner.RankLaws.{up-last}
 use Rattle.vpf_tiling.specs.Ranks.{up_to}
-use Rattle.vpf_cutting.specs.WalkLaws.{passed_is}
-use Rattle.vpf_cut_rings.proofs.OrderLemmas.{Rises, all_more, kept_stands, same_test}
+use Rattle.vpf_cutting.specs.Inner.WalkLaws.{passed_is}
+use Rattle.vpf_cut_rings.proofs.OrderLemmas.{same_test}
+use Rattle.vpf_cut_rings.specs.Inner.OrderLaws.{RisesStrictly as Rises, all_more, kept_stands}
 
 -- ---- what is left of the map in a tile
 

@@ -1,5 +1,5 @@
 -- How many rings a tile has at most.
-use Rattle.std.proofs.Common.{◌≡◌, ℕ, zero, suc, ◌+◌, ◌*◌, ◌<◌, ◌≤◌, Bool, false, eqb, not, ◌&&◌, refl, sym, ap, ◌∙◌, inl, inr, arith, List, [], ◌∷◌, length, length-append, map}
+use Rattle.std.proofs.Common.{[], ◌≡◌, ℕ, zero, suc, ◌+◌, ◌*◌, ◌<◌, ◌≤◌, Bool, false, eqb, not, ◌&&◌, refl, sym, ap, ◌∙◌, inl, inr, arith, List, ◌∷◌, length, length-append, map}
 use Rattle.std.specs.Prelude.{filter, flat_map}
 use Rattle.std.proofs.lemmas.Bool.{cases_Bool, eq-eqb, eqb-true}
 use Rattle.std.proofs.lemmas.List.{length-map}
@@ -9,11 +9,13 @@ use Rattle.vpf_prims.specs.References.{id_of}
 use Rattle.vpf_tiling.specs.Presence.{held_faces, holds_face, is_present, is_within, local_edge, local_face, tile_map}
 use Rattle.vpf_tiling.specs.Ranks.{is_least, up_to}
 use Rattle.vpf_tiling.specs.Tiles.{Ring, face_rings, outer_darts, outer_rings, tiled_rings}
-use Rattle.vpf_wing.specs.DartLaws.{never_both}
+use Rattle.vpf_wing.specs.Inner.DartLaws.{never_both}
 use Rattle.vpf_wing.specs.Links.{row_darts}
-use Rattle.vpf_cut_rings.specs.Rings.{outer_ring}
-use Rattle.vpf_cut_rings.proofs.LeastLemmas.{counts_stands, one_if}
-use Rattle.vpf_cut_rings.proofs.OrderLemmas.{Rises, all_at, kept_rise, range_rises}
+use Rattle.vpf_cut_rings.specs.Inner.Rings.{outer_ring}
+use Rattle.vpf_cut_rings.specs.Inner.LeastLaws.{counts_stands}
+use Rattle.vpf_cut_rings.proofs.OrderLemmas.{kept_rise, range_rises}
+use Rattle.vpf_cut_rings.specs.Inner.OrderLaws.{RisesStrictly as Rises, each_of_all as all_at}
+use Rattle.vpf_base.proofs.Booleans.{one_if}
 
 fewer_kept : {X : Type 0} → (p : X → Bool) (xs : List X) → length (filter p xs) ≤ length xs
 fewer_kept p [] = omega arith

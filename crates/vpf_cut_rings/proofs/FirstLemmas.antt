@@ -6,7 +6,7 @@ use Rattle.std.specs.List.{range_with_len}
 use Rattle.vpf_prims.specs.Lists.{first_from, first_item}
 use Rattle.vpf_tiling.specs.Tiles.{Ring}
 use Rattle.vpf_cut_rings.specs.declared.rings.CutRing.{CutRing}
-use Rattle.vpf_cut_rings.specs.Rings.{first_rings_of, first_with, ring_of}
+use Rattle.vpf_cut_rings.specs.Inner.Rings.{first_rings_of, first_with, ring_of}
 
 more_from : {X : Type 0} → (p : X → Bool) (k : ℕ) (xs : List X) (x : X)
     → first_from (suc k) p (xs ++ x ∷ []) ≡ first_with (first_from (suc k) p xs) (p x) (suc (length xs + k))

@@ -1,26 +1,18 @@
 -- Lists of numbers that rise: they are known by what stands in them.
-use Rattle.std.proofs.Common.{◌≡◌, ℕ, ◌+◌, ◌<◌, Bool, true, false, eqb, refl, sym, ap, ◌∙◌, subst, inl, inr, arith, List, [], ◌∷◌, length, map, get_or, zero, suc}
+use Rattle.std.proofs.Common.{[], ◌≡◌, ℕ, ◌+◌, ◌<◌, Bool, true, false, eqb, refl, sym, ap, ◌∙◌, subst, inl, inr, arith, List, ◌∷◌, length, map, get_or, zero, suc}
 use Rattle.std.specs.Prelude.{filter}
 use Rattle.std.specs.List.{AllByRecursion, range_with_len}
 use Rattle.std.specs.List.Sorted.{IsStrictlyIncreasing}
 use Rattle.std.proofs.lemmas.Bool.{cases_Bool, or_cases, or_left, or_right, eqb-true, eq-eqb}
 use Rattle.vpf_darts.specs.Cycles.{FirstsRise, first_of}
-use Rattle.vpf_wing.specs.DartLaws.{never_both, stands_in}
-
--- each number of a list is below the ones after it
-abbrev pub Rises : List ℕ → Type 0
-Rises [] = Unit {0}
-Rises (x ∷ xs) = AllByRecursion (λ y. x < y) xs × Rises xs
+use Rattle.vpf_wing.specs.Inner.DartLaws.{never_both, stands_in}
+use Rattle.vpf_cut_rings.specs.Inner.OrderLaws.{each_of_all as all_at, over, RisesStrictly as Rises}
 
 -- two tests that hold together are one
 pub same_test : (a b : Bool) → (a ≡ true → b ≡ true) → (b ≡ true → a ≡ true) → a ≡ b
 same_test true b f g = sym (f refl)
 same_test false true f g = g refl
 same_test false false f g = refl
-
-pub all_at : (P : ℕ → Type 0) (z : ℕ) (xs : List ℕ) → AllByRecursion P xs → stands_in z xs ≡ true → P z
-all_at P z [] a s = absurd (never_both false s refl)
-all_at P z (y ∷ ys) a s = elim (or_cases (eqb z y) (stands_in z ys) s) [ inl e ↦ subst P (sym (eqb-true z y e)) a.0 | inr r ↦ all_at P z ys a.1 r ]
 
 pub all_kept : (P : ℕ → Type 0) (p : ℕ → Bool) (xs : List ℕ) → AllByRecursion P xs → AllByRecursion P (filter p xs)
 all_kept P p [] a = tt
@@ -38,18 +30,6 @@ firsts_rise (xs ∷ rest) r = (above rest r.0, firsts_rise rest r.1)
     above : (rest : List (List ℕ)) → AllByRecursion (λ ys. first_of xs < first_of ys) rest → AllByRecursion (λ y. first_of xs < y) (map first_of rest)
     above [] a = tt
     above (ys ∷ rest) a = (a.0, above rest a.1)
-
-pub kept_stands : (p : ℕ → Bool) (x : ℕ) (xs : List ℕ) → stands_in x (filter p xs) ≡ true → (p x ≡ true) × (stands_in x xs ≡ true)
-kept_stands p x [] s = absurd (never_both false s refl)
-kept_stands p x (y ∷ ys) s = elim (cases_Bool (p y)) [
-  | inl t ↦ (
-      let s' = rw t at s in
-      elim (or_cases (eqb x y) (stands_in x (filter p ys)) s') [
-        | inl e ↦ (ap p (eqb-true x y e) ∙ t, or_left (eqb x y) (stands_in x ys) e)
-        | inr r ↦ (let q = kept_stands p x ys r in (q.0, or_right (eqb x y) (stands_in x ys) q.1))
-      ])
-  | inr f ↦ (let s' = rw f at s in let q = kept_stands p x ys s' in (q.0, or_right (eqb x y) (stands_in x ys) q.1))
-]
 
 -- where one number begins both lists, the rest of the one has what the rest of the other has
 rest_stands : (x : ℕ) (xs ys : List ℕ) → AllByRecursion (λ y. x < y) xs → (z : ℕ) → stands_in z (x ∷ xs) ≡ stands_in z (x ∷ ys) → stands_in z xs ≡ true
@@ -85,24 +65,6 @@ one_rising (x ∷ xs) (y ∷ ys) a b h = (
         ]
 
 -- ---- lists that rise, by their places
-
-pub all_more : (P Q : ℕ → Type 0) → ((x : ℕ) → P x → Q x) → (xs : List ℕ) → AllByRecursion P xs → AllByRecursion Q xs
-all_more P Q h [] a = tt
-all_more P Q h (x ∷ xs) a = (h x a.0, all_more P Q h xs a.1)
-
-later : (x : ℕ) (xs : List ℕ) → IsStrictlyIncreasing (x ∷ xs) → IsStrictlyIncreasing xs
-later x xs up k h =
-    subst (λ j. get_or xs k 0 < get_or (x ∷ xs) j 0) (let e : suc k + 1 ≡ suc (k + 1) = omega arith in e) (up (suc k) (omega arith))
-
-over : (x : ℕ) (xs : List ℕ) → IsStrictlyIncreasing (x ∷ xs) → AllByRecursion (λ y. x < y) xs
-over x [] up = tt
-over x (y ∷ ys) up = (
-    let step : x < y = up 0 (omega arith) in
-    (step, all_more (λ z. y < z) (λ z. x < z) (λ z h. omega arith) ys (over y ys (later x (y ∷ ys) up))))
-
-pub rises_of : (xs : List ℕ) → IsStrictlyIncreasing xs → Rises xs
-rises_of [] up = tt
-rises_of (x ∷ xs) up = (over x xs up, rises_of xs (later x xs up))
 
 -- and back
 pub increasing_of : (xs : List ℕ) → Rises xs → IsStrictlyIncreasing xs

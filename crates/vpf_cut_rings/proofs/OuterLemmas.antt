@@ -3,19 +3,20 @@ use Rattle.std.proofs.Common.{◌≡◌, ℕ, true, not, ◌&&◌, sym, ap, ◌�
 use Rattle.std.specs.Prelude.{filter}
 use Rattle.std.proofs.lemmas.Bool.{and_from, and_parts}
 use Rattle.vpf_darts.specs.Cycles.{IsListing, first_of}
-use Rattle.vpf_darts.specs.Laws.{FirstKeptDart}
+use Rattle.vpf_darts.specs.Inner.Laws.{FirstKeptDart}
 use Rattle.vpf_prims.specs.Primitives.{Primitives, untiled}
 use Rattle.vpf_tiling.specs.Plans.{IsTileable}
 use Rattle.vpf_tiling.specs.Presence.{is_present, is_within, tile_map, untiled_links}
-use Rattle.vpf_tiling.specs.PresenceLaws.{present_has, stands_filter}
+use Rattle.vpf_tiling.specs.Inner.PresenceLaws.{present_has, stands_filter}
 use Rattle.vpf_tiling.specs.Tiles.{outer_darts, outer_rings}
-use Rattle.vpf_wing.specs.DartLaws.{darts-stand, stands_in}
-use Rattle.vpf_wing.specs.Laws.{WellFormedHasMap}
-use Rattle.vpf_cut_rings.specs.Laws.{ArePassing}
-use Rattle.vpf_cut_rings.specs.Rings.{outer_ring}
+use Rattle.vpf_wing.specs.Inner.DartLaws.{darts-stand, stands_in}
+use Rattle.vpf_wing.specs.Inner.Laws.{WellFormedHasMap}
+use Rattle.vpf_cut_rings.specs.Inner.Laws.{ArePassing}
+use Rattle.vpf_cut_rings.specs.Inner.Rings.{outer_ring}
 use Rattle.vpf_cut_rings.proofs.DartLemmas.{row_rises, tile_live}
 use Rattle.vpf_cut_rings.proofs.LeastLemmas.{leasts_begin}
-use Rattle.vpf_cut_rings.proofs.OrderLemmas.{increasing_of, kept_rise, kept_stands, same_test}
+use Rattle.vpf_cut_rings.proofs.OrderLemmas.{increasing_of, kept_rise, same_test}
+use Rattle.vpf_cut_rings.specs.Inner.OrderLaws.{kept_stands}
 use Rattle.vpf_cut_rings.proofs.SideLemmas.{next_side}
 
 outer_each : (c : Primitives) (plan : ℕ → ℕ) (t d : ℕ)

@@ -2,16 +2,16 @@
 use Rattle.std.proofs.Common.{◌≡◌, ℕ, zero, suc, true, false, not, ◌&&◌, sym, ap, ◌∙◌, inl, inr}
 use Rattle.std.proofs.lemmas.Bool.{cases_Bool, not-true, or_left, or_right}
 use Rattle.vpf_darts.specs.Darts.{flip}
-use Rattle.vpf_darts.specs.Laws.{ComesRoundTo, FirstKeptDart}
+use Rattle.vpf_darts.specs.Inner.Laws.{ComesRoundTo, FirstKeptDart}
 use Rattle.vpf_darts.specs.Maps.{is_of_any}
 use Rattle.vpf_prims.specs.Primitives.{Primitives, untiled}
-use Rattle.vpf_wing.specs.DartLaws.{flip-has, never_both}
-use Rattle.vpf_wing.specs.Laws.{WellFormedHasMap}
+use Rattle.vpf_wing.specs.Inner.DartLaws.{flip-has, never_both}
+use Rattle.vpf_wing.specs.Inner.Laws.{WellFormedHasMap}
 use Rattle.vpf_wing.specs.WellFormed.{IsWellFormed}
 use Rattle.vpf_tiling.specs.Plans.{IsTileable}
 use Rattle.vpf_tiling.specs.Presence.{absent_darts, coverage_map, face_of, holds_face, is_present, is_within, next_of, tile_map, untiled_links}
-use Rattle.vpf_tiling.specs.PresenceLaws.{face_next, present_has, source_next}
-use Rattle.vpf_cutting.specs.WalkLaws.{absent_edges, passed_is}
+use Rattle.vpf_tiling.specs.Inner.PresenceLaws.{face_next, present_has, source_next}
+use Rattle.vpf_cutting.specs.Inner.WalkLaws.{absent_edges, passed_is}
 
 within_next : (c : Primitives) (plan : ℕ → ℕ) → IsWellFormed c → (t d : ℕ) → (untiled_links c).has d ≡ true
     → is_within c plan t (next_of c d) ≡ is_within c plan t d

@@ -4,15 +4,15 @@ use Rattle.std.specs.Prelude.{All, filter}
 use Rattle.std.specs.List.Sorted.{IsStrictlyIncreasing}
 use Rattle.vpf_darts.specs.declared.darts.TileDart.{TileDart}
 use Rattle.vpf_darts.specs.Darts.{code, edge_in, sign_of, tile_dart_code}
-use Rattle.vpf_wing.specs.Kept.Kept.{AreKept}
+use Rattle.vpf_wing.specs.Inner.Kept.Kept.{AreKept}
 use Rattle.vpf_prims.specs.Numbering.{IsRowOf}
 use Rattle.vpf_prims.specs.Primitives.{Primitives}
 use Rattle.vpf_tiling.specs.Plans.{IsTileable}
 use Rattle.vpf_tiling.specs.Presence.{absent_darts, coverage_map, has_edge, is_present, untiled_links}
-use Rattle.vpf_tiling.specs.PresenceLaws.{other-code, present_flip, present_has}
-use Rattle.vpf_wing.specs.DartLaws.{code-edge, sign-small, stands_in}
-use Rattle.vpf_wing.specs.Laws.{WellFormedHasMap}
-use Rattle.vpf_cutting.specs.WalkLaws.{absent_edges, has_row}
+use Rattle.vpf_tiling.specs.Inner.PresenceLaws.{other-code, present_flip, present_has}
+use Rattle.vpf_wing.specs.Inner.DartLaws.{code-edge, sign-small, stands_in}
+use Rattle.vpf_wing.specs.Inner.Laws.{WellFormedHasMap}
+use Rattle.vpf_cutting.specs.Inner.WalkLaws.{absent_edges, has_row}
 use Rattle.vpf_cut_rings.proofs.DartLemmas.{darts_are_live, row_rises}
 use Rattle.vpf_cut_rings.proofs.OrderLemmas.{increasing_of, kept_rise}
 

@@ -1,7 +1,7 @@
 //! The first rings of faces.
 
 ghost use Rattle.std.specs.Prelude.{◌≡◌, ℕ, ◌+◌, ◌<◌, ◌≤◌, ◌^◌, ◌==◌, ◌&&◌, All, IfOk, length, map, nat_lt, slice_index};
-ghost use Rattle.vpf_cut_rings.specs.Rings.{first_rings_of, first_with, ring_of};
+ghost use Rattle.vpf_cut_rings.specs.Inner.Rings.{first_rings_of, first_with, ring_of};
 
 use crate::rings::CutRing;
 use std::alloc::{AllocError, Global};

@@ -1,6 +1,6 @@
 //! What is so of the rings of all tiles.
 
-ghost use Rattle.vpf_cut_rings.specs.Laws.{LeastsBeginCycles, OuterRingsBeginCycles};
+ghost use Rattle.vpf_cut_rings.specs.Inner.Laws.{LeastsBeginCycles, OuterRingsBeginCycles};
 
 use vpf_darts::laws::first_kept_dart;
 use vpf_wing::laws::well_formed_has_map;

@@ -1,8 +1,8 @@
 //! The outer rings of a tile: the walks round what it holds, along the faces of other tiles and the universe.
 
 ghost use Rattle.std.specs.Prelude.{◌≡◌, ◌<◌, All, IfOk, [], length, map, slice_index_or, true};
-ghost use Rattle.vpf_cut_rings.specs.Rings.{HasSmallNumbers, ring_of};
-ghost use Rattle.vpf_cutting.specs.Cuts.{plan_by};
+ghost use Rattle.vpf_cut_rings.specs.Inner.Rings.{HasSmallNumbers, ring_of};
+ghost use Rattle.vpf_cutting.specs.Inner.Cuts.{plan_by};
 ghost use Rattle.vpf_darts.specs.Cycles.{IsListing, first_of};
 ghost use Rattle.vpf_darts.specs.Darts.{dart_code};
 ghost use Rattle.vpf_darts.specs.Listings.{numbers_of};

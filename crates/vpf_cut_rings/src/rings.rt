@@ -1,8 +1,8 @@
 //! The rings of the tiles of a coverage that is cut.
 
 ghost use Rattle.std.specs.Prelude.{◌≡◌, ◌++◌, ◌<◌, ◌^◌, All, IfOk, OnOk, length, map, true};
-ghost use Rattle.vpf_cut_rings.specs.Rings.{HasSmallNumbers, KeepsRings, ring_faces, ring_of};
-ghost use Rattle.vpf_cutting.specs.Cuts.{plan_by};
+ghost use Rattle.vpf_cut_rings.specs.Inner.Rings.{HasSmallNumbers, KeepsRings, ring_faces, ring_of};
+ghost use Rattle.vpf_cutting.specs.Inner.Cuts.{plan_by};
 ghost use Rattle.vpf_prims.specs.Reading.{primitives_of};
 ghost use Rattle.vpf_tiling.specs.Presence.{holds_face};
 ghost use Rattle.vpf_tiling.specs.Tiles.{face_rings, tiled_rings};
@@ -10,8 +10,8 @@ ghost use Rattle.vpf_tiling.specs.Tiles.{face_rings, tiled_rings};
 use crate::outer::outer_rings;
 use std::alloc::{AllocError, Global};
 use std::marker::Model;
-use vpf_copies::Copies;
 use vpf_cutting::Cut;
+use vpf_cutting::copies::Copies;
 use vpf_prims::Tile;
 
 /// A ring of a tile, by the tile's own numbers.
@@ -32,8 +32,8 @@ pub struct CutRings<'w, 'c, 'a> {
 }
 
 impl<'w, 'c, 'a> Model for CutRings<'w, 'c, 'a> {
-    ghost use Rattle.vpf_cut_rings.specs.Rings.{KeepsRings};
-    ghost use Rattle.vpf_cutting.specs.Cuts.{Cutting};
+    ghost use Rattle.vpf_cut_rings.specs.Inner.Rings.{KeepsRings};
+    ghost use Rattle.vpf_cutting.specs.Inner.Cuts.{Cutting};
 
     ghost Value = { Cutting };
 

@@ -1,7 +1,7 @@
 //! The darts of a tile, and whether their faces are of the tile.
 
 ghost use Rattle.std.specs.Prelude.{◌≡◌, ◌<◌, ◌^◌, All, IfOk, filter, map, true};
-ghost use Rattle.vpf_cutting.specs.Cuts.{plan_by};
+ghost use Rattle.vpf_cutting.specs.Inner.Cuts.{plan_by};
 ghost use Rattle.vpf_darts.specs.Darts.{dart_code, tile_dart_code};
 ghost use Rattle.vpf_tiling.specs.Presence.{is_present, is_within, untiled_links};
 

@@ -4,22 +4,22 @@ use Rattle.std.proofs.lemmas.Bool.{eq-eqb, ne_eqb}
 use Rattle.vpf_darts.specs.declared.darts.Dart.{Dart}
 use Rattle.vpf_darts.specs.declared.darts.TileDart.{TileDart}
 use Rattle.vpf_darts.specs.Darts.{code, dart_code, edge_in, flip, sign_of, tile_dart_code}
-use Rattle.vpf_darts.specs.Laws.{ComesRoundTo, FirstKeptDart}
+use Rattle.vpf_darts.specs.Inner.Laws.{ComesRoundTo, FirstKeptDart}
 use Rattle.vpf_darts.specs.Maps.{DartMap, IsMap, is_of_any}
 use Rattle.vpf_prims.specs.Numbering.{IsRowOf}
 use Rattle.vpf_prims.specs.Primitives.{Primitives, cross}
 use Rattle.vpf_prims.specs.References.{plain}
-use Rattle.vpf_wing.specs.DartLaws.{code-edge, code-tile, sign-small}
+use Rattle.vpf_wing.specs.Inner.DartLaws.{code-edge, code-tile, sign-small}
 use Rattle.vpf_tiling.specs.Presence.{absent_darts, coverage_map, face_of, has_edge, has_node, head_of, home, is_present, local_edge, local_node, next_of, tail_of, tile_map, untiled_links}
-use Rattle.vpf_tiling.specs.PresenceLaws.{Held, InFaces, edge_present, held, in_faces, in_zero, present_has, source_next, tail_next}
+use Rattle.vpf_tiling.specs.Inner.PresenceLaws.{Held, InFaces, edge_present, held, in_faces, in_zero, present_has, source_next, tail_next}
 use Rattle.vpf_tiling.specs.Tiles.{reference_to, tiled_edge, tiled_face, tiled_node, tiled_wing}
 use Rattle.vpf_triplet.specs.declared.triplets.Triplet.{Triplet}
 use Rattle.vpf_cutting.specs.declared.rows.CutEdge.{CutEdge}
 use Rattle.vpf_cutting.specs.declared.rows.Onward.{Onward}
-use Rattle.vpf_cutting.specs.Onward.{IsOnward}
-use Rattle.vpf_cutting.specs.Rows.{references_of}
-use Rattle.vpf_cutting.specs.Cuts.{Cutting, IsPlanned, plan_by}
-use Rattle.vpf_cutting.specs.WalkLaws.{absent_edges, has_row, home_here, home_past, home_there, kept_present, passed_is, present_kept, present_other, row_has, tail_there}
+use Rattle.vpf_cutting.specs.Inner.Onward.{IsOnward}
+use Rattle.vpf_cutting.specs.Inner.Rows.{references_of}
+use Rattle.vpf_cutting.specs.Inner.Cuts.{Cutting, IsPlanned, plan_by}
+use Rattle.vpf_cutting.specs.Inner.WalkLaws.{absent_edges, has_row, home_here, home_past, home_there, kept_present, passed_is, present_kept, present_other, row_has, tail_there}
 use Rattle.vpf_cutting.proofs.RowLemmas.{flip_is}
 
 abbrev cut_edge : Triplet → Triplet → Triplet → Triplet → Triplet → Triplet → CutEdge

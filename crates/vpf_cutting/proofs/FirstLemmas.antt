@@ -1,95 +1,30 @@
 -- The first edges of the nodes of a tile, edge by edge.
-use Rattle.std.proofs.Common.{◌≡◌, ◌≢◌, ℕ, zero, suc, ◌+◌, ◌^◌, ◌<◌, ◌≤◌, Bool, true, false, cond, eqb, ◌||◌, refl, sym, ap, ◌∙◌, subst, inl, inr, arith, List, [], ◌∷◌, ◌++◌, length, get_or, take, replicate}
+use Rattle.std.proofs.Common.{[], ◌≡◌, ℕ, zero, suc, ◌+◌, ◌^◌, ◌<◌, ◌≤◌, Bool, true, cond, eqb, ◌||◌, refl, sym, ap, ◌∙◌, subst, inl, inr, arith, List, ◌∷◌, ◌++◌, length, get_or, take, replicate}
 use Rattle.std.specs.Prelude.{All}
 use Rattle.std.proofs.Math.Seq.{take-suc}
 use Rattle.std.proofs.lemmas.Bool.{cases_eq, cases_lt, eq-eqb, ne_eqb}
 use Rattle.std.proofs.lemmas.List.{ext_get_or, get_or-replicate, get_or_past, length-replicate, length-take-le, take_all}
 use Rattle.std.proofs.lemmas.List.Elements.{All-from_get_or}
 use Rattle.std.proofs.lemmas.List.FromFn.{get_or-map-range_with_len, length-map-range_with_len}
-use Rattle.vpf_copies.specs.declared.edges.EdgeNodes.{EdgeNodes}
+use Rattle.vpf_cutting.specs.declared.copies.edges.EdgeNodes.{EdgeNodes}
 use Rattle.vpf_darts.specs.Darts.{code}
 use Rattle.vpf_prims.specs.Lists.{first_from, kth}
 use Rattle.vpf_prims.specs.Numbering.{IsRowOf}
 use Rattle.vpf_prims.specs.Primitives.{EdgePrimitive, Primitives, cross}
 use Rattle.vpf_prims.specs.References.{id_of, plain}
 use Rattle.vpf_tiling.specs.Presence.{has_node, head_of, local_node, present_edges, present_nodes}
-use Rattle.vpf_tiling.specs.PresenceLaws.{AtNode, at_node, no_node_zero, present_has, tail_in_nodes}
+use Rattle.vpf_tiling.specs.Inner.PresenceLaws.{AtNode, at_node, no_node_zero, present_has, tail_in_nodes}
 use Rattle.vpf_wing.specs.WellFormed.{IsWellFormed}
-use Rattle.vpf_tiling.specs.RankLaws.{count_is, numbered_append, numbered_many, rank_rises}
+use Rattle.vpf_tiling.specs.Inner.RankLaws.{count_is, numbered_append, numbered_many, rank_rises}
 use Rattle.vpf_tiling.specs.Ranks.{numbered, rank}
 use Rattle.vpf_tiling.specs.Tiles.{first_edge_at, reference_to, tiled_edge, tiled_edges}
-use Rattle.vpf_cutting.specs.Rows.{ArePutAt, first_edges_of, first_or}
+use Rattle.vpf_cutting.specs.Inner.Rows.{ArePutAt, first_edges_of, first_or}
+use Rattle.vpf_cutting.specs.Inner.FirstLaws.{put_or_not, first_more, first_below, zeros}
 
 -- so many edges of a tile are passed, and each node has the first of them that it has
 pub record AreFirsts (c : Primitives) (plan : ℕ → ℕ) (t k : ℕ) (firsts : List ℕ) : Type 0 where
   pub nodes : length firsts ≡ length (present_nodes c plan t)
   pub each : (n : ℕ) → IsRowOf (length firsts) n → kth firsts n 0 ≡ first_edge_at n (numbered (tiled_edge c plan t) (take k (present_edges c plan t)))
-
--- an edge is put for a node
-pub record IsPut (node edge : ℕ) (old new : List ℕ) : Type 0 where
-  pub nodes : length new ≡ length old
-  pub here : kth new node 0 ≡ first_or (kth old node 0) edge
-  pub others : (n : ℕ) → n ≢ node → kth new n 0 ≡ kth old n 0
-
-put_at : (node edge : ℕ) (old new : List ℕ) → IsPut node edge old new → (n : ℕ)
-    → kth new n 0 ≡ cond (eqb node n) (first_or (kth old n 0) edge) (kth old n 0)
-put_at node edge old new p n = elim (cases_eq node n) [
-  | inl e ↦
-      subst (λ m. kth new m 0 ≡ first_or (kth old m 0) edge) e p.here ∙ ap (λ b. cond b (first_or (kth old n 0) edge) (kth old n 0)) (sym (eq-eqb node n e))
-  | inr ne ↦ p.others n (λ e. ne (sym e)) ∙ ap (λ b. cond b (first_or (kth old n 0) edge) (kth old n 0)) (sym (ne_eqb node n ne))
-]
-
-first_some : (v edge : ℕ) → 1 ≤ v → first_or v edge ≡ v
-first_some v edge h = ap (λ b. cond b edge v) (ne_eqb v 0 (λ z. omega arith))
-
-first_none : (v : ℕ) → first_or v 0 ≡ v
-first_none v = elim (cases_eq v 0) [ inl z ↦ ap (λ x. first_or x 0) z ∙ sym z | inr some ↦ first_some v 0 (omega arith) ]
-
-first_twice : (v edge : ℕ) → 1 ≤ edge → first_or (first_or v edge) edge ≡ first_or v edge
-first_twice v edge h = elim (cases_eq v 0) [
-  | inl z ↦ ap (λ x. first_or (first_or x edge) edge) z ∙ first_some edge edge h ∙ sym (ap (λ x. first_or x edge) z)
-  | inr some ↦ ap (λ x. first_or x edge) (first_some v edge (omega arith))
-]
-
--- put at both ends
-put_twice : (x y : Bool) (v edge : ℕ) → 1 ≤ edge
-    → cond y (first_or (cond x (first_or v edge) v) edge) (cond x (first_or v edge) v) ≡ cond (x || y) (first_or v edge) v
-put_twice true true v edge h = first_twice v edge h
-put_twice true false v edge h = refl
-put_twice false true v edge h = refl
-put_twice false false v edge h = refl
-
-pub put_both : (ends : EdgeNodes) (edge : ℕ) (old middle new : List ℕ) → 1 ≤ edge → IsPut ends.start edge old middle → IsPut ends.end edge middle new
-    → ArePutAt ends edge old new
-put_both ends edge old middle new some p q = record {
-  nodes = q.nodes ∙ p.nodes;
-  each = λ n. put_at ends.end edge middle new q n
-      ∙ ap (λ v. cond (eqb ends.end n) (first_or v edge) v) (put_at ends.start edge old middle p n)
-      ∙ put_twice (eqb ends.start n) (eqb ends.end n) (kth old n 0) edge some;
-}
-
-put_or_not : (x : Bool) (v edge : ℕ) → cond x (first_or v edge) v ≡ first_or v (cond x edge 0)
-put_or_not true v edge = refl
-put_or_not false v edge = sym (first_none v)
-
--- the first of one item more
-first_more : {X : Type 0} (p : X → Bool) (j : ℕ) (xs : List X) (x : X) → 1 ≤ j
-    → first_from j p (xs ++ x ∷ []) ≡ first_or (first_from j p xs) (cond (p x) (length xs + j) 0)
-first_more p zero xs x h = absurd (omega arith)
-first_more p (suc j) [] x h = ap (λ m. cond (p x) m 0) (let e : suc j ≡ 0 + suc j = omega arith in e)
-first_more p (suc j) (y ∷ ys) x h = later (p y) (first_more p (suc (suc j)) ys x (omega arith)) where
-  later : (b : Bool) → first_from (suc (suc j)) p (ys ++ x ∷ []) ≡ first_or (first_from (suc (suc j)) p ys) (cond (p x) (length ys + suc (suc j)) 0)
-      → cond b (suc j) (first_from (suc (suc j)) p (ys ++ x ∷ [])) ≡ first_or (cond b (suc j) (first_from (suc (suc j)) p ys)) (cond (p x) (length (y ∷ ys) + suc j) 0)
-  later true before = sym (first_some (suc j) (cond (p x) (length (y ∷ ys) + suc j) 0) (omega arith))
-  later false before =
-      before ∙ ap (λ m. first_or (first_from (suc (suc j)) p ys) (cond (p x) m 0)) (let e : length ys + suc (suc j) ≡ length (y ∷ ys) + suc j = omega arith in e)
-
-first_below : {X : Type 0} (p : X → Bool) (j : ℕ) (xs : List X) → 1 ≤ j → first_from j p xs < j + length xs
-first_below p j [] h = omega arith
-first_below p j (x ∷ xs) h = by (p x) (first_below p (suc j) xs (omega arith)) where
-  by : (b : Bool) → first_from (suc j) p xs < suc j + length xs → cond b j (first_from (suc j) p xs) < j + length (x ∷ xs)
-  by true below = omega arith
-  by false below = omega arith
 
 reference_here : (t s here there : ℕ) → id_of (reference_to t s here there) ≡ here
 reference_here t s here there = elim (cases_eq s t) [
@@ -133,9 +68,6 @@ firsts_more c plan t k e ends old new below at start end f p = record {
       ∙ sym (first_more test 1 (numbered make (take k xs)) (make (k + 1) e) (omega arith))
       ∙ ap (first_edge_at n) (sym rows));
 }
-
-abbrev zeros : ℕ → List ℕ
-zeros m = replicate m 0
 
 -- no edge is passed
 pub firsts_none : (c : Primitives) (plan : ℕ → ℕ) (t : ℕ) (firsts : List ℕ) → firsts ≡ zeros (length (present_nodes c plan t)) → AreFirsts c plan t 0 firsts

@@ -6,16 +6,16 @@ use Rattle.std.proofs.lemmas.Bool.{and_parts, leb-true}
 use Rattle.std.proofs.lemmas.List.Elements.{All-filter, All-from_get_or, filter_passes}
 use Rattle.std.proofs.lemmas.List.FromFn.{get_or-range_with_len, length-range_with_len}
 use Rattle.std.proofs.lemmas.List.Sums.{count_by-le-length, length-filter}
-use Rattle.vpf_copies.specs.Presence.{Presence, items_in, local_number, rank_up_to}
+use Rattle.vpf_cutting.specs.Inner.Copies.Presence.{Presence, items_in, local_number, rank_up_to}
 use Rattle.vpf_prims.specs.Numbering.{IsRowOf}
 use Rattle.vpf_prims.specs.Primitives.{Primitives}
-use Rattle.vpf_tiling.specs.Laws.{EdgesAreCounted, FacesAreCounted, NodesAreCounted}
+use Rattle.vpf_tiling.specs.Inner.Laws.{EdgesAreCounted, FacesAreCounted, NodesAreCounted}
 use Rattle.vpf_tiling.specs.Presence.{has_edge, has_node, holds_face, local_edge, local_face, local_node}
-use Rattle.vpf_tiling.specs.PresenceLaws.{AtNode, at_node, present_has, tail_in_nodes}
+use Rattle.vpf_tiling.specs.Inner.PresenceLaws.{AtNode, at_node, present_has, tail_in_nodes}
 use Rattle.vpf_tiling.specs.Ranks.{up_to}
 use Rattle.vpf_wing.specs.WellFormed.{IsWellFormed}
-use Rattle.vpf_cutting.specs.Cuts.{ArePresent}
-use Rattle.vpf_cutting.specs.WalkLaws.{has_edge_row}
+use Rattle.vpf_cutting.specs.Inner.Cuts.{ArePresent}
+use Rattle.vpf_cutting.specs.Inner.WalkLaws.{has_edge_row}
 
 -- the items of a tile
 pub items_are : (n tiles : ℕ) (test : ℕ → ℕ → Bool) (p : Presence) → ArePresent n tiles test p → (t : ℕ) → items_in p t ≡ filter (test t) (up_to n)

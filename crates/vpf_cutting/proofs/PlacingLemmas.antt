@@ -8,27 +8,27 @@ use Rattle.std.proofs.lemmas.Bool.{cases_Bool, cases_eq, cases_lt, and_parts, eq
 use Rattle.std.proofs.lemmas.List.{get_or-map, get_or_past, length-map, map-append}
 use Rattle.std.proofs.lemmas.List.Elements.{All-from_get_or, All-map}
 use Rattle.std.proofs.lemmas.List.Folds.{list_any-append}
-use Rattle.vpf_copies.specs.declared.edges.EdgeNodes.{EdgeNodes}
-use Rattle.vpf_copies.specs.declared.edges.EdgeTiles.{EdgeTiles}
-use Rattle.vpf_copies.specs.Placing.{AreNodes, AreTiles, has_end, is_at, is_beside, is_end, is_side, no_nodes, no_tiles}
-use Rattle.vpf_copies.specs.Presence.{Presence, has, presence_of}
+use Rattle.vpf_cutting.specs.declared.copies.edges.EdgeNodes.{EdgeNodes}
+use Rattle.vpf_cutting.specs.declared.copies.edges.EdgeTiles.{EdgeTiles}
+use Rattle.vpf_cutting.specs.Inner.Copies.Placing.{AreNodes, AreTiles, has_end, is_at, is_beside, is_end, is_side, no_nodes, no_tiles}
+use Rattle.vpf_cutting.specs.Inner.Copies.Presence.{Presence, has, presence_of}
 use Rattle.vpf_darts.specs.Darts.{code, flip}
 use Rattle.vpf_prims.specs.Lists.{kth}
 use Rattle.vpf_prims.specs.Numbering.{IsRowOf}
-use Rattle.vpf_prims.specs.Owning.{NamesItsOwn, OwnsEdge}
+use Rattle.vpf_prims.specs.Inner.Owning.{NamesItsOwn, OwnsEdge}
 use Rattle.vpf_prims.specs.Primitives.{EdgePrimitive, EntityPrimitive, Primitives, absent_edge, absent_entity, entities_in}
 use Rattle.vpf_prims.specs.Reading.{primitives_of}
 use Rattle.vpf_prims.specs.References.{id_of}
 use Rattle.vpf_prims.specs.Tables.{TileTables}
-use Rattle.vpf_wing.specs.DartLaws.{never_both}
+use Rattle.vpf_wing.specs.Inner.DartLaws.{never_both}
 use Rattle.vpf_wing.specs.Links.{row_darts}
 use Rattle.vpf_tiling.specs.Plans.{IsPlan, IsTileable}
 use Rattle.vpf_tiling.specs.Presence.{containing_face, face_of, has_edge, has_node, holds_entity, holds_face, is_present, is_within, tail_of}
-use Rattle.vpf_tiling.specs.RankLaws.{up-last}
+use Rattle.vpf_tiling.specs.Inner.RankLaws.{up-last}
 use Rattle.vpf_tiling.specs.Ranks.{up_to}
-use Rattle.vpf_cutting.specs.Cuts.{AreCutEdges, AreCutEntities, AreCutFaces, ArePresent, Cutting, IsPlanned, KeepsCut, cutting_of, plan_by}
-use Rattle.vpf_cutting.specs.Sides.{nodes_at, tile_round, tiles_beside}
-use Rattle.vpf_cutting.specs.WalkLaws.{has_edge_row, present_other, row_has}
+use Rattle.vpf_cutting.specs.Inner.Cuts.{AreCutEdges, AreCutEntities, AreCutFaces, ArePresent, Cutting, IsPlanned, KeepsCut, cutting_of, plan_by}
+use Rattle.vpf_cutting.specs.Inner.Sides.{nodes_at, tile_round, tiles_beside}
+use Rattle.vpf_cutting.specs.Inner.WalkLaws.{has_edge_row, present_other, row_has}
 use Rattle.vpf_cutting.proofs.RowLemmas.{face_is, flip_is, tail_is}
 
 -- item k of a mapped list

@@ -6,16 +6,16 @@ use Rattle.vpf_darts.specs.Darts.{code, dart_code, edge_in, flip, sign_of, tile_
 use Rattle.vpf_prims.specs.declared.rows.Edge.{Edge}
 use Rattle.vpf_prims.specs.Lists.{kth}
 use Rattle.vpf_prims.specs.Numbering.{IsRowOf}
-use Rattle.vpf_prims.specs.Owning.{NamesItsOwn, OwnsEdge}
+use Rattle.vpf_prims.specs.Inner.Owning.{NamesItsOwn, OwnsEdge}
 use Rattle.vpf_prims.specs.Primitives.{EdgePrimitive, Library, Primitives, absent_edge, own_edge, own_edges, tile_edges, untiled}
 use Rattle.vpf_prims.specs.References.{id_of}
-use Rattle.vpf_wing.specs.DartLaws.{code-edge, code-tile, flip-flip, minus-code, none_is_some, same_some, sign-small}
+use Rattle.vpf_wing.specs.Inner.DartLaws.{code-edge, code-tile, flip-flip, minus-code, none_is_some, same_some, sign-small}
 use Rattle.vpf_wing.specs.Links.{edge_of_dart, face_by, is_next, local_next, next_to, node_by, only, wing_by}
 use Rattle.vpf_wing.specs.Nexts.{edge_at, face, follows, head, next_dart, no_edge, tail, the_one, wing}
 use Rattle.vpf_wing.specs.WellFormed.{IsWellFormed}
 use Rattle.vpf_tiling.specs.Presence.{face_of, head_of, next_of, tail_of, untiled_links}
-use Rattle.vpf_tiling.specs.PresenceLaws.{source_next}
-use Rattle.vpf_cutting.specs.WalkLaws.{row_has}
+use Rattle.vpf_tiling.specs.Inner.PresenceLaws.{source_next}
+use Rattle.vpf_cutting.specs.Inner.WalkLaws.{row_has}
 
 -- the row of the edge of a dart
 row_is : (c : Primitives) (e : ℕ) (m : Bool) → e < 2 ^ 32 → edge_of_dart (untiled c) (code 0 e (sign_of m)) ≡ kth c.edges e absent_edge

@@ -1,5 +1,1 @@
-pub mod Cuts
-pub mod Sides
-pub mod Rows
-pub mod WalkLaws
-pub mod Onward
+pub mod Inner

@@ -1,8 +1,8 @@
 //! A coverage that is cut into tiles.
 
 ghost use Rattle.std.specs.Prelude.{◌≡◌, ◌<◌, ◌≤◌, ◌+◌, ◌^◌, All, IfOk, Some, length, true};
-ghost use Rattle.vpf_copies.specs.Presence.{is_one_of};
-ghost use Rattle.vpf_cutting.specs.Cuts.{IsPlanned, cutting_of, plan_by};
+ghost use Rattle.vpf_cutting.specs.Inner.Copies.Presence.{is_one_of};
+ghost use Rattle.vpf_cutting.specs.Inner.Cuts.{IsPlanned, cutting_of, plan_by};
 ghost use Rattle.vpf_darts.specs.Darts.{dart_code};
 ghost use Rattle.vpf_prims.specs.Numbering.{IsRowOf};
 ghost use Rattle.vpf_prims.specs.Primitives.{entities_in};
@@ -11,12 +11,12 @@ ghost use Rattle.vpf_tiling.specs.Presence.{face_of, has_edge, has_node, head_of
 ghost use Rattle.vpf_tiling.specs.Presence.{home, is_present, local_edge, local_face, local_node, next_of, present_edges, present_nodes};
 ghost use Rattle.vpf_tiling.specs.Tiles.{is_made};
 
+use crate::copies::Copies;
 use crate::placing::{
     edges_in_tiles, entities_in_tiles, faces_in_tiles, nodes_in_tiles, tile_of_face,
 };
 use std::alloc::{AllocError, Global};
 use std::marker::Model;
-use vpf_copies::Copies;
 use vpf_darts::{Dart, flip};
 use vpf_prims::{Tile, id_of};
 use vpf_tiling::laws::local_numbers_count;
@@ -36,7 +36,7 @@ pub struct Cut<'c, 'a> {
 }
 
 impl<'c, 'a> Model for Cut<'c, 'a> {
-    ghost use Rattle.vpf_cutting.specs.Cuts.{Cutting, KeepsCut, cutting_of};
+    ghost use Rattle.vpf_cutting.specs.Inner.Cuts.{Cutting, KeepsCut, cutting_of};
 
     ghost Value = { Cutting };
 

@@ -1,16 +1,16 @@
 //! The first edges of the nodes of a tile.
 
 ghost use Rattle.std.specs.Prelude.{◌≡◌, ◌≢◌, ℕ, ◌<◌, ◌≤◌, ◌^◌, All, IfOk, length, true};
-ghost use Rattle.vpf_cutting.specs.Cuts.{plan_by};
-ghost use Rattle.vpf_cutting.specs.Rows.{ArePutAt, first_edges_of, first_or};
+ghost use Rattle.vpf_cutting.specs.Inner.Cuts.{plan_by};
+ghost use Rattle.vpf_cutting.specs.Inner.Rows.{ArePutAt, first_edges_of, first_or};
 ghost use Rattle.vpf_darts.specs.Darts.{code};
 ghost use Rattle.vpf_prims.specs.Lists.{kth};
 ghost use Rattle.vpf_prims.specs.Numbering.{IsRowOf};
 ghost use Rattle.vpf_tiling.specs.Presence.{has_edge, head_of, local_node, present_nodes};
 
+use crate::copies::EdgeNodes;
 use crate::cut::Cut;
 use std::alloc::{AllocError, Global};
-use vpf_copies::EdgeNodes;
 use vpf_darts::{Dart, flip};
 
 /// Takes an edge as the first of a node that has none yet.

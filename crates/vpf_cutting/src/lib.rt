@@ -2,6 +2,7 @@
 //! (MIL-STD-2407, 5.2.3, tiled coverages and cross-tile topology).
 #![tactic(auto)]
 
+pub mod copies;
 mod cut;
 mod firsts;
 mod placing;

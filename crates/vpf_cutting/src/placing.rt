@@ -1,16 +1,16 @@
 //! Which primitives of a coverage are in which tiles of a plan.
 
 ghost use Rattle.std.specs.Prelude.{◌≡◌, IfOk, Some, length, map};
-ghost use Rattle.vpf_copies.specs.Placing.{has_end};
-ghost use Rattle.vpf_cutting.specs.Cuts.{AreCutEdges, AreCutEntities, AreCutFaces, ArePresent, IsPlanned, cutting_of, plan_by};
-ghost use Rattle.vpf_cutting.specs.Sides.{nodes_at, tile_round, tiles_beside};
+ghost use Rattle.vpf_cutting.specs.Inner.Copies.Placing.{has_end};
+ghost use Rattle.vpf_cutting.specs.Inner.Cuts.{AreCutEdges, AreCutEntities, AreCutFaces, ArePresent, IsPlanned, cutting_of, plan_by};
+ghost use Rattle.vpf_cutting.specs.Inner.Sides.{nodes_at, tile_round, tiles_beside};
 ghost use Rattle.vpf_prims.specs.Lists.{kth};
 ghost use Rattle.vpf_prims.specs.Numbering.{IsRowOf};
 ghost use Rattle.vpf_prims.specs.Primitives.{absent_edge, absent_entity, entities_in};
 ghost use Rattle.vpf_prims.specs.Reading.{primitives_of};
 
+use crate::copies::{Copies, EdgeNodes, EdgeTiles};
 use std::alloc::{AllocError, Global};
-use vpf_copies::{Copies, EdgeNodes, EdgeTiles};
 use vpf_prims::{Tile, id_of};
 
 /// The tile of a face by a plan.

@@ -1,9 +1,9 @@
 //! The cells of the rows of a tile that name other primitives.
 
 ghost use Rattle.std.specs.Prelude.{◌≡◌, ℕ, ◌+◌, ◌<◌, ◌^◌, true, length};
-ghost use Rattle.vpf_cutting.specs.Cuts.{plan_by};
-ghost use Rattle.vpf_cutting.specs.Onward.{IsOnward};
-ghost use Rattle.vpf_cutting.specs.Rows.{HasSmallReferences, references_of};
+ghost use Rattle.vpf_cutting.specs.Inner.Cuts.{plan_by};
+ghost use Rattle.vpf_cutting.specs.Inner.Onward.{IsOnward};
+ghost use Rattle.vpf_cutting.specs.Inner.Rows.{HasSmallReferences, references_of};
 ghost use Rattle.vpf_darts.specs.Darts.{dart_code};
 ghost use Rattle.vpf_prims.specs.Numbering.{IsRowOf};
 ghost use Rattle.vpf_prims.specs.Primitives.{cross};

@@ -1,7 +1,7 @@
 //! The next of a dart in a tile.
 
 ghost use Rattle.std.specs.Prelude.{◌≡◌, true};
-ghost use Rattle.vpf_cutting.specs.Cuts.{plan_by};
+ghost use Rattle.vpf_cutting.specs.Inner.Cuts.{plan_by};
 ghost use Rattle.vpf_darts.specs.Darts.{dart_code};
 ghost use Rattle.vpf_tiling.specs.Presence.{is_present, tile_map};
 
@@ -20,7 +20,7 @@ pub struct TileWalk<'w, 'c, 'a> {
 }
 
 impl Walk for TileWalk<'_, '_, '_> {
-    ghost use Rattle.vpf_cutting.specs.Cuts.{plan_by};
+    ghost use Rattle.vpf_cutting.specs.Inner.Cuts.{plan_by};
     ghost use Rattle.vpf_tiling.specs.Presence.{absent_darts, coverage_map};
 
     ghost map = { λ w. coverage_map w.cut.now.source };

@@ -1,11 +1,11 @@
 -- The numbers of darts.
-use Rattle.std.proofs.Common.{◌≡◌, ◌≢◌, ℕ, ◌+◌, ◌*◌, ◌/◌, ◌%◌, ◌^◌, ◌<◌, ◌≤◌, Bool, true, false, not, ◌==◌, arith, inl, inr}
-use Rattle.std.proofs.lemmas.Bool.{cases_Bool, cases_eq}
+use Rattle.std.proofs.Common.{◌≡◌, ℕ, ◌+◌, ◌*◌, ◌/◌, ◌%◌, ◌^◌, ◌<◌, ◌≤◌, Bool, true, false, ◌==◌, arith, inl, inr}
+use Rattle.std.proofs.lemmas.Bool.{cases_eq}
 use Rattle.std.proofs.lemmas.Bool.Decides.{nat_tests}
 use Rattle.vpf_darts.specs.declared.darts.Dart.{Dart}
 use Rattle.vpf_darts.specs.declared.darts.TileDart.{TileDart}
 use Rattle.vpf_darts.specs.Darts.{code, tile_in, edge_in, sign_in, flip, dart_code, tile_dart_code, sign_of}
-use Rattle.vpf_darts.specs.Laws.{NumbersNameDarts, PartsGiveNumber, FlipIsOfSign}
+use Rattle.vpf_darts.specs.Inner.Laws.{NumbersNameDarts, PartsGiveNumber, FlipIsOfSign}
 
 pub untiled_code : (edge sign : ℕ) → code 0 edge sign ≡ 2 * edge + sign
 unfolding code
@@ -22,22 +22,10 @@ pub flip-half : (x : ℕ) → flip x / 2 ≡ x / 2
 unfolding flip
 flip-half x = omega arith
 
-pub flip_flip : (x : ℕ) → flip (flip x) ≡ x
-unfolding flip
-flip_flip x = omega arith
-
-pub flip_apart : (x : ℕ) → flip x ≢ x
-unfolding flip
-flip_apart x e = omega arith
-
 -- a dart with a number below 2^33 is in tile 0
 pub untiled : (d : TileDart) → tile_dart_code d < 2 ^ 33 → d.tile ≡ 0
 unfolding code
 untiled d h = omega arith
-
-pub flip-tile_dart : (d : TileDart) → tile_dart_code (record { tile = d.tile; edge = d.edge; minus = not d.minus }) ≡ flip (tile_dart_code d)
-unfolding code flip
-flip-tile_dart d = elim (cases_Bool d.minus) [ inl t ↦ rw t (omega arith) | inr f ↦ rw f (omega arith) ]
 
 -- the edge and the sign of a number below 2^33
 pub number_of_parts : (n : ℕ) → code 0 (n / 2) (sign_of (n % 2 == 1)) ≡ n

@@ -1,5 +1,5 @@
 -- The marks of edges, and the darts of the edges that are marked.
-use Rattle.std.proofs.Common.{◌≡◌, ◌≢◌, ℕ, zero, suc, ◌+◌, ◌-◌, ◌*◌, ◌/◌, ◌<◌, ◌≤◌, Bool, true, false, ◌||◌, ◌⊎◌, ◌==◌, List, [], ◌∷◌, length, get_or, refl, ap, ◌∙◌, sym, inl, inr, arith}
+use Rattle.std.proofs.Common.{[], ◌≡◌, ◌≢◌, ℕ, zero, suc, ◌+◌, ◌-◌, ◌*◌, ◌/◌, ◌<◌, ◌≤◌, Bool, true, false, ◌||◌, ◌⊎◌, ◌==◌, List, ◌∷◌, length, get_or, refl, ap, ◌∙◌, sym, inl, inr, arith}
 use Rattle.std.proofs.lemmas.Bool.{cases_eq, cases_lt, cases_Bool}
 use Rattle.std.proofs.lemmas.Bool.Decides.{nat_tests}
 use Rattle.std.specs.List.{AllByRecursion}
@@ -8,7 +8,7 @@ use Rattle.vpf_darts.specs.Maps.{is_of, is_of_any}
 use Rattle.vpf_darts.specs.MapLists.{is_among, edges_from, edges_of}
 use Rattle.vpf_darts.proofs.DartLemmas.{untiled_code}
 use Rattle.vpf_darts.proofs.NextLemmas.{among_within}
-use Rattle.vpf_darts.proofs.WithoutLemmas.{of_cases}
+use Rattle.vpf_darts.specs.Inner.WithoutLaws.{of_cases}
 
 pub not_either : (x a b : ℕ) → (x ≡ a) ⊎ (x ≡ b) → ((x == a) || (x == b)) ≡ false → ⊥
 not_either x a b e f = grind (arith, nat_tests)

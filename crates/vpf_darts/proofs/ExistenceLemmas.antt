@@ -1,14 +1,14 @@
 -- A map has a listing.
-use Rattle.std.proofs.Common.{◌≡◌, ℕ, zero, suc, ◌+◌, ◌<◌, ◌≤◌, Bool, true, false, not, ◌||◌, nat_lt, List, [], ◌∷◌, ◌++◌, refl, sym, ap, ◌∙◌, subst, inl, inr, arith}
+use Rattle.std.proofs.Common.{[], ◌≡◌, ℕ, zero, suc, ◌+◌, ◌<◌, ◌≤◌, Bool, true, false, not, ◌||◌, nat_lt, List, ◌∷◌, ◌++◌, refl, sym, ap, ◌∙◌, subst, inl, inr, arith}
 use Rattle.std.proofs.lemmas.Bool.{cases_lt, cases_Bool}
 use Rattle.std.proofs.lemmas.Bool.Decides.{nat_tests}
 use Rattle.vpf_darts.specs.Cycles.{count_of, IsListing}
 use Rattle.vpf_darts.specs.Maps.{DartMap, IsMap, is_of_any, without}
-use Rattle.vpf_darts.specs.Laws.{LiveBelow, DartLiesOnCycle, MapHasListing, RemainderHasListing}
-use Rattle.vpf_darts.specs.Ranks.{IsRanking, Marks}
+use Rattle.vpf_darts.specs.Inner.Laws.{LiveBelow, DartLiesOnCycle, MapHasListing, RemainderHasListing}
+use Rattle.vpf_darts.specs.Inner.Ranks.{IsRanking, Marks}
 use Rattle.vpf_darts.proofs.ListingLemmas.{IsListed, IsListed-begin, IsListed-skip, IsListed-add, IsListed-end}
-use Rattle.vpf_darts.proofs.OrbitLemmas.{Returns, returns}
-use Rattle.vpf_darts.proofs.WithoutLemmas.{first_true, live_without_all, without-is_map}
+use Rattle.vpf_darts.specs.Inner.OrbitLaws.{Returns, returns}
+use Rattle.vpf_darts.specs.Inner.WithoutLaws.{first_true, live_without_all, without-is_map}
 
 -- the listing of what stands below start
 pub record Listed (next : ℕ → ℕ) (live : ℕ → Bool) (n start : ℕ) : Type 0 where

@@ -3,7 +3,6 @@ pub mod WithoutLemmas
 pub mod UniqueLemmas
 pub mod RenameLemmas
 pub mod SetLemmas
-pub mod OrbitLemmas
 pub mod DartLemmas
 pub mod RepeatLemmas
 pub mod NextLemmas

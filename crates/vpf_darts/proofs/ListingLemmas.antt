@@ -1,11 +1,11 @@
 -- Listing cycles by their least ranks, one after the other.
-use Rattle.std.proofs.Common.{◌≡◌, ℕ, ◌+◌, ◌<◌, ◌≤◌, Bool, true, false, not, cond, List, [], ◌∷◌, ◌++◌, length, append-nil, refl, sym, ap, ◌∙◌, inl, inr, arith}
+use Rattle.std.proofs.Common.{[], ◌≡◌, ℕ, ◌+◌, ◌<◌, ◌≤◌, Bool, true, false, not, cond, List, ◌∷◌, ◌++◌, length, append-nil, refl, sym, ap, ◌∙◌, inl, inr, arith}
 use Rattle.std.specs.List.{concat, AllByRecursion}
 use Rattle.std.proofs.lemmas.Bool.{cases_eq, cases_lt}
 use Rattle.std.proofs.lemmas.List.Folds.{concat-append}
 use Rattle.vpf_darts.specs.Cycles.{count_of, IsCycle, IsListing, BeginsWithLeast, FirstsRise, first_of}
-use Rattle.vpf_darts.specs.Ranks.{IsRanking, Marks, IsClosed}
-use Rattle.vpf_darts.proofs.CycleLemmas.{count_of-here, count_of-equal, each-counted}
+use Rattle.vpf_darts.specs.Inner.Ranks.{IsRanking, Marks, IsClosed}
+use Rattle.vpf_darts.specs.Inner.CycleLaws.{each-counted, count_of-here, count_of-equal}
 use Rattle.vpf_darts.proofs.MarkLemmas.{Marks-once, Marks-keep, Marks-has, Marks-join, cond-le, closed_after}
 
 pub each-push : (P : List ℕ → Type 0) (ls : List (List ℕ)) (xs : List ℕ) → AllByRecursion P ls → P xs → AllByRecursion P (ls ++ xs ∷ [])

@@ -1,10 +1,10 @@
 -- Marks of darts that a walk has passed.
-use Rattle.std.proofs.Common.{◌≡◌, ◌≢◌, ℕ, zero, suc, ◌+◌, ◌<◌, ◌≤◌, Bool, true, false, cond, List, [], ◌∷◌, ◌++◌, length, set, get_or, get_or-set_same, get_or-set_other, refl, sym, ◌∙◌, inl, inr, arith}
+use Rattle.std.proofs.Common.{[], ◌≡◌, ◌≢◌, ℕ, zero, suc, ◌+◌, ◌<◌, ◌≤◌, Bool, true, false, cond, List, ◌∷◌, ◌++◌, length, set, get_or, get_or-set_same, get_or-set_other, refl, sym, ◌∙◌, inl, inr, arith}
 use Rattle.std.proofs.lemmas.Bool.{cases_eq, cases_Bool}
 use Rattle.std.proofs.lemmas.Bool.Decides.{nat_tests}
 use Rattle.vpf_darts.specs.Cycles.{count_of, IsCycle}
-use Rattle.vpf_darts.specs.Ranks.{marked, IsClosed, Marks}
-use Rattle.vpf_darts.proofs.CycleLemmas.{count_of-append, count_of-step, count_of-next}
+use Rattle.vpf_darts.specs.Inner.Ranks.{marked, IsClosed, Marks}
+use Rattle.vpf_darts.specs.Inner.CycleLaws.{count_of-append, count_of-step, count_of-next}
 
 pub cond-le : (b : Bool) → cond b 1 0 ≤ 1
 cond-le true = omega arith

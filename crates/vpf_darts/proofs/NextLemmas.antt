@@ -1,5 +1,5 @@
 -- Nexts in a list of 1+, 1-, 2+ and so on.
-use Rattle.std.proofs.Common.{◌≡◌, ◌≢◌, ℕ, zero, suc, ◌+◌, ◌*◌, ◌/◌, ◌%◌, ◌^◌, ◌<◌, ◌≤◌, true, false, ◌&&◌, nat_le, List, [], ◌∷◌, length, map, take, replicate, get_or, refl, sym, ap, ◌∙◌, inl, inr, arith}
+use Rattle.std.proofs.Common.{[], ◌≡◌, ◌≢◌, ℕ, zero, suc, ◌+◌, ◌*◌, ◌/◌, ◌%◌, ◌^◌, ◌<◌, ◌≤◌, true, false, ◌&&◌, nat_le, List, ◌∷◌, length, map, take, replicate, get_or, refl, sym, ap, ◌∙◌, inl, inr, arith}
 use Rattle.std.specs.List.{All}
 use Rattle.std.proofs.lemmas.Bool.{cases_lt, cases_Bool}
 use Rattle.std.proofs.lemmas.Bool.Decides.{nat_tests}
@@ -9,7 +9,8 @@ use Rattle.vpf_darts.specs.Cycles.{count_of}
 use Rattle.vpf_darts.specs.Darts.{dart_code, sign_of, flip}
 use Rattle.vpf_darts.specs.Maps.{IsMap}
 use Rattle.vpf_darts.specs.MapLists.{AreMapLists, AreOfDarts, IsInRange, IsFirstRepeat, is_among, dart_map, lists_of}
-use Rattle.vpf_darts.proofs.DartLemmas.{untiled_code, sign_of-le, flip-half, flip_flip, flip_apart}
+use Rattle.vpf_darts.proofs.DartLemmas.{untiled_code, sign_of-le, flip-half}
+use Rattle.vpf_darts.specs.Inner.DartLaws.{flip_flip, flip_apart}
 use Rattle.vpf_darts.proofs.MarkLemmas.{any_default}
 use Rattle.vpf_darts.proofs.RepeatLemmas.{StandOnce, apart_from_once, place_of_counted}
 

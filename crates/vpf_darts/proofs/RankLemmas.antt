@@ -1,12 +1,12 @@
 -- The loops that list cycles by ranks.
-use Rattle.std.proofs.Common.{◌≡◌, ℕ, ◌+◌, ◌<◌, ◌≤◌, Bool, true, false, not, List, [], ◌∷◌, ◌++◌, length, map, set, refl, sym, ap, ◌∙◌, arith}
+use Rattle.std.proofs.Common.{[], ◌≡◌, ℕ, ◌+◌, ◌<◌, ◌≤◌, Bool, true, false, not, List, ◌∷◌, ◌++◌, length, map, set, refl, sym, ap, ◌∙◌, arith}
 use Rattle.std.proofs.lemmas.List.{append_assoc, map-append, length-append, get_or_past}
 use Rattle.vpf_darts.specs.declared.darts.TileDart.{TileDart}
 use Rattle.vpf_darts.specs.Cycles.{count_of, IsListing}
 use Rattle.vpf_darts.specs.Darts.{tile_dart_code}
 use Rattle.vpf_darts.specs.Listings.{RiseTo, pieces, numbers_of}
-use Rattle.vpf_darts.specs.Ranks.{IsRanking, IsRankedListing, AddsCycle, IsClosed, Marks, marked}
-use Rattle.vpf_darts.proofs.CycleLemmas.{IsWalk, IsWalk-more, IsWalk-at_start, IsCycle-from_walk, length-counted, first_of-walk}
+use Rattle.vpf_darts.specs.Inner.Ranks.{IsRanking, IsRankedListing, AddsCycle, IsClosed, Marks, marked}
+use Rattle.vpf_darts.specs.Inner.CycleLaws.{IsDartWalk as IsWalk, IsWalk-more, IsWalk-at_start, IsCycle-from_walk, length-counted, first_of-walk}
 use Rattle.vpf_darts.proofs.ListingLemmas.{IsListed, IsListed-begin, IsListed-skip, IsListed-add, IsListed-end}
 use Rattle.vpf_darts.proofs.MarkLemmas.{Marks-more, Marks-once, Marks-new}
 use Rattle.vpf_darts.proofs.PieceLemmas.{pieces-push, RiseTo-push, map-pieces}

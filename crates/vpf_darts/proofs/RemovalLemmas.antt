@@ -1,5 +1,5 @@
 -- The lists that are left without some edges are those of the map without them.
-use Rattle.std.proofs.Common.{◌≡◌, ℕ, zero, suc, ◌+◌, ◌-◌, ◌*◌, ◌/◌, ◌^◌, ◌<◌, ◌≤◌, Bool, true, false, not, ◌&&◌, List, [], ◌∷◌, ◌++◌, length, map, get_or, refl, sym, ap, ◌∙◌, inl, inr, arith}
+use Rattle.std.proofs.Common.{[], ◌≡◌, ℕ, zero, suc, ◌+◌, ◌-◌, ◌*◌, ◌/◌, ◌^◌, ◌<◌, ◌≤◌, Bool, true, false, not, ◌&&◌, List, ◌∷◌, ◌++◌, length, map, get_or, refl, sym, ap, ◌∙◌, inl, inr, arith}
 use Rattle.std.specs.List.{zip}
 use Rattle.std.proofs.lemmas.Bool.{cases_lt}
 use Rattle.std.proofs.lemmas.List.{length-map, map-append, get_or_past}
@@ -13,7 +13,8 @@ use Rattle.vpf_darts.proofs.DartLemmas.{untiled, dart_code-half}
 use Rattle.vpf_darts.proofs.EdgeLemmas.{is_of_marked, edges_from-among}
 use Rattle.vpf_darts.proofs.NextLemmas.{numbers, among_bounds}
 use Rattle.vpf_darts.proofs.ReadLemmas.{edge_bounds}
-use Rattle.vpf_darts.proofs.WithoutLemmas.{without-is_map, live_without_all, flip_without_all, has_without_all}
+use Rattle.vpf_darts.proofs.WithoutLemmas.{flip_without_all, has_without_all}
+use Rattle.vpf_darts.specs.Inner.WithoutLaws.{without-is_map, live_without_all}
 
 -- a dart of the map is in tile 0
 pub untiled_same : (m : MapLists) → AreMapLists m → (d : TileDart) → is_among (length m.next) (tile_dart_code d) ≡ true → dart_code (record { edge = d.edge; minus = d.minus }) ≡ tile_dart_code d

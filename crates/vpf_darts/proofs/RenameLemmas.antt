@@ -1,5 +1,5 @@
 -- A renaming takes cycles to cycles.
-use Rattle.std.proofs.Common.{◌≡◌, ℕ, ◌<◌, Bool, true, false, cond, List, [], ◌∷◌, ◌++◌, map, refl, sym, ap, ◌∙◌, inl, inr, arith}
+use Rattle.std.proofs.Common.{[], ◌≡◌, ℕ, ◌<◌, Bool, true, false, cond, List, ◌∷◌, ◌++◌, map, refl, sym, ap, ◌∙◌, inl, inr, arith}
 use Rattle.std.specs.List.{concat, AllByRecursion}
 use Rattle.std.proofs.lemmas.Bool.{cases_lt, cases_Bool}
 use Rattle.std.proofs.lemmas.Bool.Decides.{nat_tests}
@@ -7,8 +7,8 @@ use Rattle.std.proofs.lemmas.List.{map-append}
 use Rattle.vpf_base.proofs.Booleans.{clash}
 use Rattle.vpf_darts.specs.Cycles.{count_of, IsCycle}
 use Rattle.vpf_darts.specs.Maps.{DartMap}
-use Rattle.vpf_darts.specs.Laws.{IsRenaming, RenamingKeepsCycles}
-use Rattle.vpf_darts.proofs.CycleLemmas.{count_of-append, preimage, each-counted}
+use Rattle.vpf_darts.specs.Inner.Laws.{IsRenaming, RenamingKeepsCycles}
+use Rattle.vpf_darts.specs.Inner.CycleLaws.{preimage, each-counted, count_of-append}
 use Rattle.vpf_darts.proofs.UniqueLemmas.{counted_holds}
 
 abbrev pub AllLive : (ℕ → Bool) → List ℕ → Type 0

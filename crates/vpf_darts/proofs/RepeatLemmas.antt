@@ -1,10 +1,11 @@
 -- Lemmas on marks of what was met, and on lists in which no number stands twice.
-use Rattle.std.proofs.Common.{◌≡◌, ◌≢◌, ℕ, ◌+◌, ◌<◌, ◌≤◌, Bool, true, false, cond, List, [], ◌∷◌, length, take, set, get_or, get_or-set_same, get_or-set_other, zero, suc, refl, sym, ap, inl, inr, arith}
+use Rattle.std.proofs.Common.{[], ◌≡◌, ◌≢◌, ℕ, ◌+◌, ◌<◌, ◌≤◌, Bool, true, false, cond, List, ◌∷◌, length, take, set, get_or, get_or-set_same, get_or-set_other, zero, suc, refl, sym, ap, inl, inr, arith}
 use Rattle.std.proofs.lemmas.Bool.{cases_eq}
 use Rattle.std.proofs.lemmas.Bool.Decides.{nat_tests}
 use Rattle.std.proofs.lemmas.List.{take_more}
 use Rattle.vpf_darts.specs.Cycles.{count_of}
-use Rattle.vpf_darts.proofs.CycleLemmas.{count_of-append, count_of-step, count_of-here, count_of-more, count_of-not_here}
+use Rattle.vpf_darts.proofs.CycleLemmas.{count_of-more}
+use Rattle.vpf_darts.specs.Inner.CycleLaws.{count_of-append, count_of-step, count_of-here, count_of-not_here}
 
 -- one more number is met and marked
 pub counts_more : (xs : List ℕ) (marks : List Bool) (k at : ℕ) → k < length xs → at < length marks → get_or xs k 0 ≡ at → get_or marks at false ≡ false → ((x : ℕ) → count_of x (take k xs) ≡ cond (get_or marks x false) 1 0) → (x : ℕ) → count_of x (take (k + 1) xs) ≡ cond (get_or (set marks at true) x false) 1 0

@@ -1,12 +1,13 @@
 -- What is left depends on which edges are removed alone, and a renaming goes through a removal.
-use Rattle.std.proofs.Common.{◌≡◌, ℕ, zero, suc, ◌<◌, Bool, true, false, not, ◌&&◌, List, [], ◌∷◌, map, refl, sym, ap, ◌∙◌, inl, inr}
+use Rattle.std.proofs.Common.{[], ◌≡◌, ℕ, zero, suc, ◌<◌, Bool, true, false, not, ◌&&◌, List, ◌∷◌, map, refl, sym, ap, ◌∙◌, inl, inr}
 use Rattle.std.specs.List.{AllByRecursion, concat}
 use Rattle.std.proofs.lemmas.Bool.{cases_Bool}
 use Rattle.vpf_base.proofs.Booleans.{clash}
 use Rattle.vpf_darts.specs.Cycles.{count_of, BeginsWithLeast, FirstsRise, first_of}
 use Rattle.vpf_darts.specs.Maps.{DartMap, IsMap, turn, is_of_any, without}
-use Rattle.vpf_darts.specs.Laws.{IsRenaming, RenamingGivesAMap, RenamingKeepsRemoval, RemovalIsOfASet, RisingRenamingKeepsListing, Rises, ComesRoundTo}
-use Rattle.vpf_darts.proofs.WithoutLemmas.{comes_from, live_turn, live_without_all, passes_over, removed_stays, flip_without_all}
+use Rattle.vpf_darts.specs.Inner.Laws.{IsRenaming, RenamingGivesAMap, RenamingKeepsRemoval, RemovalIsOfASet, RisingRenamingKeepsListing, Rises, ComesRoundTo}
+use Rattle.vpf_darts.proofs.WithoutLemmas.{comes_from, passes_over, removed_stays, flip_without_all}
+use Rattle.vpf_darts.specs.Inner.WithoutLaws.{live_turn, live_without_all}
 use Rattle.vpf_darts.proofs.RenameLemmas.{AllLive, takes_cycles, lists_live, live_from_count}
 
 -- a walk over two maps that turn alike comes to one dart

@@ -3,7 +3,7 @@ use Rattle.std.proofs.Common.{◌≡◌, ℕ, zero, suc, ◌<◌, ◌≤◌, Boo
 use Rattle.std.proofs.lemmas.Bool.{cases_Bool}
 use Rattle.vpf_base.proofs.Booleans.{clash}
 use Rattle.vpf_darts.specs.Maps.{DartMap, IsMap, AreEdges, turn, is_of_any, without}
-use Rattle.vpf_darts.specs.Laws.{ComesRoundTo}
+use Rattle.vpf_darts.specs.Inner.Laws.{ComesRoundTo}
 use Rattle.vpf_darts.proofs.WithoutLemmas.{passes_over, comes_from}
 
 -- how many are passed over from x on, of the first n

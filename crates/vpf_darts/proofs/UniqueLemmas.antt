@@ -1,9 +1,9 @@
 -- There is one listing of a map.
-use Rattle.std.proofs.Common.{◌≡◌, ℕ, ◌+◌, ◌<◌, ◌≤◌, Bool, List, [], ◌∷◌, ◌++◌, map, refl, sym, ap, ◌∙◌, inl, inr, arith, subst}
+use Rattle.std.proofs.Common.{[], ◌≡◌, ℕ, ◌+◌, ◌<◌, ◌≤◌, Bool, List, ◌∷◌, ◌++◌, map, refl, sym, ap, ◌∙◌, inl, inr, arith, subst}
 use Rattle.std.specs.List.{concat, AllByRecursion}
 use Rattle.std.proofs.lemmas.Bool.{cases_eq, cases_lt}
 use Rattle.vpf_darts.specs.Cycles.{count_of, IsCycle, IsListing, BeginsWithLeast, FirstsRise, first_of}
-use Rattle.vpf_darts.proofs.CycleLemmas.{count_of-append, count_of-here, count_of-not_here}
+use Rattle.vpf_darts.specs.Inner.CycleLaws.{count_of-append, count_of-here, count_of-not_here}
 
 pub counted_holds : (P : ℕ → Type 0) (xs : List ℕ) → AllByRecursion P xs → (d : ℕ) → 0 < count_of d xs → P d
 counted_holds P [] all d h = absurd (omega arith)

@@ -6,7 +6,7 @@ use Rattle.vpf_darts.specs.Cycles.{IsListing, count_of}
 use Rattle.vpf_darts.specs.Darts.{tile_dart_code}
 use Rattle.vpf_darts.specs.Listings.{numbers_of}
 use Rattle.vpf_darts.specs.MapLists.{MapLists, AreMapLists, dart_map, is_among}
-use Rattle.vpf_darts.specs.Laws.{LiveBelow}
+use Rattle.vpf_darts.specs.Inner.Laws.{LiveBelow}
 use Rattle.vpf_darts.proofs.DartLemmas.{untiled}
 use Rattle.vpf_darts.proofs.NextLemmas.{among_bounds}
 use Rattle.vpf_darts.proofs.RenameLemmas.{AllLive, lists_live, live_from_count}

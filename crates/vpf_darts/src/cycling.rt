@@ -5,7 +5,7 @@ ghost use Rattle.vpf_darts.specs.Cycles.{IsListing};
 ghost use Rattle.vpf_darts.specs.Darts.{tile_dart_code};
 ghost use Rattle.vpf_darts.specs.Listings.{numbers_of};
 ghost use Rattle.vpf_darts.specs.MapLists.{AreMapLists, IsInRange, dart_map, is_among, list_next};
-ghost use Rattle.vpf_darts.specs.Ranks.{AddsCycle, IsClosed, IsRankedListing, IsRanking, marked};
+ghost use Rattle.vpf_darts.specs.Inner.Ranks.{AddsCycle, IsClosed, IsRankedListing, IsRanking, marked};
 
 use crate::darts::{Dart, TileDart};
 use crate::listings::Listing;

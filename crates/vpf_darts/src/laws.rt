@@ -4,10 +4,10 @@ ghost use Rattle.std.specs.Prelude.{◌≡◌, ◌<◌, ◌^◌};
 ghost use Rattle.std.specs.Ordering.{nat_cmp};
 ghost use Rattle.vpf_darts.specs.declared.darts.TileDart.{TileDart};
 ghost use Rattle.vpf_darts.specs.Darts.{tile_dart_code};
-ghost use Rattle.vpf_darts.specs.Laws.{NumbersNameDarts, PartsGiveNumber, FlipIsOfSign};
-ghost use Rattle.vpf_darts.specs.Laws.{FirstKeptDart, RemovalLeavesAMap, RemovalIsOfASet, RemovalIsOfLiveEdges, RemainderHasListing};
-ghost use Rattle.vpf_darts.specs.Laws.{RenamingKeepsCycles, RisingRenamingKeepsListing, RenamingKeepsRemoval, RenamingGivesAMap};
-ghost use Rattle.vpf_darts.specs.Laws.{OneListing, MapHasListing, DartLiesOnCycle};
+ghost use Rattle.vpf_darts.specs.Inner.Laws.{NumbersNameDarts, PartsGiveNumber, FlipIsOfSign};
+ghost use Rattle.vpf_darts.specs.Inner.Laws.{FirstKeptDart, RemovalLeavesAMap, RemovalIsOfASet, RemovalIsOfLiveEdges, RemainderHasListing};
+ghost use Rattle.vpf_darts.specs.Inner.Laws.{RenamingKeepsCycles, RisingRenamingKeepsListing, RenamingKeepsRemoval, RenamingGivesAMap};
+ghost use Rattle.vpf_darts.specs.Inner.Laws.{OneListing, MapHasListing, DartLiesOnCycle};
 
 use crate::darts::TileDart;
 

@@ -4,7 +4,7 @@ ghost use Rattle.std.specs.Prelude.{◌≡◌, ◌↔◌, ◌/◌, ◌^◌, ◌<
 ghost use Rattle.vpf_darts.specs.Darts.{dart_code};
 ghost use Rattle.vpf_darts.specs.Maps.{IsMap};
 ghost use Rattle.vpf_darts.specs.MapLists.{AreMapLists, AreOfDarts, IsFirstRepeat, dart_map, lists_of, list_tail, list_face};
-ghost use Rattle.vpf_darts.specs.MapError.{IfNotPermutation};
+ghost use Rattle.vpf_darts.specs.Inner.MapError.{IfNotPermutation};
 
 use crate::darts::Dart;
 use crate::repeats::first_repeat;

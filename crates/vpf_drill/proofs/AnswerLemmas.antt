@@ -1,5 +1,5 @@
 -- The answer of `drill`: there is one, and only one.
-use Rattle.std.proofs.Common.{◌≡◌, ℕ, suc, ◌+◌, List, [], ◌∷◌, length, map, max, Some, Result, Ok, refl, sym, ap, ◌∙◌, subst}
+use Rattle.std.proofs.Common.{[], ◌≡◌, ℕ, suc, ◌+◌, List, ◌∷◌, length, map, max, Result, Ok, refl, sym, ap, ◌∙◌, subst}
 use Rattle.std.proofs.lemmas.List.{length-map}
 use Rattle.vpf_source.specs.Files.{Files}
 use Rattle.vpf_darts.specs.declared.darts.TileDart.{TileDart}
@@ -10,19 +10,20 @@ use Rattle.vpf_prims.specs.Libraries.{library_of}
 use Rattle.vpf_library_files.specs.Loading.Loading.{LoadedCoverage, read_coverage}
 use Rattle.vpf_library_files.specs.declared.loading.loading.LoadStop.{LoadStop}
 use Rattle.vpf_source.specs.declared.file.File.{File}
-use Rattle.vpf_tile_theorem.specs.Counting.{all_edges}
-use Rattle.vpf_trace.specs.Laws.{LibraryHasTrace, OneTrace}
-use Rattle.vpf_trace.specs.Tracing.{IsTrace}
+use Rattle.vpf_library_commands.specs.Counting.{all_edges}
+use Rattle.vpf_library_commands.specs.TraceLaws.{LibraryHasTrace, OneTrace}
+use Rattle.vpf_library_commands.specs.TraceTracing.{IsTrace}
 use Rattle.vpf_replies.specs.Answer.{done}
 use Rattle.vpf_replies.specs.Listings.{listing_text}
-use Rattle.vpf_tile_theorem.proofs.TraceAnswers.{darts_of, lists_are, text_same}
+use Rattle.vpf_library_commands.specs.Inner.TraceLaws.{darts_of, lists_are, text_same}
 use Rattle.vpf_drill.specs.GridCutting.Reading.{grid_request}
 use Rattle.vpf_drill.specs.Counting.{dart_count, longest}
 use Rattle.vpf_drill.specs.Digest.{digest}
 use Rattle.vpf_drill.specs.Drill.{cut_grid}
 use Rattle.vpf_drill.specs.declared.numbers.TiledNumbers.{TiledNumbers}
-use Rattle.vpf_drill.specs.Laws.{GridIsTiled, HasDrill, OneDrill}
+use Rattle.vpf_drill.specs.Inner.Laws.{GridIsTiled, HasDrill, OneDrill}
 use Rattle.vpf_drill.specs.Numbers.{numbers_text, source_numbers, tiled_numbers}
+use Rattle.vpf_base.proofs.Options.{some_is as some_same}
 
 -- ---- what is counted of darts goes by their numbers
 
@@ -57,9 +58,6 @@ numbers_same c xs ys made e =
 
 ok_same : (a b : LoadedCoverage) → ok_read a ≡ ok_read b → a ≡ b
 ok_same a b e = cc
-
-some_same : (a b : Files) → Some a ≡ Some b → a ≡ b
-some_same a b e = cc
 
 -- ---- one answer
 

@@ -10,7 +10,7 @@ use Rattle.vpf_replies.specs.declared.halting.Halt.TheVariants as halts
 use Rattle.vpf_replies.specs.declared.halting.Stop.{Stop as Cause}
 use Rattle.vpf_replies.specs.Answer.{Answer}
 use Rattle.vpf_replies.specs.Halting.{ComesTo, settled}
-use Rattle.vpf_tile_theorem.specs.Counting.{all_edges}
+use Rattle.vpf_library_commands.specs.Counting.{all_edges}
 use Rattle.vpf_drill.specs.declared.numbers.SourceNumbers.{SourceNumbers}
 use Rattle.vpf_drill.specs.Counting.{line_count}
 use Rattle.vpf_drill.specs.Numbers.{source_numbers}

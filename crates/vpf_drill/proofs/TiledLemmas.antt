@@ -1,5 +1,5 @@
 -- The grid cut into tiles: what is made of it is read as a coverage, and nothing is found in it.
-use Rattle.std.proofs.Common.{◌≡◌, ℕ, ◌+◌, ◌≤◌, List, [], ◌∷◌, length, map, Option, None, Some, refl, sym, ap, ◌∙◌, subst, append-nil, arith}
+use Rattle.std.proofs.Common.{[], ◌≡◌, ℕ, ◌+◌, ◌≤◌, List, ◌∷◌, map, Option, None, Some, refl, sym, ap, ◌∙◌, subst, append-nil, arith}
 use Rattle.std.specs.Prelude.{AllPairs, ◌≢◌, ◌++◌}
 use Rattle.vpf_source.specs.Files.{Files}
 use Rattle.vpf_source.specs.Making.{with_all}
@@ -7,35 +7,36 @@ use Rattle.vpf_source.specs.declared.file.File.{File}
 use Rattle.vpf_prims.specs.Coverages.{CoverageTables}
 use Rattle.vpf_prims.specs.Primitives.{Primitives}
 use Rattle.vpf_prims.specs.Reading.{primitives_of}
-use Rattle.vpf_library_files.specs.Tileref.Laws.{StopsDecide}
+use Rattle.vpf_library_files.specs.Inner.Tileref.Laws.{StopsDecide}
 use Rattle.vpf_library_files.specs.Tileref.Tileref.{IsTileref}
 use Rattle.vpf_library_files.specs.Loading.Holding.{bytes_in}
-use Rattle.vpf_library_files.specs.Loading.Laws.{HeldIsRead}
+use Rattle.vpf_library_files.specs.Inner.Loading.Laws.{HeldIsRead}
 use Rattle.vpf_library_files.specs.Loading.Loading.{LoadedCoverage, Read, most_loaded, within}
-use Rattle.vpf_table_files.specs.Adding.{files_made, first_limit_of}
-use Rattle.vpf_tiler.specs.TileFiles.Tables.{library_tables}
+use Rattle.vpf_library_files.specs.TableFiles.Adding.{files_made, first_limit_of}
+use Rattle.vpf_library_commands.specs.Tables.{library_tables}
 use Rattle.vpf_replies.specs.declared.verdict.Verdict.TheVariants.{Done, Refused}
 use Rattle.vpf_replies.specs.Answer.{Answer, done}
-use Rattle.vpf_tiler.specs.TiledFiles.Names.{NamesDifferWithin}
+use Rattle.vpf_library_commands.specs.Names.{NamesDifferWithin}
 use Rattle.vpf_features.specs.Finding.{Named}
-use Rattle.vpf_featured.specs.Reading.{FeaturedCoverage}
-use Rattle.vpf_tile_theorem.specs.Agreeing.{AgreeingIsRead, CheckCounts, IsAgreeing}
-use Rattle.vpf_tile_theorem.specs.CheckRequest.{CheckRequest}
-use Rattle.vpf_tile_theorem.specs.Check.{agrees_text, coverage_finding, found_answer, read_answer, read_finding}
-use Rattle.vpf_tile_theorem.specs.Made.{file_within}
-use Rattle.vpf_tile_theorem.specs.Tilings.Cutting.{IsCutFrom, cut_files}
-use Rattle.vpf_tile_theorem.specs.Tilings.Laws.{NoneIsLacked, RequestsHaveNames, TilesAreMade, TilingsAreHeld}
-use Rattle.vpf_tile_theorem.specs.Tilings.Tilings.{HasNames, StandsAlone, made_request, with_rebuilt}
-use Rattle.vpf_tile_theorem.proofs.tilings.ReadLemmas.{OpenedIsRead}
-use Rattle.vpf_tile_theorem.proofs.tilings.SourceLemmas.{AreRead, parts_read, unfound}
-use Rattle.vpf_drill.specs.TiledSizes.Sizes.{GridIsLoaded, GridPassesNoLimit}
+use Rattle.vpf_library_commands.specs.Reading.{FeaturedCoverage}
+use Rattle.vpf_library_commands.specs.Agreeing.{AgreeingIsRead, CheckCounts, IsAgreeing}
+use Rattle.vpf_library_commands.specs.declared.checking.CheckRequest.{CheckRequest}
+use Rattle.vpf_library_commands.specs.Check.{agrees_text, coverage_finding, found_answer, read_answer, read_finding}
+use Rattle.vpf_library_commands.specs.Made.{file_within}
+use Rattle.vpf_library_commands.specs.TileTheorem.Tilings.Cutting.{IsCutFrom, cut_files}
+use Rattle.vpf_library_commands.specs.Inner.TileTheorem.Tilings.Laws.{NoneIsLacked, RequestsHaveNames, TilesAreMade, TilingsAreHeld}
+use Rattle.vpf_library_commands.specs.TileTheorem.Tilings.Tilings.{HasNames, StandsAlone, made_request, with_rebuilt}
+use Rattle.vpf_library_commands.specs.Inner.TileTheorem.Tilings.ReadLaws.{OpenedIsRead}
+use Rattle.vpf_library_commands.specs.Inner.TileTheorem.Tilings.SourceLaws.{PartsAreRead as AreRead, parts_read, unfound}
+use Rattle.vpf_drill.specs.Inner.TiledSizes.Sizes.{GridIsLoaded, GridPassesNoLimit}
 use Rattle.vpf_vectors.specs.Library.{TablesSayGrid, coverage_tables}
 use Rattle.vpf_drill.specs.GridCutting.Held.{GridHoldsBytes, OutIsEmpty, grid_held, tileref_grid}
-use Rattle.vpf_drill.specs.GridCutting.Plans.{GridServes, grid_plan}
+use Rattle.vpf_drill.specs.Inner.GridCutting.Plans.{GridServes, grid_plan}
 use Rattle.vpf_drill.specs.GridCutting.Reading.{GridHasTables, GridIsAsked, GridIsReadToCut, GridIsUnfound, GridPartsAreUnfound, grid_parts, grid_request, grid_tile_tables, grid_words}
 use Rattle.vpf_drill.specs.Drill.{cut_grid}
-use Rattle.vpf_drill.specs.Laws.{GridIsTiled}
+use Rattle.vpf_drill.specs.Inner.Laws.{GridIsTiled}
 use Rattle.vpf_drill.specs.Request.{CanBeAsked}
+use Rattle.vpf_library_commands.specs.Inner.TileTheorem.Tilings.MadeLaws.{bytes_within}
 
 -- what is known of the grid, and of tiled libraries
 pub record Known : Type 0 where
@@ -84,10 +85,6 @@ is_cut k n can =
 -- the names of the request are text
 text : Known → HasNames grid_request
 text k = k.requests grid_words grid_request k.asked.0 k.asked.1
-
-bytes_within : (folder : List ℕ) (files : List File) → bytes_in (map (file_within folder) files) ≡ bytes_in files
-bytes_within folder [] = refl
-bytes_within folder (file ∷ files) = ap (λ n. length file.bytes + n) (bytes_within folder files)
 
 -- what is made stands alone
 alone : Known → (n : ℕ) → CanBeAsked n → StandsAlone (grid_held n) grid_request.out (cut_files grid_request (grid_parts n) (grid_tile_tables n))

@@ -7,9 +7,9 @@ use Rattle.vpf_darts.specs.declared.darts.TileDart.{TileDart}
 use Rattle.vpf_darts.specs.Listings.{numbers_of}
 use Rattle.vpf_prims.specs.Libraries.{library_of}
 use Rattle.vpf_library_files.specs.Loading.Loading.{LoadedCoverage, read_coverage}
-use Rattle.vpf_trace.specs.Tracing.{IsTrace}
+use Rattle.vpf_library_commands.specs.TraceTracing.{IsTrace}
 use Rattle.vpf_replies.specs.Answer.{Answer, done}
-use Rattle.vpf_tile_theorem.specs.Tile.{tile_answer}
+use Rattle.vpf_library_commands.specs.Tile.{tile_answer}
 use Rattle.vpf_drill.specs.GridCutting.Held.{grid_held}
 use Rattle.vpf_drill.specs.GridCutting.Reading.{grid_request}
 use Rattle.vpf_drill.specs.Numbers.{numbers_text, source_numbers, tiled_numbers}

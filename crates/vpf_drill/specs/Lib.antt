@@ -2,13 +2,9 @@ pub mod Request
 pub mod Digest
 pub mod Counting
 pub mod Numbers
-pub mod Traced
-pub mod Trees
 pub mod Drill
-pub mod Laws
-pub mod GridAgreement
-pub mod TiledSizes
 pub mod GridCutting
-pub use Rattle.vpf_tile_theorem.specs.Tilings.Cutting
-pub use Rattle.vpf_tile_theorem.specs.Tilings.Tilings
-pub use Rattle.vpf_tile_theorem.specs.Tilings.Laws as TileTheoremLaws
+pub use Rattle.vpf_library_commands.specs.TileTheorem.Tilings.Cutting
+pub use Rattle.vpf_library_commands.specs.TileTheorem.Tilings.Tilings
+pub use Rattle.vpf_library_commands.specs.Inner.TileTheorem.Tilings.Laws as TileTheoremLaws
+pub mod Inner

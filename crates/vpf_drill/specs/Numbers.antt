@@ -7,7 +7,7 @@ use Rattle.vpf_findings.specs.Text.Texts.{◌&◌}
 use Rattle.vpf_prims.specs.Coverages.{CoverageTables, last_tile}
 use Rattle.vpf_prims.specs.Libraries.{library_of}
 use Rattle.vpf_replies.specs.Listings.{listing_text}
-use Rattle.vpf_tile_theorem.specs.Counting.{all_edges}
+use Rattle.vpf_library_commands.specs.Counting.{all_edges}
 use Rattle.vpf_drill.specs.declared.numbers.SourceNumbers.{SourceNumbers}
 use Rattle.vpf_drill.specs.declared.numbers.TiledNumbers.{TiledNumbers}
 use Rattle.vpf_drill.specs.Counting.{dart_count, line_count, longest}

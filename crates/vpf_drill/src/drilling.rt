@@ -6,7 +6,7 @@ ghost use Rattle.vpf_source.specs.Making.{with_all};
 ghost use Rattle.vpf_darts.specs.Listings.{numbers_of};
 ghost use Rattle.vpf_prims.specs.Libraries.{library_of};
 ghost use Rattle.vpf_library_files.specs.Loading.Loading.{LoadedCoverage, read_coverage};
-ghost use Rattle.vpf_trace.specs.Tracing.{IsTrace};
+ghost use Rattle.vpf_library_commands.specs.TraceTracing.{IsTrace};
 ghost use Rattle.vpf_cross.specs.CrossFinding.{topology_finding};
 ghost use Rattle.vpf_drill.specs.GridCutting.Held.{grid_held};
 ghost use Rattle.vpf_drill.specs.GridCutting.Reading.{grid_request};
@@ -14,7 +14,7 @@ ghost use Rattle.vpf_drill.specs.Drill.{IsDrill, cut_grid};
 ghost use Rattle.vpf_drill.specs.Digest.{digest};
 ghost use Rattle.vpf_drill.specs.Numbers.{source_numbers, tiled_numbers};
 ghost use Rattle.vpf_drill.specs.Request.{CanBeAsked};
-ghost use Rattle.vpf_drill.specs.Traced.{IsOfTiled};
+ghost use Rattle.vpf_drill.specs.Inner.Traced.{IsOfTiled};
 
 use crate::counting::{dart_count, line_count, longest};
 use crate::digest::Digest;
@@ -27,10 +27,10 @@ use vpf_coverage::Coverage;
 use vpf_cross::check_coverage;
 use vpf_darts::Listing;
 use vpf_findings::FindError;
+use vpf_library_commands::vpf_trace::trace;
+use vpf_library_commands::{MakeRequest, tile, totals_of};
 use vpf_replies::{Reply, Stop, Verdict, listed, settle};
 use vpf_source::{File, Name, SureTree, Tree};
-use vpf_tile_theorem::library_commands::{MakeRequest, tile, totals_of};
-use vpf_trace::trace;
 
 /// The folder of the library of the grid.
 const LIBRARY: &str = "grid";

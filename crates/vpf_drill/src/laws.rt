@@ -1,19 +1,19 @@
 //! What is so of the grid, and of the answers of `drill`.
 
-ghost use Rattle.vpf_drill.specs.Laws.{GridIsTiled, HasDrill, OneDrill};
+ghost use Rattle.vpf_drill.specs.Inner.Laws.{GridIsTiled, HasDrill, OneDrill};
 ghost use Rattle.vpf_drill.specs.Request.{RequestsCanBeAsked};
 
 use crate::grid_cutting::laws::{grid_is_held, grid_is_read_to_cut, grid_is_unfound, grid_serves};
 use crate::tiled_sizes::laws::grid_is_small;
+use vpf_library_commands::laws::check_decides_agreement;
+use vpf_library_commands::tile_theorem::tilings::laws::{
+    none_is_lacked, requests_have_names, tiles_are_made, tilings_agree,
+};
+use vpf_library_commands::tiler::tiled_files::laws::names_differ;
+use vpf_library_commands::vpf_trace::laws::one_trace;
 use vpf_library_files::loading::laws::coverages_are_held;
 use vpf_library_files::tileref::laws::stops_decide;
 use vpf_table::laws::opened_is_read;
-use vpf_tile_theorem::library_commands::laws::check_decides_agreement;
-use vpf_tile_theorem::tilings::laws::{
-    none_is_lacked, requests_have_names, tiles_are_made, tilings_agree,
-};
-use vpf_tiler::tiled_files::laws::names_differ;
-use vpf_trace::laws::one_trace;
 use vpf_vectors::laws::tables_say_grid;
 
 /// The coverage of each grid that can be asked for is read, what `tile` makes of it is read, and nothing is found in either.

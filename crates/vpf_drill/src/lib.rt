@@ -15,4 +15,4 @@ mod trees;
 
 pub use drilling::drill;
 pub use request::DrillRequest;
-pub use vpf_tile_theorem as tile_theorem;
+pub use vpf_library_commands::tile_theorem;

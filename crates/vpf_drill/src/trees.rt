@@ -8,7 +8,7 @@ ghost use Rattle.vpf_library_files.specs.Loading.Holding.{AreCoverageFiles, AreO
 ghost use Rattle.vpf_library_files.specs.Loading.Loading.{LoadedCoverage, read_coverage};
 ghost use Rattle.vpf_numbers.specs.TableLines.{coverage_numbers};
 ghost use Rattle.vpf_drill.specs.Request.{CanBeAsked};
-ghost use Rattle.vpf_drill.specs.Trees.{CanBeRead};
+ghost use Rattle.vpf_drill.specs.Inner.Trees.{CanBeRead};
 ghost use Rattle.vpf_drill.specs.GridCutting.Held.{grid_held};
 
 use crate::grid_cutting::laws::grid_is_held;

@@ -8,7 +8,7 @@ use Rattle.vpf_library_files.specs.Loading.Loading.{within}
 use Rattle.vpf_library_files.specs.declared.loading.loading.LoadStop.{LoadStop}
 use Rattle.vpf_feature_files.specs.Schemas.{FeatureTable, Schema}
 use Rattle.vpf_features.specs.Finding.{Named, feature_table_finding, tables_finding}
-use Rattle.vpf_classes.specs.Serving.{IndexesServe, ServesAsScans, unindexed_schema, unindexed_table}
+use Rattle.vpf_feature_commands.specs.Classes.Serving.{IndexesServe, ServesAsScans, unindexed_schema, unindexed_table}
 use Rattle.vpf_prims.specs.Coverages.{CoverageTables}
 use Rattle.vpf_feature_commands.specs.declared.requesting.SelectRequest.{SelectRequest}
 use Rattle.vpf_feature_commands.specs.Plain.{ServeWhatIsRead, plain_read}

@@ -1,6 +1,6 @@
 -- The answer of `select` by what was read.
-use Rattle.std.proofs.Common.{◌≡◌, ℕ, ◌<◌, ◌≤◌, List, [], ◌∷◌, length, Option, None, map, refl, arith, rules}
-use Rattle.std.specs.Prelude.{IfOk, Result, Ok, Err}
+use Rattle.std.proofs.Common.{[], ◌≡◌, ℕ, ◌<◌, ◌≤◌, List, ◌∷◌, length, Option, None, map, refl, arith}
+use Rattle.std.specs.Prelude.{Result, Ok, Err}
 use Rattle.vpf_findings.specs.Findings.{Disagreement}
 use Rattle.vpf_library_files.specs.Loading.Loading.{Read, within}
 use Rattle.vpf_library_files.specs.Loading.Loads.{ReadsStop}
@@ -12,7 +12,7 @@ use Rattle.vpf_replies.specs.declared.halting.Halt.{Halt}
 use Rattle.vpf_replies.specs.declared.halting.Halt.TheVariants as halts
 use Rattle.vpf_replies.specs.Answer.{Answer}
 use Rattle.vpf_replies.specs.Halting.{ComesTo}
-use Rattle.vpf_load_replies.specs.Stopping.{IsStopAnswer, stop_answer}
+use Rattle.vpf_featured.specs.LoadReplies.Stopping.{IsStopAnswer, stop_answer}
 use Rattle.vpf_feature_commands.specs.declared.requesting.SelectRequest.{SelectRequest}
 use Rattle.vpf_featured.specs.Reading.{FeaturedCoverage}
 use Rattle.vpf_feature_commands.specs.Select.{coverage_answer, featured_answer, schema_answer, select_request}
@@ -39,11 +39,6 @@ many_words f (a ∷ b ∷ c ∷ d ∷ e ∷ []) h = absurd (omega arith)
 many_words f (a ∷ b ∷ c ∷ d ∷ e ∷ i ∷ words) h = refl
 
 -- ---- answers of calls that may want memory
-
--- what is so of a value is so of it in other words
-pub if_ok_more : {V E : Type 0} (P Q : V → Type 0) (r : Result V E) → ((v : V) → P v → Q v) → IfOk r P → IfOk r Q
-if_ok_more P Q (Ok v) more h = more v h
-if_ok_more P Q (Err x) more h = search rules
 
 -- ---- a stop
 

@@ -2,7 +2,7 @@
 use Rattle.std.specs.Prelude.{◌≡◌, Result, Ok, Err}
 use Rattle.vpf_source.specs.Files.{Files}
 use Rattle.vpf_library_files.specs.declared.loading.loading.LoadStop.{LoadStop}
-use Rattle.vpf_classes.specs.Serving.{IndexesServe, unindexed_schema}
+use Rattle.vpf_feature_commands.specs.Classes.Serving.{IndexesServe, unindexed_schema}
 use Rattle.vpf_replies.specs.Answer.{Answer}
 use Rattle.vpf_feature_commands.specs.declared.requesting.SelectRequest.{SelectRequest}
 use Rattle.vpf_featured.specs.Reading.{FeaturedCoverage, read_featured}

@@ -12,13 +12,13 @@ use Rattle.vpf_feature_files.specs.Schemas.{Schema}
 use Rattle.vpf_features.specs.Finding.{Named, tables_finding}
 use Rattle.vpf_featured.specs.Reading.{FeaturedCoverage, read_featured}
 use Rattle.vpf_joins.specs.Features.{FeatureJoined}
-use Rattle.vpf_classes.specs.Asking.{features_asked}
-use Rattle.vpf_classes.specs.Lacks.{Lack, ClassLacks, TableLacks, ColumnLacks, IndexUnfit, ValueLacks, IndexWrong}
+use Rattle.vpf_feature_commands.specs.Classes.Asking.{features_asked}
+use Rattle.vpf_feature_commands.specs.Classes.Lacks.{Lack, ClassLacks, TableLacks, ColumnLacks, IndexUnfit, ValueLacks, IndexWrong}
 use Rattle.vpf_replies.specs.Answer.{Answer, done, refused}
 use Rattle.vpf_replies.specs.Refusals.{AbsentClass, AbsentColumn, AbsentTable, OtherValue, refusal_answer}
 use Rattle.vpf_replies.specs.Selecting.{wrong_row_text}
-use Rattle.vpf_load_replies.specs.Places.{place_name}
-use Rattle.vpf_load_replies.specs.Stopping.{stop_answer}
+use Rattle.vpf_featured.specs.LoadReplies.Places.{place_name}
+use Rattle.vpf_featured.specs.LoadReplies.Stopping.{stop_answer}
 use Rattle.vpf_feature_commands.specs.declared.requesting.SelectRequest.{SelectRequest}
 use Rattle.vpf_feature_commands.specs.Lines.{features_text}
 

@@ -5,14 +5,14 @@ ghost use Rattle.vpf_value.specs.Values.{view};
 ghost use Rattle.vpf_findings.specs.Findings.{disagreement_of};
 ghost use Rattle.vpf_findings.specs.Printing.{disagree_text};
 ghost use Rattle.vpf_library_files.specs.Loading.Loading.{within};
-ghost use Rattle.vpf_classes.specs.Lacks.{lack_seen};
+ghost use Rattle.vpf_feature_commands.specs.Classes.Lacks.{lack_seen};
 ghost use Rattle.vpf_replies.specs.Answer.{refused};
 ghost use Rattle.vpf_replies.specs.Selecting.{wrong_row_text};
 ghost use Rattle.vpf_feature_commands.specs.Select.{IsLackAnswer};
 
+use crate::classes::FeatureError;
 use crate::requesting::SelectRequest;
 use std::alloc::{AllocError, Global};
-use vpf_classes::FeatureError;
 use vpf_findings::Finding;
 use vpf_library_files::loading::within;
 use vpf_replies::{Refusal, Reply, disagreement, refuse, wrong_row};

@@ -2,7 +2,7 @@
 
 ghost use Rattle.vpf_feature_commands.specs.Plain.{PlainSelections};
 
-use vpf_classes::laws::indexes_serve;
+use crate::classes::laws::indexes_serve;
 
 /// Where the thematic indexes of the feature tables agree with their columns, `select` answers what plain scans give.
 pub fn plain_selections()

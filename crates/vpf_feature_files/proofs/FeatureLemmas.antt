@@ -1,19 +1,20 @@
 -- What reading feature tables comes to, item by item.
-use Rattle.std.proofs.Common.{◌≡◌, ◌∙◌, ℕ, ◌+◌, ◌<◌, ◌≤◌, List, [], ◌∷◌, ◌++◌, length, drop, get_or, map, Option, None, Some, sym, ap, subst}
+use Rattle.std.proofs.Common.{[], ◌≡◌, ◌∙◌, ℕ, ◌+◌, ◌<◌, ◌≤◌, List, ◌∷◌, ◌++◌, length, drop, get_or, map, Option, None, Some, sym, ap, subst}
 use Rattle.std.proofs.lemmas.List.{append-nil, drop_all, drop_more}
 use Rattle.vpf_source.specs.Files.{Files}
 use Rattle.vpf_library_files.specs.declared.loading.loading.LoadStop.{LoadStop}
 use Rattle.vpf_library_files.specs.Loading.Loading.{◌and_then◌}
 use Rattle.vpf_library_files.specs.Loading.Loads.{Comes, ReadsStop, maybe}
-use Rattle.vpf_schema.specs.Items.{own_file}
-use Rattle.vpf_schema.specs.Listing.{item_text}
-use Rattle.vpf_schema.specs.declared.items.ItemName.{ItemName}
+use Rattle.vpf_feature_files.specs.SchemaRows.Items.{own_file}
+use Rattle.vpf_feature_files.specs.Inner.SchemaRows.Listing.{item_text}
+use Rattle.vpf_feature_files.specs.declared.schema_rows.items.ItemName.{ItemName}
 use Rattle.vpf_feature_files.specs.declared.files.TableFiles.{TableFiles}
-use Rattle.vpf_feature_files.specs.Held.{AreTablesFiles}
-use Rattle.vpf_feature_files.specs.Loads.{AddsFeatures, AreTableFilesOption}
+use Rattle.vpf_feature_files.specs.Inner.Held.{AreTablesFiles}
+use Rattle.vpf_feature_files.specs.Inner.Loads.{AddsFeatures, AreTableFilesOption}
 use Rattle.vpf_feature_files.specs.Reading.{read_feature_tables, read_named_table}
 use Rattle.vpf_feature_files.specs.Schemas.{FeatureTable}
-use Rattle.vpf_feature_files.proofs.Steps.{behind, behind_both, behind_none, ends, gives}
+use Rattle.vpf_feature_files.proofs.Steps.{behind, behind_both, behind_none, ends}
+use Rattle.vpf_library_files.specs.Inner.Loading.StepLaws.{gives}
 
 -- the tables of the items before the rest were read
 pub record TablesRead (told : Option Files) (folder : List ℕ) (items rest : List (List ℕ)) (n0 n : ℕ) (files : List TableFiles) : Type 0 where

@@ -1,20 +1,21 @@
 -- What reading the thematic indexes of columns comes to.
-use Rattle.std.proofs.Common.{Vec, Global, ◌≡◌, ◌∙◌, ℕ, ◌+◌, ◌≤◌, List, [], ◌∷◌, ◌++◌, length, drop, Option, Some, Ok, sym, ap, subst}
+use Rattle.std.proofs.Common.{[], Vec, Global, ◌≡◌, ◌∙◌, ℕ, ◌+◌, ◌≤◌, List, ◌∷◌, ◌++◌, length, drop, Option, Some, Ok, sym, ap, subst}
 use Rattle.std.specs.Prelude.{option_map, slice_get}
 use Rattle.std.proofs.lemmas.List.{append-nil, drop_all, drop_more}
 use Rattle.std.proofs.lemmas.Option.{get_or_from_slice_get, slice_get_within}
 use Rattle.vpf_source.specs.Files.{Files}
 use Rattle.vpf_source.specs.declared.file.File.{File}
-use Rattle.vpf_triplet.specs.declared.orders.Order.{Order}
+use Rattle.vpf_base.specs.declared.orders.Order.{Order}
 use Rattle.vpf_head.specs.Head.{Col}
 use Rattle.vpf_theme.specs.Reading.{theme_of}
 use Rattle.vpf_library_files.specs.declared.loading.loading.LoadStop.{LoadStop}
 use Rattle.vpf_library_files.specs.Loading.Loading.{◌and_then◌, read_optional, within}
 use Rattle.vpf_library_files.specs.Loading.Loads.{Comes, ReadsStop, ReadsValue}
-use Rattle.vpf_feature_files.specs.Held.{AreIndexFiles, IsIndexFileOption}
+use Rattle.vpf_feature_files.specs.Inner.Held.{AreIndexFiles, IsIndexFileOption}
 use Rattle.vpf_feature_files.specs.Reading.{read_index, read_indexes, read_named_index, theme_graded}
 use Rattle.vpf_feature_files.specs.Schemas.{Index}
-use Rattle.vpf_feature_files.proofs.Steps.{behind, behind_both, behind_none, ends, found_is, gives}
+use Rattle.vpf_feature_files.proofs.Steps.{behind, behind_both, behind_none, ends, found_is}
+use Rattle.vpf_library_files.specs.Inner.Loading.StepLaws.{gives}
 
 -- the index in the bytes that were found
 pub index_comes : (told : Option Files) (folder file name : List ℕ) (order : Order) (found : Option (Vec ℕ Global)) (bytes : Vec ℕ Global) (n0 n1 : ℕ) (kept : File)

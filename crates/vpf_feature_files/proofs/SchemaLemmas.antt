@@ -8,14 +8,15 @@ use Rattle.vpf_table.specs.Reading.{table_of}
 use Rattle.vpf_library_files.specs.declared.loading.loading.LoadStop.{LoadStop}
 use Rattle.vpf_library_files.specs.Loading.Loading.{Read, ◌and_then◌, graded, read_optional}
 use Rattle.vpf_library_files.specs.Loading.Loads.{Comes, LoadsAs, ReadsAs, ReadsStop, ReadsValue}
-use Rattle.vpf_schema.specs.Joins.{feature_items, joins_in}
-use Rattle.vpf_schema.specs.Listing.{item_text}
-use Rattle.vpf_schema.specs.declared.items.ItemName.{ItemName}
+use Rattle.vpf_feature_files.specs.SchemaRows.Joins.{feature_items, joins_in}
+use Rattle.vpf_feature_files.specs.Inner.SchemaRows.Listing.{item_text}
+use Rattle.vpf_feature_files.specs.declared.schema_rows.items.ItemName.{ItemName}
 use Rattle.vpf_feature_files.specs.declared.files.FeatureFiles.{FeatureFiles}
-use Rattle.vpf_feature_files.specs.Held.{AreOfSchema, AreSchemaFiles, AreTablesFiles, IsSchemaFile, IsSchemaFileOption}
+use Rattle.vpf_feature_files.specs.Inner.Held.{AreOfSchema, AreSchemaFiles, AreTablesFiles, IsSchemaFile, IsSchemaFileOption}
 use Rattle.vpf_feature_files.specs.Reading.{looked_at, read_feature_tables, read_schema, read_schema_table, schema_name}
 use Rattle.vpf_feature_files.specs.Schemas.{FeatureTable, Schema, joins_of}
-use Rattle.vpf_feature_files.proofs.Steps.{ends, found_is, gives}
+use Rattle.vpf_feature_files.proofs.Steps.{ends, found_is}
+use Rattle.vpf_library_files.specs.Inner.Loading.StepLaws.{gives}
 
 -- the schema table in the bytes that were found
 pub schema_comes : (told : Option Files) (folder name : List ℕ) (found : Option (Vec ℕ Global)) (bytes : Vec ℕ Global) (n0 n1 : ℕ) (kept : File)

@@ -1,5 +1,5 @@
 -- What reading a feature table comes to.
-use Rattle.std.proofs.Common.{Vec, Global, ◌≡◌, ◌∙◌, ℕ, Bool, true, false, List, [], ◌∷◌, Option, None, Some, Ok, Err, refl, sym, ap, subst, inl, inr}
+use Rattle.std.proofs.Common.{[], Vec, Global, ◌≡◌, ◌∙◌, ℕ, Bool, true, false, List, ◌∷◌, Option, None, Some, Ok, Err, refl, sym, ap, subst, inl, inr}
 use Rattle.std.specs.Prelude.{IfOk, Result, if◌then◌else◌}
 use Rattle.vpf_source.specs.Files.{Files}
 use Rattle.vpf_source.specs.declared.file.File.{File}
@@ -11,16 +11,17 @@ use Rattle.vpf_table.specs.Opening.{opened_of}
 use Rattle.vpf_table.specs.Reading.{table_of}
 use Rattle.vpf_library_files.specs.declared.loading.loading.LoadStop.{LoadStop}
 use Rattle.vpf_library_files.specs.Loading.Holding.{AreFilesOf, AreFilesOfOption}
-use Rattle.vpf_library_files.specs.Loading.Loading.{LoadedTable, Read, ◌and_then◌, files_in, graded, loaded_file, read_optional, read_optional_table, read_required, read_table, read_table_in, tabled}
-use Rattle.vpf_library_files.specs.Loading.Loading.{with_its_index, with_own_index, within}
+use Rattle.vpf_library_files.specs.Loading.Loading.{LoadedTable, Read, ◌and_then◌, files_in, graded, loaded_file, read_optional, read_optional_table, read_required, read_table, read_table_in, tabled, with_its_index, with_own_index, within}
 use Rattle.vpf_library_files.specs.Loading.Loads.{Comes, LoadsAs, ReadsAs, ReadsStop, ReadsValue}
-use Rattle.vpf_tiling.proofs.plan.ReadLemmas.{OpensRead, SpelledOpens, table_is}
+use Rattle.vpf_tiling.specs.Inner.Plan.ReadLaws.{OpensRead, SpelledOpens, table_is}
 use Rattle.vpf_feature_files.specs.declared.files.TableFiles.{TableFiles}
-use Rattle.vpf_feature_files.specs.Held.{AreIndexFiles}
-use Rattle.vpf_feature_files.specs.Loads.{AreTableFilesOption, HasFiles}
+use Rattle.vpf_feature_files.specs.Inner.Held.{AreIndexFiles}
+use Rattle.vpf_feature_files.specs.Inner.Loads.{AreTableFilesOption, HasFiles}
 use Rattle.vpf_feature_files.specs.Reading.{read_indexes, read_named_table}
 use Rattle.vpf_feature_files.specs.Schemas.{FeatureTable, Index}
-use Rattle.vpf_feature_files.proofs.Steps.{ends, gives, no_value, steps, value_is}
+use Rattle.vpf_feature_files.proofs.Steps.{ends}
+use Rattle.vpf_library_files.specs.Inner.Loading.StepLaws.{steps, value_is, no_value, gives}
+use Rattle.vpf_base.proofs.Options.{none_some}
 
 -- ---- a table that is read has a file
 
@@ -63,9 +64,6 @@ some_table t n = gives (Some t) n
 
 abbrev count_of : {V : Type 0} → Read V → ℕ
 count_of read = read.1
-
-none_some : {X : Type 0} (x : X) → None ≡ Some x → ⊥
-none_some x e = cc
 
 some_is : {X : Type 0} (x y : X) → Some x ≡ Some y → x ≡ y
 some_is x y e = cc

@@ -1,4 +1,4 @@
 pub mod Schemas
 pub mod Reading
-pub mod Held
-pub mod Loads
+pub mod SchemaRows
+pub mod Inner

@@ -2,7 +2,7 @@
 -- thematic indexes that its columns name.
 use Rattle.std.specs.Prelude.{ℕ, List, [], ◌∷◌, ◌++◌, Option, Some, None, option_and_then, Result, Ok, Err, codes, if◌then◌else◌}
 use Rattle.vpf_source.specs.Files.{Files}
-use Rattle.vpf_triplet.specs.declared.orders.Order.{Order}
+use Rattle.vpf_base.specs.declared.orders.Order.{Order}
 use Rattle.vpf_triplet.specs.declared.places.Place.{Place}
 use Rattle.vpf_head.specs.Head.{Col, varies_in}
 use Rattle.vpf_table.specs.Grid.{Grid}
@@ -13,8 +13,8 @@ use Rattle.vpf_library_files.specs.declared.loading.loading.LoadStop.TheVariants
 use Rattle.vpf_library_files.specs.Loading.Loading.{LoadedTable, Read, ◌and_then◌, graded, read_optional, read_optional_table, within}
 use Rattle.vpf_library_files.specs.Loading.Loads.{maybe}
 use Rattle.vpf_tiling.specs.Plan.PlanLoads.{unless_found}
-use Rattle.vpf_schema.specs.Items.{own_file}
-use Rattle.vpf_schema.specs.Joins.{feature_items, schema_finding}
+use Rattle.vpf_feature_files.specs.SchemaRows.Items.{own_file}
+use Rattle.vpf_feature_files.specs.SchemaRows.Joins.{feature_items, schema_finding}
 use Rattle.vpf_feature_files.specs.Schemas.{FeatureTable, Index, Schema, joins_of}
 
 -- the name of the schema table of a coverage, by its folder

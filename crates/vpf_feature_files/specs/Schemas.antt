@@ -4,8 +4,8 @@ use Rattle.std.specs.Prelude.{ℕ, List, [], find, Option, Some, None, option_an
 use Rattle.std.specs.Str.{bytes_eq}
 use Rattle.vpf_table.specs.Grid.{Grid}
 use Rattle.vpf_theme.specs.Entries.{Theme}
-use Rattle.vpf_schema.specs.Items.{own_file}
-use Rattle.vpf_schema.specs.Joins.{SchemaJoin, joins_in}
+use Rattle.vpf_feature_files.specs.SchemaRows.Items.{own_file}
+use Rattle.vpf_feature_files.specs.SchemaRows.Joins.{SchemaJoin, joins_in}
 
 -- a thematic index that is there, and the name of its file in the folder of the coverage
 pub record Index : Type 0 where

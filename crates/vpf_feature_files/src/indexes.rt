@@ -2,12 +2,12 @@
 
 ghost use Rattle.std.specs.Prelude.{◌≡◌, ◌≤◌, ℕ, List, [], ◌∷◌, ◌++◌, IfOk, IsErrOf, OnOk, Some, option_and_then};
 ghost use Rattle.vpf_source.specs.Causes.{Rose, Stood};
-ghost use Rattle.vpf_head.specs.Views.{col};
+ghost use Rattle.vpf_head.specs.Inner.Views.{col};
 ghost use Rattle.vpf_theme.specs.Reading.{theme_of};
 ghost use Rattle.vpf_library_files.specs.Loading.Loading.{most_loaded, within};
 ghost use Rattle.vpf_library_files.specs.Loading.Loads.{LoadsAs, ReadsAs};
-ghost use Rattle.vpf_schema.specs.Items.{own_file};
-ghost use Rattle.vpf_feature_files.specs.Held.{AreIndexFiles, IsIndexFileOption};
+ghost use Rattle.vpf_feature_files.specs.SchemaRows.Items.{own_file};
+ghost use Rattle.vpf_feature_files.specs.Inner.Held.{AreIndexFiles, IsIndexFileOption};
 ghost use Rattle.vpf_feature_files.specs.Reading.{read_index, read_indexes, read_named_index, theme_graded};
 
 use std::alloc::{AllocError, Global};

@@ -5,6 +5,7 @@
 mod files;
 mod indexes;
 mod schema;
+pub mod schema_rows;
 mod tables;
 
 pub use files::{FeatureFiles, TableFiles};

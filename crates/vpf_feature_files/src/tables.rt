@@ -6,17 +6,17 @@ ghost use Rattle.vpf_table.specs.Grid.{Grid};
 ghost use Rattle.vpf_library_files.specs.Loading.Holding.{AreFilesOf};
 ghost use Rattle.vpf_library_files.specs.Loading.Loading.{most_loaded, read_optional_table};
 ghost use Rattle.vpf_library_files.specs.Loading.Loads.{LoadsAs};
-ghost use Rattle.vpf_schema.specs.Items.{own_file};
-ghost use Rattle.vpf_schema.specs.Listing.{item_text};
-ghost use Rattle.vpf_feature_files.specs.Held.{AreIndexFiles, AreTablesFiles};
-ghost use Rattle.vpf_feature_files.specs.Loads.{AddsFeatures, AreTableFilesOption, HasFiles};
+ghost use Rattle.vpf_feature_files.specs.SchemaRows.Items.{own_file};
+ghost use Rattle.vpf_feature_files.specs.Inner.SchemaRows.Listing.{item_text};
+ghost use Rattle.vpf_feature_files.specs.Inner.Held.{AreIndexFiles, AreTablesFiles};
+ghost use Rattle.vpf_feature_files.specs.Inner.Loads.{AddsFeatures, AreTableFilesOption, HasFiles};
 ghost use Rattle.vpf_feature_files.specs.Reading.{read_feature_tables, read_indexes, read_named_table};
 
 use crate::files::TableFiles;
 use crate::indexes::load_indexes;
+use crate::schema_rows::ItemName;
 use std::alloc::{AllocError, Global};
 use vpf_library_files::loading::{LoadStop, optional_table, table_in, within};
-use vpf_schema::ItemName;
 use vpf_source::{File, Name, Tree};
 use vpf_table::laws::{opened_is_read, spelled_is_opened};
 

@@ -5,13 +5,13 @@ use Rattle.std.specs.Option.{option_map}
 use Rattle.vpf_base.specs.Results.{Told}
 use Rattle.vpf_source.specs.declared.file.File.{File}
 use Rattle.vpf_head.specs.Head.{Col}
-use Rattle.vpf_table_files.specs.declared.errors.AddError.{AddError}
-use Rattle.vpf_table_files.specs.Adding.{error_seen}
+use Rattle.vpf_library_files.specs.declared.table_files.errors.AddError.{AddError}
+use Rattle.vpf_library_files.specs.TableFiles.Adding.{error_seen}
 use Rattle.vpf_feature_files.specs.Schemas.{FeatureTable}
-use Rattle.vpf_features.specs.Views.{index_seen, table_seen}
+use Rattle.vpf_features.specs.Inner.Views.{index_seen, table_seen}
 use Rattle.vpf_features.specs.declared.schema.FeatureView.{FeatureView}
 use Rattle.vpf_features.specs.declared.schema.IndexView.{IndexView}
-use Rattle.vpf_feature_writing.specs.AddLaws.{first_fail, first_made}
+use Rattle.vpf_feature_writing.specs.Inner.AddLaws.{first_fail, first_made}
 use Rattle.vpf_feature_writing.specs.Making.{Made, feature_table_made, feature_tables_made, index_made, indexes_made, then_files}
 
 -- ---- places in lists

@@ -1,3 +1,3 @@
 pub mod Making
-pub mod Adding
-pub mod AddLaws
+pub mod FeatureReading
+pub mod Inner

@@ -10,9 +10,9 @@ use Rattle.vpf_theme_build.specs.declared.errors.BuildError.{BuildError}
 use Rattle.vpf_theme_build.specs.declared.errors.BuildError.TheVariants as builds
 use Rattle.vpf_theme_build.specs.Building.{built_by}
 use Rattle.vpf_library_files.specs.Loading.Loading.{loaded_file, within}
-use Rattle.vpf_table_files.specs.declared.errors.AddError.{AddError}
-use Rattle.vpf_table_files.specs.declared.errors.AddError.TheVariants as errors
-use Rattle.vpf_table_files.specs.Adding.{made_of_tables, table_within}
+use Rattle.vpf_library_files.specs.declared.table_files.errors.AddError.{AddError}
+use Rattle.vpf_library_files.specs.declared.table_files.errors.AddError.TheVariants as errors
+use Rattle.vpf_library_files.specs.TableFiles.Adding.{made_of_tables, table_within}
 use Rattle.vpf_feature_files.specs.Schemas.{FeatureTable, Index, Schema}
 
 -- files that are made, or the first limit that one passes

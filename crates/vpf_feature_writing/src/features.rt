@@ -2,17 +2,17 @@
 
 ghost use Rattle.std.specs.Prelude.{map};
 ghost use Rattle.vpf_base.specs.Results.{Meets};
-ghost use Rattle.vpf_table_files.specs.Adding.{error_seen};
-ghost use Rattle.vpf_features.specs.Views.{table_seen};
-ghost use Rattle.vpf_feature_writing.specs.Adding.{AddsMade};
+ghost use Rattle.vpf_library_files.specs.TableFiles.Adding.{error_seen};
+ghost use Rattle.vpf_features.specs.Inner.Views.{table_seen};
+ghost use Rattle.vpf_feature_writing.specs.Inner.Adding.{AddsMade};
 ghost use Rattle.vpf_feature_writing.specs.Making.{feature_table_made, feature_tables_made, features_made};
 
 use crate::indexes::add_indexes;
 use crate::tables::add_as_it_is;
 use std::alloc::Global;
 use vpf_features::{FeatureView, Schema};
+use vpf_library_files::table_files::AddError;
 use vpf_source::File;
-use vpf_table_files::AddError;
 
 /// Adds the files of a feature table behind others: its own, and then those of its indexes.
 fn add_feature_table(

@@ -5,16 +5,16 @@ ghost use Rattle.std.specs.Option.{option_map};
 ghost use Rattle.vpf_library_files.specs.Loading.Loading.{within};
 ghost use Rattle.vpf_theme_build.specs.Building.{Builds};
 ghost use Rattle.vpf_theme_build.specs.declared.errors.BuildError.{BuildError};
-ghost use Rattle.vpf_features.specs.Views.{index_seen, table_seen};
-ghost use Rattle.vpf_feature_writing.specs.Adding.{AddsMade};
+ghost use Rattle.vpf_features.specs.Inner.Views.{index_seen, table_seen};
+ghost use Rattle.vpf_feature_writing.specs.Inner.Adding.{AddsMade};
 ghost use Rattle.vpf_feature_writing.specs.Making.{index_made, index_made_by, indexes_made};
 
 use std::alloc::{AllocError, Global};
 use vpf_features::{FeatureView, IndexView};
 use vpf_library_files::loading::within;
+use vpf_library_files::table_files::AddError;
 use vpf_source::{Bytes, File, Name};
 use vpf_table::{Bound, Limit};
-use vpf_table_files::AddError;
 use vpf_theme_build::{BuildError, build};
 
 /// The name of a file in the folder.

@@ -2,6 +2,7 @@
 //! indexes built anew (MIL-STD-2407, 5.2.3, feature classes).
 #![tactic(auto)]
 
+pub mod feature_reading;
 mod features;
 mod indexes;
 mod tables;

@@ -1,12 +1,12 @@
 //! Tables that are written as they are.
 
-ghost use Rattle.vpf_feature_writing.specs.Adding.{AddsMade};
+ghost use Rattle.vpf_feature_writing.specs.Inner.Adding.{AddsMade};
 ghost use Rattle.vpf_feature_writing.specs.Making.{table_made};
 
 use std::alloc::Global;
+use vpf_library_files::table_files::{AddError, add_table};
 use vpf_source::File;
 use vpf_table::TableView;
-use vpf_table_files::{AddError, add_table};
 use vpf_write::write_in;
 
 /// Adds the files of a table under its name in the folder behind others, in its canonical spelling and its own byte order.

@@ -6,8 +6,8 @@ use Rattle.vpf_findings.specs.Findings.{Disagreement}
 use Rattle.vpf_findings.specs.Firsts.{◌or◌}
 use Rattle.vpf_prims.specs.Coverages.{CoverageTables}
 use Rattle.vpf_cross.specs.CrossFinding.{topology_finding}
-use Rattle.vpf_feature_agreement.specs.FeatureFault.{FeatureFault}
-use Rattle.vpf_feature_agreement.specs.Finding.{Named, TellsNamed}
+use Rattle.vpf_features.specs.declared.faults.FeatureFault.{FeatureFault}
+use Rattle.vpf_features.specs.Finding.{Named, TellsNamed}
 use Rattle.vpf_featured.specs.Finding.{placed_finding}
 
 -- where the first look finds nothing, what a later one tells is told of both

@@ -7,9 +7,9 @@ use Rattle.vpf_findings.specs.Findings.{Disagreement}
 use Rattle.vpf_findings.specs.Firsts.{◌or◌}
 use Rattle.vpf_numbers.specs.TableLines.{coverage_numbers}
 use Rattle.vpf_cross.specs.CrossFinding.{topology_finding}
-use Rattle.vpf_feature_agreement.specs.Finding.{Named, in_file}
-use Rattle.vpf_feature_agreement.specs.Agreeing.{features_finding}
-use Rattle.vpf_load_replies.specs.Places.{place_name}
+use Rattle.vpf_features.specs.Finding.{Named, in_file}
+use Rattle.vpf_features.specs.FeatureAgreement.Agreeing.{features_finding}
+use Rattle.vpf_featured.specs.LoadReplies.Places.{place_name}
 use Rattle.vpf_featured.specs.Reading.{FeaturedCoverage}
 
 -- a place that disagrees, in its file among those of the coverage

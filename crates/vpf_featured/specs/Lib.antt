@@ -1,3 +1,4 @@
 pub mod Reading
-pub mod Held
 pub mod Finding
+pub mod LoadReplies
+pub mod Inner

@@ -7,25 +7,25 @@ ghost use Rattle.vpf_numbers.specs.TableLines.{coverage_numbers};
 ghost use Rattle.vpf_library_files.specs.Loading.Holding.{AreCoverageFiles, AreOfCoverage};
 ghost use Rattle.vpf_library_files.specs.Loading.Loading.{within};
 ghost use Rattle.vpf_cross.specs.CrossFinding.{topology_finding};
-ghost use Rattle.vpf_feature_files.specs.Held.{AreOfSchema, AreSchemaFiles};
+ghost use Rattle.vpf_feature_files.specs.Inner.Held.{AreOfSchema, AreSchemaFiles};
 ghost use Rattle.vpf_feature_files.specs.Schemas.{Schema as SchemaOf};
-ghost use Rattle.vpf_feature_agreement.specs.FeatureFault.TheVariants as faults;
-ghost use Rattle.vpf_feature_agreement.specs.Finding.{TellsNamed};
-ghost use Rattle.vpf_feature_agreement.specs.Agreeing.{features_finding};
-ghost use Rattle.vpf_load_replies.specs.Places.{place_name};
+ghost use Rattle.vpf_features.specs.declared.faults.FeatureFault.TheVariants as faults;
+ghost use Rattle.vpf_features.specs.Finding.{TellsNamed};
+ghost use Rattle.vpf_features.specs.FeatureAgreement.Agreeing.{features_finding};
+ghost use Rattle.vpf_featured.specs.LoadReplies.Places.{place_name};
 ghost use Rattle.vpf_featured.specs.Finding.{featured_finding, placed_finding, tables_or_features_finding};
-ghost use Rattle.vpf_featured.specs.Held.{AreFeaturedFiles, AreOfFeatured};
+ghost use Rattle.vpf_featured.specs.Inner.Held.{AreFeaturedFiles, AreOfFeatured};
 ghost use Rattle.vpf_featured.specs.Reading.{FeaturedCoverage};
 
+use crate::load_replies::named;
 use crate::loading::FeaturedFiles;
 use std::alloc::{AllocError, Global};
 use vpf_coverage::{Coverage, open_coverage};
 use vpf_cross::{Checked, check_coverage};
-use vpf_feature_agreement::features::{FeatureFault, Schema, check_themes, open_features};
 use vpf_feature_files::FeatureFiles;
+use vpf_features::{FeatureFault, Schema, check_themes, open_features};
 use vpf_findings::{FindError, Finding};
 use vpf_library_files::loading::within;
-use vpf_load_replies::named;
 use vpf_source::{File, Name};
 
 /// A coverage and its features, opened, in whose tables and thematic indexes nothing disagrees. Of the topology that isn't known.

@@ -3,6 +3,7 @@
 #![tactic(auto)]
 
 mod checking;
+pub mod load_replies;
 mod loading;
 
 pub use checking::{Featured, check_topology, open_agreeing, open_featured};

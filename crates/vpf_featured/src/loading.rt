@@ -6,7 +6,7 @@ ghost use Rattle.vpf_source.specs.Files.{Files};
 ghost use Rattle.vpf_library_files.specs.Loading.Loading.{most_loaded};
 ghost use Rattle.vpf_library_files.specs.Loading.Loads.{ReadsAs};
 ghost use Rattle.vpf_featured.specs.Reading.{read_featured};
-ghost use Rattle.vpf_featured.specs.Held.{AreFeaturedFiles, AreOfFeatured};
+ghost use Rattle.vpf_featured.specs.Inner.Held.{AreFeaturedFiles, AreOfFeatured};
 
 use std::alloc::Global;
 use vpf_feature_files::{FeatureFiles, load_features};

@@ -4,8 +4,8 @@ use Rattle.std.proofs.Math.Seq.{take-length}
 use Rattle.std.proofs.lemmas.List.{map-append}
 use Rattle.vpf_source.specs.declared.file.File.{File}
 use Rattle.vpf_table.specs.Grid.{Grid}
-use Rattle.vpf_triplet.specs.declared.orders.Order.{Order}
-use Rattle.vpf_feature_files.specs.Held.{AreIndexFiles, AreTableFiles, AreTablesFiles, IsIndexFileOption}
+use Rattle.vpf_base.specs.declared.orders.Order.{Order}
+use Rattle.vpf_feature_files.specs.Inner.Held.{AreIndexFiles, AreTableFiles, AreTablesFiles, IsIndexFileOption}
 use Rattle.vpf_feature_files.specs.Schemas.{FeatureTable, Index}
 use Rattle.vpf_feature_files.specs.declared.files.TableFiles.{TableFiles}
 

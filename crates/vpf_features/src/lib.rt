@@ -3,6 +3,7 @@
 #![tactic(auto)]
 
 mod faults;
+pub mod feature_agreement;
 mod opening;
 mod rows;
 mod schema;

@@ -3,12 +3,12 @@
 ghost use Rattle.std.specs.Prelude.{◌≡◌, ℕ, List, Option, IfOk, map};
 ghost use Rattle.std.specs.Option.{option_map};
 ghost use Rattle.vpf_table.specs.Grid.{Grid};
-ghost use Rattle.vpf_feature_files.specs.Held.{AreIndexFiles, AreOfSchema, AreSchemaFiles, AreTableFiles};
-ghost use Rattle.vpf_feature_files.specs.Held.{AreTablesFiles, IsIndexFile, IsIndexFileOption, IsSchemaFileOption};
+ghost use Rattle.vpf_feature_files.specs.Inner.Held.{AreIndexFiles, AreOfSchema, AreSchemaFiles, AreTableFiles};
+ghost use Rattle.vpf_feature_files.specs.Inner.Held.{AreTablesFiles, IsIndexFile, IsIndexFileOption, IsSchemaFileOption};
 ghost use Rattle.vpf_feature_files.specs.Schemas.{FeatureTable, Index, Schema as SchemaOf};
 ghost use Rattle.vpf_features.specs.Finding.{TellsNamed, tables_finding};
-ghost use Rattle.vpf_features.specs.Opened.{HasIndexFile, HasSchemaFile, HaveIndexFiles, IsOfTable, AreOfTables};
-ghost use Rattle.vpf_features.specs.Views.{IsRightSchemaTable, index_seen, table_seen};
+ghost use Rattle.vpf_features.specs.Inner.Opened.{HasIndexFile, HasSchemaFile, HaveIndexFiles, IsOfTable, AreOfTables};
+ghost use Rattle.vpf_features.specs.Inner.Views.{IsRightSchemaTable, index_seen, table_seen};
 
 use crate::faults::FeatureFault;
 use crate::rows::check_features;

@@ -2,11 +2,11 @@
 
 ghost use Rattle.std.specs.Prelude.{◌≡◌, List, map, option_map};
 ghost use Rattle.vpf_feature_files.specs.Schemas.{table_in_file};
-ghost use Rattle.vpf_features.specs.Views.{table_seen};
+ghost use Rattle.vpf_features.specs.Inner.Views.{table_seen};
 
 use std::alloc::{AllocError, Global};
 use std::marker::Model;
-use vpf_schema::{ItemName, SchemaRow, schema_rows};
+use vpf_feature_files::schema_rows::{ItemName, SchemaRow, schema_rows};
 use vpf_source::Name;
 use vpf_table::TableView;
 use vpf_theme::ThemeView;
@@ -44,11 +44,11 @@ impl<'a> Model for Schema<'a> {
 
     ghost Value = { Schema };
 
-    ghost use Rattle.vpf_features.specs.Views.{schema_seen};
+    ghost use Rattle.vpf_features.specs.Inner.Views.{schema_seen};
 
     ghost view = { λ s. schema_seen s.fcs s.tables.items };
 
-    ghost use Rattle.vpf_features.specs.Views.{HasRightTable};
+    ghost use Rattle.vpf_features.specs.Inner.Views.{HasRightTable};
 
     ghost invariant = { HasRightTable };
 }
@@ -67,9 +67,9 @@ fn in_file<'s, 'a>(tables: &'s [FeatureView<'a>], name: &Name) -> Option<&'s Fea
 
 impl<'a> Schema<'a> {
     ghost use Rattle.std.specs.Prelude.{◌≡◌, IfOk, map, option_map};
-    ghost use Rattle.vpf_schema.specs.Joins.{join_of};
+    ghost use Rattle.vpf_feature_files.specs.SchemaRows.Joins.{join_of};
     ghost use Rattle.vpf_feature_files.specs.Schemas.{joins_of, table_called};
-    ghost use Rattle.vpf_features.specs.Views.{IsRightSchemaTable, schema_seen, table_seen};
+    ghost use Rattle.vpf_features.specs.Inner.Views.{IsRightSchemaTable, schema_seen, table_seen};
 
     /// The schema of a schema table and feature tables.
     pub(crate) fn new(fcs: Option<TableView<'a>>, tables: Vec<FeatureView<'a>>) -> Schema<'a>

@@ -5,7 +5,7 @@ ghost use Rattle.std.specs.Option.{option_map};
 ghost use Rattle.vpf_library_files.specs.Loading.Loading.{within};
 ghost use Rattle.vpf_features.specs.declared.faults.FeatureFault.TheVariants as faults;
 ghost use Rattle.vpf_features.specs.Finding.{TellsNamed, index_finding, indexes_finding, themes_finding};
-ghost use Rattle.vpf_features.specs.Views.{index_seen, table_seen};
+ghost use Rattle.vpf_features.specs.Inner.Views.{index_seen, table_seen};
 
 use crate::faults::FeatureFault;
 use crate::schema::{FeatureView, IndexView, Schema};

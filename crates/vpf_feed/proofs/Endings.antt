@@ -4,18 +4,18 @@ use Rattle.std.specs.Prelude.{slice_get}
 use Rattle.std.proofs.lemmas.Bool.{lt-ltb}
 use Rattle.vpf_base.specs.Limits.{most_rows}
 use Rattle.vpf_base.proofs.Lists.{next_item}
-use Rattle.vpf_triplet.specs.declared.orders.Order.{Order}
+use Rattle.vpf_base.specs.declared.orders.Order.{Order}
 use Rattle.vpf_triplet.specs.declared.places.Place.{Place}
 use Rattle.vpf_triplet.specs.declared.places.Code.TheVariants as codes
 use Rattle.vpf_triplet.specs.Places.{fault}
 use Rattle.vpf_feed.specs.declared.row_form.form.Field.{Field}
-use Rattle.vpf_feed.specs.RowForm.Walk.{rows_to_come}
+use Rattle.vpf_feed.specs.Inner.RowForm.Walk.{rows_to_come}
 use Rattle.vpf_feed.specs.declared.heading.Rows.{Rows}
 use Rattle.vpf_feed.specs.declared.walking.Hand.{Hand}
 use Rattle.vpf_feed.specs.declared.walking.Hand.TheVariants as hands
-use Rattle.vpf_feed.specs.Progress.{row_comes, hand_comes, comes_to, summed_rows}
-use Rattle.vpf_feed.specs.Walks.{so_far, hand_of, IsInHand, IsInCell, IsSkipping}
-use Rattle.vpf_feed.specs.Stages.{AreSoundRows, MayBe, came_of}
+use Rattle.vpf_feed.specs.Inner.Progress.{row_comes, hand_comes, comes_to, summed_rows}
+use Rattle.vpf_feed.specs.Inner.Walks.{so_far, hand_of, IsInHand, IsInCell, IsSkipping}
+use Rattle.vpf_feed.specs.Inner.Stages.{AreSoundRows, MayBe, came_of}
 use Rattle.vpf_feed.proofs.Steps.{cell_stops}
 
 pub rows_end : (n : ℕ) (o : Order) (all : List Field) (done at : ℕ) → rows_to_come n o all done at [] ≡ Ok done

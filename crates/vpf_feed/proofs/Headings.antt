@@ -4,7 +4,7 @@ use Rattle.std.specs.Prelude.{Bool}
 use Rattle.std.proofs.lemmas.List.{drop-append-le}
 use Rattle.vpf_base.specs.Limits.{most_rows}
 use Rattle.vpf_base.specs.Results.{◌>>=◌}
-use Rattle.vpf_triplet.specs.declared.orders.Order.{Order}
+use Rattle.vpf_base.specs.declared.orders.Order.{Order}
 use Rattle.vpf_feed.specs.declared.row_form.form.Field.{Field}
 use Rattle.vpf_feed.specs.declared.row_form.form.RowForm.{RowForm}
 use Rattle.vpf_triplet.specs.declared.places.Place.{Place}
@@ -19,15 +19,15 @@ use Rattle.vpf_head.specs.Reading.{header_of}
 use Rattle.vpf_table.specs.Grid.{Row, Grid}
 use Rattle.vpf_table.specs.Reading.{rows_at, table_of}
 use Rattle.vpf_table.specs.Walking.{counted}
-use Rattle.vpf_feed.specs.RowForm.Form.{form_fields}
-use Rattle.vpf_feed.specs.RowForm.Walk.{rows_to_come}
+use Rattle.vpf_feed.specs.Inner.RowForm.Form.{form_fields}
+use Rattle.vpf_feed.specs.Inner.RowForm.Walk.{rows_to_come}
 use Rattle.vpf_feed.proofs.row_form.Lefts.{rows_are}
 use Rattle.vpf_feed.specs.declared.summary.Summary.{Summary}
 use Rattle.vpf_feed.specs.declared.walking.Hand.{Hand}
 use Rattle.vpf_feed.specs.declared.walking.Hand.TheVariants as hands
 use Rattle.vpf_feed.specs.declared.walking.Walk.{Walk}
-use Rattle.vpf_feed.specs.Progress.{hand_comes, rows_come, summed, summed_rows}
-use Rattle.vpf_feed.specs.Walks.{hand_of, so_far, walk_comes}
+use Rattle.vpf_feed.specs.Inner.Progress.{hand_comes, rows_come, summed, summed_rows}
+use Rattle.vpf_feed.specs.Inner.Walks.{hand_of, so_far, walk_comes}
 
 -- ---- a header text is never refused for its end
 

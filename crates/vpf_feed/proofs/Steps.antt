@@ -8,19 +8,19 @@ use Rattle.std.proofs.lemmas.Option.{slice_get_within, get_or_from_slice_get}
 use Rattle.vpf_base.specs.Bytes.{IsBytes}
 use Rattle.vpf_base.specs.Limits.{most_rows}
 use Rattle.vpf_base.specs.Results.{◌>>=◌}
-use Rattle.vpf_triplet.specs.declared.orders.Order.{Order}
+use Rattle.vpf_base.specs.declared.orders.Order.{Order}
 use Rattle.vpf_triplet.specs.declared.places.Place.{Place}
 use Rattle.vpf_triplet.specs.declared.places.Code.{Code}
 use Rattle.vpf_triplet.specs.declared.places.Code.TheVariants as codes
 use Rattle.vpf_triplet.specs.Places.{fault}
 use Rattle.vpf_value.specs.Values.{Value}
 use Rattle.vpf_value.specs.Reading.{CellAnswer, cell_from}
-use Rattle.vpf_table.specs.Lower.{CellAndHeaderLaws}
+use Rattle.vpf_table.specs.Inner.Lower.{CellAndHeaderLaws}
 use Rattle.vpf_feed.specs.declared.row_form.form.Field.{Field}
-use Rattle.vpf_feed.specs.RowForm.Form.{extent, cell_size, IsCutEmpty}
-use Rattle.vpf_feed.specs.RowForm.Walk.{passed, row_left, rows_to_come, sized_end, TellsCell}
+use Rattle.vpf_feed.specs.Inner.RowForm.Form.{extent, cell_size, IsCutEmpty}
+use Rattle.vpf_feed.specs.Inner.RowForm.Walk.{passed, row_left, rows_to_come, sized_end, TellsCell}
 use Rattle.vpf_feed.specs.declared.row_form.looking.Look.TheVariants as looks
-use Rattle.vpf_feed.specs.Progress.{row_comes}
+use Rattle.vpf_feed.specs.Inner.Progress.{row_comes}
 
 -- ---- rows begin and end
 

@@ -10,11 +10,11 @@ use Rattle.vpf_triplet.specs.declared.places.Code.TheVariants as codes
 use Rattle.vpf_triplet.specs.Places.{fault, Answers, Fails, ForPlace}
 use Rattle.vpf_table.specs.Grid.{Grid}
 use Rattle.vpf_table.specs.Reading.{table_of}
-use Rattle.vpf_feed.specs.Staying.Staying.{order_bytes}
+use Rattle.vpf_feed.specs.Inner.Staying.Staying.{order_bytes}
 use Rattle.vpf_feed.specs.declared.summary.Summary.{Summary}
-use Rattle.vpf_feed.specs.Progress as progress
-use Rattle.vpf_feed.specs.Progress.{FeedProgress, comes_to, summed}
-use Rattle.vpf_feed.specs.Stages.{HoldsFed, Came, IsUnrefused, MayBe, Took, Unless, OnNoMemory, IsWaiting}
+use Rattle.vpf_feed.specs.Inner.Progress as progress
+use Rattle.vpf_feed.specs.Inner.Progress.{FeedProgress, comes_to, summed}
+use Rattle.vpf_feed.specs.Inner.Stages.{HoldsFed, Came, IsUnrefused, MayBe, Took, Unless, OnNoMemory, IsWaiting}
 use Rattle.vpf_feed.proofs.Headings.{table_refused}
 
 -- what is fed after what was fed

@@ -1,5 +1,1 @@
-pub mod Progress
-pub mod Walks
-pub mod Stages
-pub mod Staying
-pub mod RowForm
+pub mod Inner

@@ -4,7 +4,7 @@ ghost use Rattle.std.specs.Prelude.{◌≡◌};
 ghost use Rattle.std.specs.List.{flat_map};
 ghost use Rattle.vpf_triplet.specs.Places.{Answers};
 ghost use Rattle.vpf_table.specs.Reading.{table_of};
-ghost use Rattle.vpf_feed.specs.Progress.{summed};
+ghost use Rattle.vpf_feed.specs.Inner.Progress.{summed};
 
 use crate::stage::Stage;
 use crate::summary::Summary;
@@ -22,11 +22,11 @@ pub struct TableFeed {
 }
 
 impl Model for TableFeed {
-    ghost use Rattle.vpf_feed.specs.Progress.{FeedProgress};
+    ghost use Rattle.vpf_feed.specs.Inner.Progress.{FeedProgress};
 
     ghost Value = { FeedProgress };
 
-    ghost use Rattle.vpf_feed.specs.Stages.{progress_of, IsStage};
+    ghost use Rattle.vpf_feed.specs.Inner.Stages.{progress_of, IsStage};
 
     ghost view = { λ f. progress_of f.stage };
 
@@ -39,9 +39,9 @@ impl TableFeed {
     ghost use Rattle.vpf_triplet.specs.declared.places.PlaceError.TheVariants as errors;
     ghost use Rattle.vpf_triplet.specs.Places.{Answers, ForPlace};
     ghost use Rattle.vpf_table.specs.Reading.{table_of};
-    ghost use Rattle.vpf_feed.specs.Staying.Staying.{order_bytes};
-    ghost use Rattle.vpf_feed.specs.Progress.{refused, summed};
-    ghost use Rattle.vpf_feed.specs.Stages.{HoldsFed, MayBe, OnNoMemory, Unless, held_len};
+    ghost use Rattle.vpf_feed.specs.Inner.Staying.Staying.{order_bytes};
+    ghost use Rattle.vpf_feed.specs.Inner.Progress.{refused, summed};
+    ghost use Rattle.vpf_feed.specs.Inner.Stages.{HoldsFed, MayBe, OnNoMemory, Unless, held_len};
 
     /// A feed to which nothing came. It takes no memory yet, and so never fails today.
     pub fn new(alloc: Global) -> Result<TableFeed, AllocError>

@@ -4,13 +4,13 @@ ghost use Rattle.std.specs.Prelude.{◌≡◌, ◌<◌, ◌≤◌, ◌+◌, ◌+
 ghost use Rattle.vpf_triplet.specs.Places.{fault};
 ghost use Rattle.vpf_triplet.specs.declared.places.Code.TheVariants as codes;
 ghost use Rattle.vpf_head.specs.Reading.{header_of};
-ghost use Rattle.vpf_feed.specs.Staying.Staying.{order_bytes};
+ghost use Rattle.vpf_feed.specs.Inner.Staying.Staying.{order_bytes};
 ghost use Rattle.vpf_base.specs.Limits.{most_rows};
 ghost use Rattle.vpf_feed.specs.declared.row_form.form.RowForm.{RowForm};
-ghost use Rattle.vpf_feed.specs.RowForm.Rows.{IsForm};
-ghost use Rattle.vpf_feed.specs.RowForm.Walk.{rows_to_come};
-ghost use Rattle.vpf_feed.specs.Walks.{walk_comes, bytes_most, IsWalk};
-ghost use Rattle.vpf_feed.specs.Stages.{most_head, IsHeaded, IsFed, IsWaiting};
+ghost use Rattle.vpf_feed.specs.Inner.RowForm.Rows.{IsForm};
+ghost use Rattle.vpf_feed.specs.Inner.RowForm.Walk.{rows_to_come};
+ghost use Rattle.vpf_feed.specs.Inner.Walks.{walk_comes, bytes_most, IsWalk};
+ghost use Rattle.vpf_feed.specs.Inner.Stages.{most_head, IsHeaded, IsFed, IsWaiting};
 
 use crate::row_form::{RowForm, bytes_are_bytes};
 use crate::staying::laws::{cells_and_headers, reading_stays};

@@ -2,9 +2,9 @@
 
 ghost use Rattle.std.specs.Prelude.{◌≡◌, ◌<◌, ◌≤◌, ◌+◌, ◌*◌, ◌++◌, ◌∷◌, ℕ, List, IfOk, IfErr, IfSome, Err, Some, length, drop, slice_get};
 ghost use Rattle.vpf_base.specs.Limits.{most_rows};
-ghost use Rattle.vpf_feed.specs.RowForm.Rows.{IsForm};
-ghost use Rattle.vpf_feed.specs.Walks.{walk_comes, next_comes, within_comes, between_comes, skipping_comes};
-ghost use Rattle.vpf_feed.specs.Walks.{bytes_most, IsWalk, IsInCell, IsBetween, IsSkipping};
+ghost use Rattle.vpf_feed.specs.Inner.RowForm.Rows.{IsForm};
+ghost use Rattle.vpf_feed.specs.Inner.Walks.{walk_comes, next_comes, within_comes, between_comes, skipping_comes};
+ghost use Rattle.vpf_feed.specs.Inner.Walks.{bytes_most, IsWalk, IsInCell, IsBetween, IsSkipping};
 
 use crate::row_form::{Field, Look, RowForm, bytes_are_bytes, look_at, whole_row};
 use crate::staying::laws::cells_and_headers;
@@ -39,8 +39,8 @@ pub struct Walk {
 impl Walk {
     ghost use Rattle.std.specs.Prelude.{◌≡◌, ◌≤◌};
     ghost use Rattle.vpf_feed.specs.declared.row_form.form.RowForm.{RowForm};
-    ghost use Rattle.vpf_feed.specs.Stages.{held_hand};
-    ghost use Rattle.vpf_feed.specs.Walks.{hand_of, IsWalk};
+    ghost use Rattle.vpf_feed.specs.Inner.Stages.{held_hand};
+    ghost use Rattle.vpf_feed.specs.Inner.Walks.{hand_of, IsWalk};
 
     /// How many bytes are kept of the cell in hand.
     pub fn held(self) -> usize

@@ -7,7 +7,7 @@ use Rattle.std.specs.HashMap.{HashMap, get}
 use Rattle.std.specs.List.{position_from}
 use Rattle.std.specs.Option.{option_or}
 use Rattle.std.proofs.lemmas.Iterator.Adapters.{position_from-zero}
-use Rattle.vpf_findings.specs.Places.{HoldFirsts}
+use Rattle.vpf_findings.specs.Inner.Places.{HoldFirsts}
 
 from_push : {K : Type 0} (p : K → Bool) (i : ℕ) (xs : List K) (y : K) → position_from p i (xs ++ y ∷ []) ≡ option_or (position_from p i xs) (cond (p y) (Some (i + length xs)) None)
 from_push p i [] y = rw add-zero refl

@@ -1,13 +1,12 @@
 pub mod Findings
 pub mod Firsts
-pub mod FirstLaws
 pub mod Printing
-pub mod Places
 pub use Rattle.vpf_value.specs.Values
 pub use Rattle.vpf_value.specs.Canonical
-pub use Rattle.vpf_value.specs.Fitting
+pub use Rattle.vpf_value.specs.Inner.Fitting
 pub use Rattle.vpf_value.specs.Faults
 pub use Rattle.vpf_value.specs.Reading
 pub use Rattle.vpf_value.specs.Spelling
 pub use Rattle.vpf_value.specs.Widths
 pub mod Text
+pub mod Inner

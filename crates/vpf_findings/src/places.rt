@@ -17,7 +17,7 @@ impl<K: Copy + Eq + Hash> Model for FirstPlaces<K> {
 
     ghost Value = { List K };
 
-    ghost use Rattle.vpf_findings.specs.Places.{HoldFirsts};
+    ghost use Rattle.vpf_findings.specs.Inner.Places.{HoldFirsts};
 
     ghost view = { λ p. p.keys.items };
 

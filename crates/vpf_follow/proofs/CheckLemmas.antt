@@ -1,6 +1,5 @@
 -- The line on a dart, by the home dart that is kept with the same dart after it.
-use Rattle.std.proofs.Common.{◌≡◌, ℕ, zero, suc, ◌+◌, ◌-◌, ◌*◌, ◌^◌, ◌<◌, ◌≤◌, Bool, true, false, Option, Some, None, List, [], ◌∷◌, ◌++◌, length, refl, ap}
-use Rattle.std.proofs.Common.{sym, subst, ◌∙◌, arith}
+use Rattle.std.proofs.Common.{[], ◌≡◌, ℕ, zero, suc, ◌+◌, ◌-◌, ◌*◌, ◌^◌, ◌<◌, ◌≤◌, Bool, true, false, Option, Some, None, List, ◌∷◌, ◌++◌, length, refl, ap, sym, subst, ◌∙◌, arith}
 use Rattle.std.proofs.lemmas.Bool.{le-leb}
 use Rattle.std.proofs.lemmas.List.Elements.{All-append}
 use Rattle.std.specs.Prelude.{All, find, if◌then◌else◌}
@@ -17,12 +16,13 @@ use Rattle.vpf_prims.specs.Tables.{TileTables}
 use Rattle.vpf_wing.specs.Links.{DartLinks, links_of, tile_darts}
 use Rattle.vpf_follow.specs.Following.{dart_numbered, first_home, follow, follows_to, is_home, number_seen}
 use Rattle.vpf_follow.specs.FollowLines.{at_wing_of, earlier_home, follow_line, follow_line_at}
-use Rattle.vpf_follow.specs.Homes.{AreHomes, Followings, HasFewEdges, darts_before, darts_to, first_followed}
+use Rattle.vpf_follow.specs.Inner.Homes.{AreHomes, Followings, HasFewEdges, darts_before, darts_to, first_followed}
 use Rattle.vpf_prims.specs.Libraries.{library_of}
 use Rattle.vpf_follow.proofs.CoverageLemmas.{edges_are, ends_at_last, tile_last}
 use Rattle.vpf_follow.proofs.DartLemmas.{code-numbered}
 use Rattle.vpf_follow.proofs.HomeLemmas.{first_is}
-use Rattle.vpf_follow.proofs.ListLemmas.{All-widen, Begins, begins_all, begins_more, begins_self, begins_trans, first_here, to_below, to_next}
+use Rattle.vpf_follow.proofs.ListLemmas.{Begins, begins_all, begins_more, begins_self, begins_trans, first_here}
+use Rattle.vpf_follow.specs.Inner.ListLaws.{All-widen, to_below, to_next}
 use Rattle.vpf_follow.proofs.RowLemmas.{has_some}
 
 -- a dart of an edge of a tile is one of the coverage

@@ -8,7 +8,7 @@ use Rattle.vpf_prims.specs.Primitives.{edge_count, edges_in, tile_edges}
 use Rattle.vpf_prims.specs.Reading.{primitives_of}
 use Rattle.vpf_prims.specs.Tables.{TileTables}
 use Rattle.vpf_prims.specs.Libraries.{library_of, primitives_in}
-use Rattle.vpf_follow.specs.Homes.{HasFewEdges}
+use Rattle.vpf_follow.specs.Inner.Homes.{HasFewEdges}
 use Rattle.vpf_follow.proofs.RowLemmas.{EndsAtLast}
 
 inside : (xs : List (Option TileTables)) (t : ℕ) (T : TileTables) → get_or xs t None ≡ Some T → t < length xs

@@ -1,12 +1,11 @@
 -- What follows a dart is a home dart, and in a coverage where nothing disagrees in what follows darts it is there.
-use Rattle.std.proofs.Common.{◌≡◌, ℕ, ◌^◌, ◌<◌, ◌≤◌, Bool, true, false, ◌&&◌, ◌==◌, Option, Some, None, List, [], ◌∷◌, length, refl, ap, sym, ◌∙◌, arith}
-use Rattle.std.proofs.Common.{inl, inr}
+use Rattle.std.proofs.Common.{[], ◌≡◌, ℕ, ◌^◌, ◌<◌, ◌≤◌, Bool, true, false, ◌&&◌, ◌==◌, Option, Some, None, List, ◌∷◌, length, refl, ap, sym, ◌∙◌, arith, inl, inr}
 use Rattle.std.proofs.lemmas.Bool.{cases_Bool, leb-true}
 use Rattle.std.specs.Prelude.{find, if◌then◌else◌, nat_le}
 use Rattle.std.specs.Option.{option_map, option_eq, unwrap_or}
 use Rattle.vpf_darts.specs.declared.darts.TileDart.{TileDart}
 use Rattle.vpf_darts.specs.Darts.{code, flip, tile_dart_code, tile_in}
-use Rattle.vpf_findings.specs.FirstLaws.{or-none_both}
+use Rattle.vpf_findings.specs.Inner.FirstLaws.{or-none_both}
 use Rattle.vpf_prims.specs.Coverages.{CoverageTables, last_tile, tile_at}
 use Rattle.vpf_prims.specs.Primitives.{Library, edge_count, edges_in}
 use Rattle.vpf_prims.specs.Reading.{primitives_of}
@@ -14,7 +13,7 @@ use Rattle.vpf_prims.specs.Tables.{TileTables}
 use Rattle.vpf_wing.specs.Links.{Beyond, DartLinks, links_of, only, tail_node}
 use Rattle.vpf_follow.specs.Following.{dart_numbered, face_name, first_home, follow, follow_to, follows_to, home_copy, is_home, is_named, same_beyond}
 use Rattle.vpf_follow.specs.FollowLines.{follow_line, follow_line_at, follow_lines, follows_finding}
-use Rattle.vpf_follow.specs.Homes.{AreHomes, Followings, IsDartIn, first_followed}
+use Rattle.vpf_follow.specs.Inner.Homes.{AreHomes, Followings, IsDartIn, first_followed}
 use Rattle.vpf_prims.specs.Libraries.{in_tiles, library_of, primitives_in}
 use Rattle.vpf_follow.proofs.CoverageLemmas.{edges_are}
 use Rattle.vpf_follow.proofs.DartLemmas.{numbered-code}
@@ -22,6 +21,8 @@ use Rattle.vpf_follow.proofs.EdgeLines.{edges_none}
 use Rattle.vpf_follow.proofs.HomeLemmas.{first_is}
 use Rattle.vpf_follow.proofs.RowLemmas.{has_is}
 use Rattle.vpf_follow.proofs.TileLines.{tiles_none}
+use Rattle.vpf_base.proofs.Booleans.{all_three}
+use Rattle.vpf_follow.specs.Inner.FollowLaws.{home_has}
 
 -- the one that passes does
 only_passes : (p : ℕ → Bool) (d e : ℕ) → only p d ≡ Some e → p e ≡ true
@@ -58,10 +59,6 @@ pub follower_home : (C : DartLinks) (d e : ℕ) → follow C d ≡ Some e → is
 unfolding follow
 follower_home C d e is = to_home C (tile_in d) (C.wing d).id (C.node d).id (face_name C d) (C.wing d).out (C.node d).out e is
 
--- a home dart is one of the coverage
-pub home_has : (C : DartLinks) (d : ℕ) → is_home C d ≡ true → C.has d ≡ true
-home_has C d home = both_left (C.has d) _ home
-
 -- a dart is of an edge of a tile that has tables
 tables_there : (c : CoverageTables) (t : ℕ) → 1 ≤ edge_count (library_of c) t → (T : TileTables) × (tile_at c t ≡ Some T)
 tables_there c t some = by (tile_at c t) refl some
@@ -73,12 +70,6 @@ tables_there c t some = by (tile_at c t) refl some
 lines_none : (C : DartLinks) (t k : ℕ) (T : TileTables) (m : Bool) → follow_lines C t T k ≡ None → follow_line C t T k m ≡ None
 lines_none C t k T true none = (or-none_both (follow_line C t T k false) (follow_line C t T k true) none).1
 lines_none C t k T false none = (or-none_both (follow_line C t T k false) (follow_line C t T k true) none).0
-
-all_three : (a b c : Bool) → (a && b && c) ≡ true → (a ≡ true) × (b ≡ true) × (c ≡ true)
-all_three true true true e = (refl, refl, refl)
-all_three true true false e = absurd cc
-all_three true false c e = absurd cc
-all_three false b c e = absurd cc
 
 none_told : {A : Type 0} {x : A} → None ≡ Some x → ⊥
 none_told e = cc

@@ -13,7 +13,7 @@ use Rattle.vpf_darts.specs.contracts.darts.TileDartPartialEq.TheImpl.{eq-value}
 use Rattle.vpf_darts.specs.Darts.{tile_dart_code}
 use Rattle.vpf_wing.specs.Links.{DartLinks}
 use Rattle.vpf_follow.specs.Following.{dart_numbered, follow, follows_to, is_home}
-use Rattle.vpf_follow.specs.Homes.{Followings, AreHomes, first_followed, follower}
+use Rattle.vpf_follow.specs.Inner.Homes.{Followings, AreHomes, first_followed, follower}
 use Rattle.vpf_follow.proofs.DartLemmas.{numbered-code, code-numbered, same-is, same-refl}
 
 -- the first place where a test passes

@@ -5,7 +5,7 @@ use Rattle.std.specs.Option.{option_eq, option_map}
 use Rattle.std.proofs.lemmas.Bool.{cases_Bool, and_parts, and_from, eqb-true, eq-eqb}
 use Rattle.vpf_darts.specs.Darts.{code, tile_in, edge_in, sign_of}
 use Rattle.vpf_findings.specs.Findings.{Disagreement}
-use Rattle.vpf_findings.specs.FirstLaws.{option_map-none}
+use Rattle.vpf_findings.specs.Inner.FirstLaws.{option_map-none}
 use Rattle.vpf_prims.specs.Primitives.{Library}
 use Rattle.vpf_prims.specs.Tables.{TileTables}
 use Rattle.vpf_wing.specs.Links.{DartLinks, links_of, is_minus}
@@ -13,10 +13,10 @@ use Rattle.vpf_prims.specs.Libraries.{library_of}
 use Rattle.vpf_follow.specs.Following.{is_home, follow, follows_to, first_home, number_seen}
 use Rattle.vpf_follow.specs.FollowLines.{at_wing_of, earlier_home, follow_line, follow_line_at}
 use Rattle.vpf_follow.specs.Sided.{HasFollowers}
-use Rattle.vpf_follow.specs.Laws.{FollowersDecide}
-use Rattle.vpf_wing.specs.DartLaws.{some-or-none, same_some, code-minus, darts-stand, found-passes, found-some}
-use Rattle.vpf_follow.specs.FollowLaws.{home_has}
-use Rattle.vpf_follow.specs.TileLaws.{TileOfDart, dart-tile, DartOfEdge, edge-dart, unless-none, unless-true, darts-none, darts-silent, options-same, same-options}
+use Rattle.vpf_follow.specs.Inner.Laws.{FollowersDecide}
+use Rattle.vpf_wing.specs.Inner.DartLaws.{some-or-none, same_some, code-minus, darts-stand, found-passes, found-some}
+use Rattle.vpf_follow.specs.Inner.FollowLaws.{home_has}
+use Rattle.vpf_follow.specs.Inner.TileLaws.{TileOfDart, dart-tile, DartOfEdge, edge-dart, unless-none, unless-true, darts-none, darts-silent, options-same, same-options}
 
 -- a dart is followed, and where it is a home dart no other one is by the same
 record FollowsAlone (C : DartLinks) (d : ℕ) : Type 0 where

@@ -1,19 +1,20 @@
 -- Where each dart is followed, and no two home darts by the same, each dart has a home copy.
-use Rattle.std.proofs.Common.{◌≡◌, ℕ, ◌+◌, ◌*◌, ◌^◌, ◌<◌, Bool, true, false, cond, ltb, nat_eq, refl, sym, ap, ◌∙◌, subst, inl, inr, arith, Some, List, [], ◌∷◌, ◌++◌, length, map}
+use Rattle.std.proofs.Common.{[], ◌≡◌, ℕ, ◌+◌, ◌*◌, ◌^◌, ◌<◌, Bool, true, false, cond, ltb, nat_eq, refl, sym, ap, ◌∙◌, subst, inl, inr, arith, Some, List, ◌∷◌, ◌++◌, length, map}
 use Rattle.std.specs.Option.{unwrap_or, option_eq}
 use Rattle.std.proofs.lemmas.Bool.{cases_Bool, and_parts, and_from, ltb-true, lt-ltb}
 use Rattle.vpf_darts.specs.Cycles.{IsCycle, first_of}
 use Rattle.vpf_darts.specs.Darts.{flip}
-use Rattle.vpf_darts.specs.Laws.{DartLiesOnCycle}
+use Rattle.vpf_darts.specs.Inner.Laws.{DartLiesOnCycle}
 use Rattle.vpf_darts.specs.Maps.{DartMap, IsMap}
 use Rattle.vpf_prims.specs.Primitives.{Library}
 use Rattle.vpf_wing.specs.Links.{DartLinks, links_of}
 use Rattle.vpf_follow.specs.Following.{is_home, follow, follows_to, first_home, home_copy, library_map}
 use Rattle.vpf_follow.specs.Sided.{HasFollowers}
-use Rattle.vpf_follow.specs.Laws.{HomesExist}
-use Rattle.vpf_wing.specs.DartLaws.{never_both, flip-flip, flip-apart, dart_bound, darts-below, darts-stand, found-passes, found-some}
-use Rattle.vpf_follow.specs.FollowLaws.{home_has, follow_home, home_self, home_moves, away_stays, next_apart}
-use Rattle.vpf_follow.specs.TileLaws.{options-same, same-options}
+use Rattle.vpf_follow.specs.Inner.Laws.{HomesExist}
+use Rattle.vpf_wing.specs.Inner.DartLaws.{never_both, flip-flip, flip-apart, dart_bound, darts-below, darts-stand, found-passes, found-some}
+use Rattle.vpf_follow.specs.Inner.FollowLaws.{home_has, follow_home, home_self, home_moves, away_stays, next_apart}
+use Rattle.vpf_follow.specs.Inner.TileLaws.{options-same, same-options}
+use Rattle.vpf_follow.specs.Inner.HomeLaws.{after_first as rest_of}
 
 flip_below : (n x : ℕ) → x < 2 * n → flip x < 2 * n
 unfolding flip
@@ -62,11 +63,6 @@ is_plain_map L a =
       flip_flip = λ d h. flip-flip d;
       flip_apart = λ d h. flip-apart d;
     }
-
--- what comes before the first dart of a cycle
-rest_of : List ℕ → List ℕ
-rest_of [] = []
-rest_of (x ∷ xs) = xs
 
 before_last : (f : ℕ → ℕ) (y : ℕ) (xs zs : List ℕ) → map f xs ≡ zs ++ y ∷ [] → (z : ℕ) × (f z ≡ y)
 unfolding rest_of

@@ -4,7 +4,7 @@ use Rattle.std.proofs.Math.ListN.{get_or-map}
 use Rattle.std.proofs.lemmas.List.{length-map}
 use Rattle.vpf_darts.specs.Darts.{tile_in, edge_in}
 use Rattle.vpf_findings.specs.Firsts.{first_of_rows}
-use Rattle.vpf_findings.specs.FirstLaws.{rows_none}
+use Rattle.vpf_findings.specs.Inner.FirstLaws.{rows_none}
 use Rattle.vpf_prims.specs.Lists.{kth}
 use Rattle.vpf_prims.specs.Primitives.{EdgePrimitive, absent_edge, own_edge}
 use Rattle.vpf_prims.specs.Reading.{primitives_of}
@@ -12,8 +12,8 @@ use Rattle.vpf_prims.specs.Tables.{TileTables}
 use Rattle.vpf_wing.specs.Links.{is_minus}
 use Rattle.vpf_wing.specs.CycleLines.{loop_line, loops_finding}
 use Rattle.vpf_prims.specs.Libraries.{library_of}
-use Rattle.vpf_follow.specs.Laws.{TileLoopsDecide}
-use Rattle.vpf_follow.specs.TileLaws.{TileOfDart, dart-tile, edge-dart, tiles-none, tiles-silent}
+use Rattle.vpf_follow.specs.Inner.Laws.{TileLoopsDecide}
+use Rattle.vpf_follow.specs.Inner.TileLaws.{TileOfDart, dart-tile, edge-dart, tiles-none, tiles-silent}
 use Rattle.vpf_follow.proofs.LawSides.{HasTwoFaces, loop_none, loop_silent, has_loops, loops_have, of_row}
 
 -- the edges of a tile

@@ -4,7 +4,7 @@ use Rattle.std.proofs.lemmas.Bool.{and_parts, and_from}
 use Rattle.vpf_darts.specs.Darts.{code, tile_in, edge_in, sign_of, flip}
 use Rattle.vpf_findings.specs.Findings.{Disagreement}
 use Rattle.vpf_findings.specs.Firsts.{◌or◌}
-use Rattle.vpf_findings.specs.FirstLaws.{or-none_both}
+use Rattle.vpf_findings.specs.Inner.FirstLaws.{or-none_both}
 use Rattle.vpf_prims.specs.References.{id_of}
 use Rattle.vpf_prims.specs.Lists.{kth}
 use Rattle.vpf_prims.specs.Primitives.{EdgePrimitive, Library, absent_edge, tile_edges, own_edge}
@@ -18,9 +18,9 @@ use Rattle.vpf_prims.specs.Libraries.{library_of}
 use Rattle.vpf_follow.specs.Following.{beyond_tile, is_own_face, is_far_face}
 use Rattle.vpf_follow.specs.Sided.{HasSides}
 use Rattle.vpf_follow.specs.SideLines.{part_line, inside_line, inside_wing_line, outside_wing_line, side_wing_lines, side_lines, sides_finding}
-use Rattle.vpf_follow.specs.Laws.{SidesDecide}
-use Rattle.vpf_wing.specs.DartLaws.{flip-tile, flip-edge, flip-flip, flip-minus, minus-code}
-use Rattle.vpf_follow.specs.TileLaws.{TileOfDart, dart-tile, DartOfEdge, edge-dart, unless-none, unless-true, or-silent, tiles-none, tiles-silent, edges-none, edges-silent, options-same, same-options}
+use Rattle.vpf_follow.specs.Inner.Laws.{SidesDecide}
+use Rattle.vpf_wing.specs.Inner.DartLaws.{flip-tile, flip-edge, flip-flip, flip-minus, minus-code}
+use Rattle.vpf_follow.specs.Inner.TileLaws.{TileOfDart, dart-tile, DartOfEdge, edge-dart, unless-none, unless-true, or-silent, tiles-none, tiles-silent, edges-none, edges-silent, options-same, same-options}
 use Rattle.vpf_follow.proofs.LawFacts.{of_both, right_of, left_of, either_of, implied, implies, none_of, of_none, excluded, excludes}
 
 -- a loop has two faces, seen from one of its darts

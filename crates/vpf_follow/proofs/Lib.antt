@@ -12,3 +12,4 @@ pub mod EdgeLines
 pub mod CheckLemmas
 pub mod TileLines
 pub mod FollowedLemmas
+pub mod CountLemmas

@@ -11,7 +11,7 @@ use Rattle.vpf_prims.specs.Primitives.{EdgePrimitive, Library, absent_edge, tile
 use Rattle.vpf_prims.specs.References.{id_of}
 use Rattle.vpf_wing.specs.Links.{Beyond, Link, DartLinks, links_of, link_of, edge_of_dart, only, wing_by, node_by, face_by, tail_node}
 use Rattle.vpf_follow.specs.Following.{face_beyond, face_name, follow, follow_links, is_far_face, is_home, is_named, is_outside, same_beyond}
-use Rattle.vpf_follow.specs.Rows.{edge_row_in, row_wing, row_node, row_face, row_is_named}
+use Rattle.vpf_follow.specs.Inner.Rows.{edge_row_in, row_wing, row_node, row_face, row_is_named}
 use Rattle.vpf_follow.proofs.DartLemmas.{code-tile, code-edge, code-minus, code-flip}
 
 -- booleans that are compared

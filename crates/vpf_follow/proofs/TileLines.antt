@@ -3,7 +3,7 @@ use Rattle.std.proofs.Common.{◌≡◌, ℕ, ◌+◌, ◌-◌, ◌≤◌, Optio
 use Rattle.vpf_findings.specs.declared.errors.FindError.{FindError}
 use Rattle.vpf_findings.specs.declared.errors.FindError.TheVariants as errors
 use Rattle.vpf_findings.specs.Findings.{Disagreement, disagreement_of}
-use Rattle.vpf_findings.specs.FirstLaws.{over_end, over_found, over_none, over_pass}
+use Rattle.vpf_findings.specs.Inner.FirstLaws.{over_end, over_found, over_none, over_pass}
 use Rattle.vpf_findings.specs.Firsts.{Tells, first_over}
 use Rattle.vpf_prims.specs.Coverages.{CoverageTables, last_tile, tile_at}
 use Rattle.vpf_prims.specs.Tables.{TileTables}

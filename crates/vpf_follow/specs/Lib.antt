@@ -3,9 +3,4 @@ pub mod Following
 pub mod Sided
 pub mod SideLines
 pub mod FollowLines
-pub mod Rows
-pub mod Homes
-pub mod Followed
-pub mod TileLaws
-pub mod FollowLaws
-pub mod Laws
+pub mod Inner

@@ -8,7 +8,7 @@ ghost use Rattle.vpf_prims.specs.Numbering.{IsRowOf};
 ghost use Rattle.vpf_prims.specs.Reading.{primitives_of};
 ghost use Rattle.vpf_wing.specs.Links.{links_of};
 ghost use Rattle.vpf_follow.specs.FollowLines.{at_wing_of, follow_line, follow_lines, follows_finding};
-ghost use Rattle.vpf_follow.specs.Homes.{AreKeptBefore, AreKeptTo, AreKeptWith, HasFewEdges};
+ghost use Rattle.vpf_follow.specs.Inner.Homes.{AreKeptBefore, AreKeptTo, AreKeptWith, HasFewEdges};
 ghost use Rattle.vpf_prims.specs.Libraries.{in_tile, library_of};
 
 use crate::following::{follow, is_home};

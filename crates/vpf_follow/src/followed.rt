@@ -5,7 +5,7 @@ ghost use Rattle.vpf_findings.specs.Firsts.{Tells};
 ghost use Rattle.vpf_prims.specs.Primitives.{edge_count};
 ghost use Rattle.vpf_wing.specs.Links.{links_of};
 ghost use Rattle.vpf_follow.specs.FollowLines.{follows_finding};
-ghost use Rattle.vpf_follow.specs.Homes.{HasFewEdges};
+ghost use Rattle.vpf_follow.specs.Inner.Homes.{HasFewEdges};
 ghost use Rattle.vpf_prims.specs.Libraries.{in_tiles, library_of};
 
 use crate::checking::check_tile;
@@ -31,7 +31,7 @@ impl<'c, 'a> Model for Followed<'c, 'a> {
 
     ghost Value = { CoverageTables };
 
-    ghost use Rattle.vpf_follow.specs.Followed.{followed_coverage, IsFollowed};
+    ghost use Rattle.vpf_follow.specs.Inner.Followed.{followed_coverage, IsFollowed};
 
     ghost view = { followed_coverage };
 
@@ -63,7 +63,7 @@ fn count_darts(coverage: &Coverage<'_>) -> u64
 
 /// A home dart follows each dart of the coverage, and no dart follows two home darts (MIL-STD-2407, 5.2.3, cross-tile topology). The first
 /// dart that none follows, or home dart whose next follows an earlier home dart too, is the finding: tile by tile, edge by edge, `+`
-/// before `-`. It reads the rows of each dart's edge and of its wing. Takes memory for each home dart, and nothing else.
+/// before `-`. It reads the rows of each dart's edge and of its wing. Takes memory for each dart, and nothing else.
 pub fn check_follows<'c, 'a>(
     alloc: Global,
     coverage: &'c Coverage<'a>,
@@ -89,7 +89,7 @@ impl<'c, 'a> Followed<'c, 'a> {
     ghost use Rattle.vpf_wing.specs.Links.{links_of};
     ghost use Rattle.vpf_follow.specs.Following.{follow, home_copy, is_home};
     ghost use Rattle.vpf_follow.specs.FollowLines.{follows_finding};
-    ghost use Rattle.vpf_follow.specs.Homes.{IsDartIn};
+    ghost use Rattle.vpf_follow.specs.Inner.Homes.{IsDartIn};
     ghost use Rattle.vpf_prims.specs.Libraries.{in_tiles, library_of};
 
     /// The coverage.

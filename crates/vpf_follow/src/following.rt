@@ -5,7 +5,7 @@ ghost use Rattle.std.specs.Option.{option_map};
 ghost use Rattle.vpf_darts.specs.Darts.{code, tile_dart_code};
 ghost use Rattle.vpf_wing.specs.Links.{link_of, links_of, only};
 ghost use Rattle.vpf_follow.specs.Following.{follow, follow_links, is_home, is_named, is_outside};
-ghost use Rattle.vpf_follow.specs.Homes.{IsDartIn};
+ghost use Rattle.vpf_follow.specs.Inner.Homes.{IsDartIn};
 ghost use Rattle.vpf_prims.specs.Libraries.{library_of};
 
 use crate::links::{

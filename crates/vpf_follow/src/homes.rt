@@ -1,23 +1,23 @@
 //! Darts as they are kept, each with what follows it.
 
 ghost use Rattle.std.specs.Prelude.{◌≡◌, [], IfOk, OnOk};
-ghost use Rattle.vpf_follow.specs.Homes.{first_followed, followings_and};
+ghost use Rattle.vpf_follow.specs.Inner.Homes.{first_followed, followings_and};
 
+use crate::dart_places::DartPlaces;
 use std::alloc::{AllocError, Global};
 use std::marker::Model;
 use vpf_darts::TileDart;
-use vpf_findings::FirstPlaces;
 
 /// Darts in some order, and what follows each. Contracts see it as both lists.
 #[derive(Drop)]
 pub(crate) struct Homes {
     darts: Vec<TileDart>,
-    nexts: FirstPlaces<TileDart>,
+    nexts: DartPlaces,
 }
 
 impl Model for Homes {
     ghost use Rattle.std.specs.Prelude.{◌≡◌, length};
-    ghost use Rattle.vpf_follow.specs.Homes.{Followings};
+    ghost use Rattle.vpf_follow.specs.Inner.Homes.{Followings};
 
     ghost Value = { Followings };
 
@@ -33,7 +33,7 @@ impl Homes {
     {
         Homes {
             darts: Vec::new(alloc),
-            nexts: FirstPlaces::new(alloc),
+            nexts: DartPlaces::new(alloc),
         }
     }
 
@@ -41,7 +41,7 @@ impl Homes {
     pub(crate) fn first(&self, next: TileDart) -> Option<TileDart>
         ensures { result ≡ first_followed self.now next }
     {
-        let place = self.nexts.first(&next)?;
+        let place = self.nexts.first(next)?;
         Some(self.darts[place as usize])
     }
 
@@ -55,7 +55,7 @@ impl Homes {
         ensures first { IfOk result (λ first. first ≡ first_followed self.old next) }
         ensures put { OnOk result (self.new ≡ followings_and self.old dart next) }
     {
-        if self.nexts.len() > u32::MAX as usize {
+        if self.nexts.len() >= u32::MAX as usize {
             // There is no memory for so many darts.
             return Err(AllocError);
         }

@@ -1,6 +1,6 @@
 //! What is so of the tiles of every coverage (MIL-STD-2407, 5.2.3, cross-tile topology).
 
-ghost use Rattle.vpf_follow.specs.Laws.{FollowersAreHome, FollowersDecide, HomesExist, SidesDecide, TileLoopsDecide};
+ghost use Rattle.vpf_follow.specs.Inner.Laws.{FollowersAreHome, FollowersDecide, HomesExist, SidesDecide, TileLoopsDecide};
 
 use vpf_darts::laws::darts_lie_on_cycles;
 

@@ -3,6 +3,7 @@
 #![tactic(auto)]
 
 mod checking;
+mod dart_places;
 mod followed;
 mod following;
 mod homes;

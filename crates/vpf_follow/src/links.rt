@@ -4,7 +4,7 @@ ghost use Rattle.std.specs.Prelude.{◌≡◌};
 ghost use Rattle.vpf_wing.specs.Links.{link_of};
 ghost use Rattle.vpf_follow.specs.Following.{beyond_tile, face_beyond, is_far_face, is_own_face};
 ghost use Rattle.vpf_prims.specs.Libraries.{library_of};
-ghost use Rattle.vpf_follow.specs.Rows.{row_face, edge_row_in, row_is_named, row_node, row_wing};
+ghost use Rattle.vpf_follow.specs.Inner.Rows.{row_face, edge_row_in, row_is_named, row_node, row_wing};
 
 use std::marker::Model;
 use vpf_coverage::Coverage;

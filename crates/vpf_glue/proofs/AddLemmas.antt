@@ -8,9 +8,9 @@ use Rattle.vpf_findings.specs.Firsts.{◌or◌}
 use Rattle.vpf_write.specs.Writing.{Writes, first_limit}
 use Rattle.vpf_write.specs.declared.writing.WriteError.{WriteError}
 use Rattle.vpf_write.specs.declared.writing.WriteError.TheVariants as stops
-use Rattle.vpf_table_files.specs.declared.errors.AddError.{AddError}
-use Rattle.vpf_table_files.specs.Adding.{Adds, AreAdded, FailsAdding, NamedTable, named_limit, named_table}
-use Rattle.vpf_table_files.specs.AddLaws.{adds_then, fails_first, fails_then}
+use Rattle.vpf_library_files.specs.declared.table_files.errors.AddError.{AddError}
+use Rattle.vpf_library_files.specs.TableFiles.Adding.{Adds, AreAdded, FailsAdding, NamedTable, named_limit, named_table}
+use Rattle.vpf_library_files.specs.Inner.TableFiles.AddLaws.{adds_then, fails_first, fails_then}
 
 -- the first table isn't added
 pub first_fails : (x : NamedTable) (xs : List NamedTable) (e : AddError) → FailsAdding (x ∷ []) e → FailsAdding (x ∷ xs) e

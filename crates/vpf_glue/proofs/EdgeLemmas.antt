@@ -4,9 +4,9 @@ use Rattle.vpf_base.specs.Limits.{most_rows}
 use Rattle.vpf_renumbering.specs.TilingLawsWhole.{Whole}
 use Rattle.vpf_renumbering.specs.Glued.{first_darts, plus_darts}
 use Rattle.vpf_renumbering.specs.declared.glued_edges.glued.EdgeJoins.{EdgeJoins}
-use Rattle.vpf_renumbering.specs.GluedEdges.Glued.{AreEdgeRows}
+use Rattle.vpf_renumbering.specs.Inner.GluedEdges.Glued.{AreEdgeRows}
 use Rattle.vpf_glue.specs.declared.glued_tables.numbers.EdgeNumbers.{EdgeNumbers}
-use Rattle.vpf_glue.specs.GluedTables.Numbers.{AreSmall}
+use Rattle.vpf_glue.specs.Inner.GluedTables.Numbers.{AreSmall}
 
 abbrev pub joined : EdgeJoins → (right left : ℕ) → EdgeNumbers
 joined j right left = record {

@@ -4,12 +4,12 @@ use Rattle.std.proofs.lemmas.Bool.{cases_lt}
 use Rattle.std.proofs.Math.ListN.{drop_of_length-le}
 use Rattle.std.specs.Option.{option_and_then, option_or}
 use Rattle.vpf_findings.specs.declared.finding.TableName.TheVariants as names
-use Rattle.vpf_head.specs.Soundness.{IsSound}
+use Rattle.vpf_head.specs.Inner.Soundness.{IsSound}
 use Rattle.vpf_table.specs.Grid.{Grid}
 use Rattle.vpf_prims.specs.Coverages.{CoverageTables, tile_at}
 use Rattle.vpf_prims.specs.Tables.{TileTables, table_named}
 use Rattle.vpf_glue.specs.GluedTables.Grids.{first_end}
-use Rattle.vpf_glue.specs.Sources.{IsOfTile, table_in}
+use Rattle.vpf_glue.specs.Inner.Sources.{IsOfTile, table_in}
 
 skip_one : (o : Option TileTables) (rest : List (Option TileTables)) → option_and_then (λ (T : TileTables). table_named T names.End) o ≡ None
     → first_end (o ∷ rest) ≡ first_end rest

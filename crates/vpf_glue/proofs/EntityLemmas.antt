@@ -7,9 +7,9 @@ use Rattle.std.specs.Option.{option_and_then, option_map, unwrap_or}
 use Rattle.std.specs.Prelude.{flat_map}
 use Rattle.vpf_findings.specs.declared.finding.TableName.TheVariants as names
 use Rattle.vpf_head.specs.Head.{Col}
-use Rattle.vpf_head.specs.Soundness.{IsSound}
+use Rattle.vpf_head.specs.Inner.Soundness.{IsSound}
 use Rattle.vpf_table.specs.Grid.{Grid, Row}
-use Rattle.vpf_write.specs.Tallies.{Tally, Holds}
+use Rattle.vpf_write.specs.Inner.Tallies.{Tally, Holds}
 use Rattle.vpf_write.specs.Revise.Revising.{revised}
 use Rattle.vpf_prims.specs.Coverages.{CoverageTables, last_tile, tile_at}
 use Rattle.vpf_prims.specs.Libraries.{library_of, primitives_in}
@@ -23,10 +23,10 @@ use Rattle.vpf_tiling.specs.Ranks.{numbered, numbered_from}
 use Rattle.vpf_renumbering.specs.TilingLawsWhole.{WholeEntity, face_here, tiles_in, whole_entities}
 use Rattle.vpf_renumbering.specs.Glued.{face_number}
 use Rattle.vpf_primitive_tables.specs.TableForms.Forms.{pair_values}
-use Rattle.vpf_renumbering.specs.GluedFaces.Faces.{entity_face}
+use Rattle.vpf_renumbering.specs.Inner.GluedFaces.Faces.{entity_face}
 use Rattle.vpf_glue.specs.GluedTables.Grids.{EntitySource, entity_source, entity_sources, glued_entity_row, sources_in_table, whole_in}
-use Rattle.vpf_glue.specs.GluedTables.Laws.{AreOfTiles}
-use Rattle.vpf_glue.specs.Sources.{IsOfTile, IsRight, sources_before, sources_of, table_in}
+use Rattle.vpf_glue.specs.Inner.GluedTables.Laws.{AreOfTiles}
+use Rattle.vpf_glue.specs.Inner.Sources.{IsOfTile, IsRight, sources_before, sources_of, table_in}
 use Rattle.vpf_glue.proofs.EndLemmas.{tile_with}
 
 -- ---- tile by tile

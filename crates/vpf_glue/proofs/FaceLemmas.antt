@@ -8,10 +8,10 @@ use Rattle.std.proofs.lemmas.List.{length-map, take_all}
 use Rattle.std.proofs.lemmas.List.FromFn.{get_or-map-range_with_len}
 use Rattle.vpf_prims.specs.Lists.{first_item}
 use Rattle.vpf_tiling.specs.Tiles.{Ring}
-use Rattle.vpf_cut_rings.specs.Rings.{first_rings_of}
+use Rattle.vpf_primitive_tables.specs.Rings.{first_rings_of}
 use Rattle.vpf_renumbering.specs.Glued.{glued_rings, tiles_of_faces}
 use Rattle.vpf_renumbering.specs.TilingLawsWhole.{WholeFace}
-use Rattle.vpf_renumbering.specs.GluedFaces.Faces.{nowhere}
+use Rattle.vpf_renumbering.specs.Inner.GluedFaces.Faces.{nowhere}
 use Rattle.vpf_glue.specs.GluedTables.Grids.{face_sources, row_in, whole_in}
 
 mapped_at : (h : Beyond → Row) (fs : List WholeFace) (i : ℕ) → i < length fs

@@ -6,10 +6,10 @@ use Rattle.vpf_triplet.specs.declared.kinds.Kind.TheVariants.{I}
 use Rattle.vpf_table.specs.Grid.{Grid}
 use Rattle.vpf_prims.specs.Coverages.{CoverageTables}
 use Rattle.vpf_prims.specs.Reading.{PrimitiveTables}
-use Rattle.vpf_primitive_tables.specs.TableForms.Models.{EdgesLike, PairsLike}
+use Rattle.vpf_primitive_tables.specs.Inner.TableForms.Models.{EdgesLike, PairsLike}
 use Rattle.vpf_glue.specs.declared.glued_tables.forms.GluedForms.{GluedForms}
 use Rattle.vpf_glue.specs.GluedTables.Grids.{first_end, glued_edge_grid, glued_entity_grid, glued_face_grid, glued_node_grid, glued_ring_grid, glued_tables}
-use Rattle.vpf_glue.specs.Forms.{tables_by}
+use Rattle.vpf_glue.specs.Inner.Forms.{tables_by}
 
 abbrev pub end_like : Grid → PairsLike
 end_like table = record { table = table; name = codes "containing_face" }

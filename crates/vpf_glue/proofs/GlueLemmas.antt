@@ -9,9 +9,9 @@ use Rattle.vpf_prims.specs.Libraries.{library_of}
 use Rattle.vpf_prims.specs.Reading.{PrimitiveTables}
 use Rattle.vpf_prims.specs.Tables.{TileTables}
 use Rattle.vpf_cross.specs.CarriedLines.{first_tile}
-use Rattle.vpf_table_files.specs.declared.errors.AddError.{AddError}
-use Rattle.vpf_table_files.specs.Adding.{AreAdded, FailsAdding, NamedTable, error_seen, made_of_tables}
-use Rattle.vpf_table_files.specs.AddLaws.{added_then, made_are, made_fail}
+use Rattle.vpf_library_files.specs.declared.table_files.errors.AddError.{AddError}
+use Rattle.vpf_library_files.specs.TableFiles.Adding.{AreAdded, FailsAdding, NamedTable, error_seen, made_of_tables}
+use Rattle.vpf_library_files.specs.Inner.TableFiles.AddLaws.{added_then, made_are, made_fail}
 use Rattle.vpf_glue.specs.GluedTables.Grids.{glued_tables, plan_grid}
 use Rattle.vpf_glue.specs.Tables.{glued_coverage_tables, glued_made, glued_tables_like, glued_tileref}
 use Rattle.vpf_glue.proofs.AddLemmas.{first_fails, next_fails}

@@ -1,32 +1,32 @@
 -- What is so of the tables of a coverage, and of the rows that a glued coverage is made of.
-use Rattle.std.proofs.Common.{◌≡◌, ℕ, ◌^◌, ◌<◌, ◌≤◌, Bool, true, false, not, cond, eqb, refl, sym, ap, ◌∙◌, subst, inl, inr, arith, Option, Some, None, [], length}
+use Rattle.std.proofs.Common.{[], ◌≡◌, ℕ, ◌^◌, ◌<◌, ◌≤◌, Bool, true, false, not, cond, eqb, refl, sym, ap, ◌∙◌, subst, inl, inr, arith, Option, Some, None, length}
 use Rattle.std.specs.Option.{IsSomeAnd, option_and_then, option_map, unwrap_or}
 use Rattle.std.specs.Prelude.{IfSome}
 use Rattle.std.proofs.lemmas.Bool.{cases_Bool, cases_eq, eq-eqb}
 use Rattle.std.proofs.lemmas.List.{length-map}
 use Rattle.vpf_triplet.specs.declared.triplets.Triplet.{Triplet}
 use Rattle.vpf_darts.specs.declared.darts.TileDart.{TileDart}
-use Rattle.vpf_darts.specs.Darts.{edge_in, flip, sign_of, tile_dart_code, tile_in}
+use Rattle.vpf_darts.specs.Darts.{edge_in, flip, tile_dart_code, tile_in}
 use Rattle.vpf_findings.specs.declared.finding.TableName.TheVariants as names
-use Rattle.vpf_head.specs.Soundness.{IsSound}
-use Rattle.vpf_table.specs.Canonical.{FitsRow}
 use Rattle.vpf_table.specs.Grid.{Grid, Row}
 use Rattle.vpf_prims.specs.Coverages.{CoverageTables, tile_at}
 use Rattle.vpf_prims.specs.Libraries.{library_of, primitives_in}
 use Rattle.vpf_prims.specs.Lists.{kth}
-use Rattle.vpf_prims.specs.Numbering.{IsEdgeOf, IsFace, IsNumbered, IsReference, IsRowOf}
+use Rattle.vpf_prims.specs.Numbering.{IsEdgeOf, IsFace, IsReference, IsRowOf}
 use Rattle.vpf_prims.specs.Primitives.{EdgePrimitive, Library, absent_edge, edge_count, edges_in, face_count, faces_in, has_tables, is_there, node_count, nodes_in, tile_edges}
 use Rattle.vpf_prims.specs.Reading.{PrimitiveTables, edge_in_row, face_in_row, node_in_row, primitives_of}
 use Rattle.vpf_prims.specs.References.{id_of}
 use Rattle.vpf_prims.specs.Tables.{TileTables, table_named}
-use Rattle.vpf_wing.specs.DartLaws.{IsThere, code-edge, code-tile, flip-edge, flip-minus, flip-tile, has-there, minus-code, never_both, same_some, sign-small}
-use Rattle.vpf_wing.specs.Links.{Beyond, edge_of_dart, face_by, is_minus, link_of, links_of, node_by, tail_node}
+use Rattle.vpf_wing.specs.Inner.DartLaws.{IsThere, flip-edge, flip-minus, flip-tile, has-there, minus-code, never_both, same_some}
+use Rattle.vpf_wing.specs.Links.{edge_of_dart, face_by, is_minus, link_of, links_of, node_by, tail_node}
 use Rattle.vpf_follow.specs.Following.{face_beyond, face_name, is_home}
-use Rattle.vpf_follow.specs.FollowLaws.{home_has}
+use Rattle.vpf_follow.specs.Inner.FollowLaws.{home_has}
 use Rattle.vpf_renumbering.specs.TilingLawsWhole.{whole_of}
 use Rattle.vpf_glue.specs.GluedTables.Grids.{row_in}
-use Rattle.vpf_glue.specs.GluedTables.Laws.{AreOfTiles}
-use Rattle.vpf_glue.specs.Sources.{IsFaceThere, IsOfTile, IsRight, IsRowIn, table_in}
+use Rattle.vpf_glue.specs.Inner.GluedTables.Laws.{AreOfTiles}
+use Rattle.vpf_glue.specs.Inner.Sources.{IsFaceThere, IsOfTile, IsRight, IsRowIn, table_in}
+use Rattle.vpf_renumbering.specs.Inner.GluedEdges.FaceLaws.{tile_is, edge_is}
+use Rattle.vpf_wing.specs.Inner.NumberLaws.{reference_row}
 
 -- ---- rows of tables
 
@@ -132,12 +132,6 @@ node_listed (Some T) k r = subst (λ n. IsRowOf n k) (length-map T.tables.cnd.ro
 
 -- ---- darts of tiles
 
-pub tile_is : (d : TileDart) → d.edge < 2 ^ 32 → tile_in (tile_dart_code d) ≡ d.tile
-tile_is d few = code-tile d.tile d.edge (sign_of d.minus) few (sign-small d.minus)
-
-pub edge_is : (d : TileDart) → d.edge < 2 ^ 32 → edge_in (tile_dart_code d) ≡ d.edge
-edge_is d few = code-edge d.tile d.edge (sign_of d.minus) few (sign-small d.minus)
-
 pub sign_is : (d : TileDart) → is_minus (tile_dart_code d) ≡ d.minus
 sign_is d = minus-code d.tile d.edge d.minus
 
@@ -168,14 +162,6 @@ pub named_there : (c : CoverageTables) → IsRight c → (t k : ℕ) → IsRowOf
 named_there c right t k r = (right.numbered t (tables_of_row c t k r)).edges k r
 
 -- ---- nodes
-
-reference_row : (L : Library) (count : ℕ → ℕ) (t : ℕ) (r : Triplet) → IsReference L count t r → IsRowOf (count t) (id_of r)
-reference_row L count t r (inl i) =
-    let e : id_of r ≡ i.id = ap id_of i.is in
-    let a = i.from_low in
-    let b = i.to_last in
-    (omega arith, omega arith)
-reference_row L count t r (inr c) = let e : id_of r ≡ c.id = ap id_of c.is in subst (IsRowOf (count t)) (sym e) c.here
 
 node_reference : (L : Library) (t k : ℕ) (e : EdgePrimitive) (m : Bool) → IsEdgeOf L t k e → IsReference L (node_count L) t (node_by m e)
 node_reference L t k e true i = i.start_node

@@ -1,3 +1,1 @@
 pub mod Grids
-pub mod Numbers
-pub mod Laws

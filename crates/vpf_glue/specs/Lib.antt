@@ -1,5 +1,3 @@
 pub mod Tables
-pub mod Sources
-pub mod Forms
 pub mod GluedTables
-pub mod GluedReading
+pub mod Inner

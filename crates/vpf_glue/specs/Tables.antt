@@ -4,8 +4,8 @@ use Rattle.vpf_source.specs.declared.file.File.{File}
 use Rattle.vpf_table.specs.Grid.{Grid}
 use Rattle.vpf_prims.specs.Coverages.{CoverageTables}
 use Rattle.vpf_prims.specs.Reading.{PrimitiveTables}
-use Rattle.vpf_table_files.specs.declared.errors.AddError.{AddError}
-use Rattle.vpf_table_files.specs.Adding.{NamedTable, made_of_tables, table_within}
+use Rattle.vpf_library_files.specs.declared.table_files.errors.AddError.{AddError}
+use Rattle.vpf_library_files.specs.TableFiles.Adding.{NamedTable, made_of_tables, table_within}
 use Rattle.vpf_primitive_tables.specs.TileTables.Grids.{tiles_made}
 use Rattle.vpf_glue.specs.GluedTables.Grids.{first_tables, glued_tables, plan_grid}
 

@@ -4,7 +4,7 @@ ghost use Rattle.std.specs.Prelude.{◌≡◌, ◌<◌, ◌^◌, ◌++◌, ◌�
 ghost use Rattle.vpf_triplet.specs.declared.kinds.Kind.TheVariants.{I};
 ghost use Rattle.vpf_darts.specs.Darts.{edge_in, tile_dart_code, tile_in};
 ghost use Rattle.vpf_table.specs.Grid.{Grid, Row};
-ghost use Rattle.vpf_write.specs.Tallies.{Holds};
+ghost use Rattle.vpf_write.specs.Inner.Tallies.{Holds};
 ghost use Rattle.vpf_write.specs.Writing.{Writes};
 ghost use Rattle.vpf_prims.specs.Libraries.{library_of};
 ghost use Rattle.vpf_wing.specs.Links.{links_of};
@@ -12,8 +12,8 @@ ghost use Rattle.vpf_follow.specs.Following.{is_home};
 ghost use Rattle.vpf_renumbering.specs.Glued.{face_number, glued_edge};
 ghost use Rattle.vpf_primitive_tables.specs.TableForms.Forms.{edge_kinds_of, head_like};
 ghost use Rattle.vpf_glue.specs.GluedTables.Grids.{glued_edge_grid, glued_edge_row, row_in, whole_in};
-ghost use Rattle.vpf_glue.specs.GluedTables.Numbers.{AreSmall, row_numbers};
-ghost use Rattle.vpf_glue.specs.Sources.{FitsEdges, IsFaceThere, IsOfTile};
+ghost use Rattle.vpf_glue.specs.Inner.GluedTables.Numbers.{AreSmall, row_numbers};
+ghost use Rattle.vpf_glue.specs.Inner.Sources.{FitsEdges, IsFaceThere, IsOfTile};
 
 use crate::glued_tables::EdgeNumbers;
 use crate::glued_tables::laws::rows_of_tiles_fit;

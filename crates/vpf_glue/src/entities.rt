@@ -3,15 +3,15 @@
 ghost use Rattle.std.specs.Prelude.{◌≡◌, ◌+◌, ◌<◌, ◌≤◌, ◌^◌, ◌++◌, [], IfOk, List, OnOk, Some, codes, length, map};
 ghost use Rattle.vpf_base.specs.Limits.{most_rows};
 ghost use Rattle.vpf_findings.specs.declared.finding.TableName.TheVariants.{End};
-ghost use Rattle.vpf_head.specs.Soundness.{IsSound};
+ghost use Rattle.vpf_head.specs.Inner.Soundness.{IsSound};
 ghost use Rattle.vpf_table.specs.Grid.{Row};
-ghost use Rattle.vpf_write.specs.Tallies.{Holds};
+ghost use Rattle.vpf_write.specs.Inner.Tallies.{Holds};
 ghost use Rattle.vpf_write.specs.Writing.{Writes};
 ghost use Rattle.vpf_tiling.specs.Ranks.{numbered, numbered_from};
 ghost use Rattle.vpf_primitive_tables.specs.TableForms.Forms.{head_like, pair_kinds};
 ghost use Rattle.vpf_glue.specs.GluedTables.Grids.{entity_source, entity_sources, glued_entity_grid, glued_entity_row};
-ghost use Rattle.vpf_glue.specs.Forms.{IsEndForm};
-ghost use Rattle.vpf_glue.specs.Sources.{sources_of, table_in};
+ghost use Rattle.vpf_glue.specs.Inner.Forms.{IsEndForm};
+ghost use Rattle.vpf_glue.specs.Inner.Sources.{sources_of, table_in};
 
 use crate::glued_tables::laws::rows_of_tiles_fit;
 use crate::sources::{end_of, numbers_are_right};

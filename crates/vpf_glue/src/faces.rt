@@ -4,9 +4,9 @@ ghost use Rattle.std.specs.Prelude.{◌≡◌, ◌+◌, ◌<◌, ◌^◌, [], Al
 ghost use Rattle.vpf_table.specs.Grid.{Grid};
 ghost use Rattle.vpf_write.specs.Writing.{Writes};
 ghost use Rattle.vpf_renumbering.specs.Glued.{glued_rings};
-ghost use Rattle.vpf_cut_rings.specs.Rings.{first_rings_of};
+ghost use Rattle.vpf_primitive_tables.specs.Rings.{first_rings_of};
 ghost use Rattle.vpf_glue.specs.GluedTables.Grids.{face_sources, glued_face_grid, whole_in};
-ghost use Rattle.vpf_glue.specs.Sources.{FitsPairs, IsOfTile};
+ghost use Rattle.vpf_glue.specs.Inner.Sources.{FitsPairs, IsOfTile};
 
 use crate::glued_tables::laws::rows_of_tiles_fit;
 use crate::sources::{numbers_are_right, row_in_tile};

@@ -3,17 +3,17 @@
 ghost use Rattle.std.specs.Prelude.{◌≡◌, ◌∷◌, [], IfOk, IfSome, Some, true};
 ghost use Rattle.std.specs.Option.{option_map};
 ghost use Rattle.vpf_base.specs.Results.{Meets};
-ghost use Rattle.vpf_head.specs.Soundness.{IsSound};
+ghost use Rattle.vpf_head.specs.Inner.Soundness.{IsSound};
 ghost use Rattle.vpf_prims.specs.Coverages.{tile_at};
 ghost use Rattle.vpf_prims.specs.Libraries.{library_of};
 ghost use Rattle.vpf_prims.specs.Tables.{table_named};
 ghost use Rattle.vpf_write.specs.Writing.{Writes};
 ghost use Rattle.vpf_library_files.specs.Tileref.Tileref.{IsTileref};
 ghost use Rattle.vpf_cross.specs.CarriedLines.{first_tile};
-ghost use Rattle.vpf_primitive_tables.specs.TableForms.Models.{PairsLike};
-ghost use Rattle.vpf_table_files.specs.Adding.{Adds, error_seen};
+ghost use Rattle.vpf_primitive_tables.specs.Inner.TableForms.Models.{PairsLike};
+ghost use Rattle.vpf_library_files.specs.TableFiles.Adding.{Adds, error_seen};
 ghost use Rattle.vpf_glue.specs.GluedTables.Grids.{glued_entity_grid, glued_tables, plan_grid};
-ghost use Rattle.vpf_glue.specs.Forms.{AreGluedForms, IsEndForm, tables_by};
+ghost use Rattle.vpf_glue.specs.Inner.Forms.{AreGluedForms, IsEndForm, tables_by};
 ghost use Rattle.vpf_glue.specs.Tables.{glued_coverage_tables, end_tables, glued_made, last_tables};
 
 use crate::edges::write_edges;
@@ -28,6 +28,7 @@ use std::alloc::{AllocError, Global};
 use vpf_base::limits::MOST_ROWS;
 use vpf_cross::Checked;
 use vpf_findings::TableName;
+use vpf_library_files::table_files::{AddError, add_table};
 use vpf_primitive_tables::table_forms::PairForm;
 use vpf_primitive_tables::tile_tables::write_tiles;
 use vpf_prims::Tile;
@@ -35,7 +36,6 @@ use vpf_renumbering::glued_edges::{GluedEdges, edge_count};
 use vpf_renumbering::glued_faces::{GluedFaces, entity_count};
 use vpf_source::File;
 use vpf_table::TableView;
-use vpf_table_files::{AddError, add_table};
 use vpf_write::{WriteError, Written};
 
 /// What is so of each table of a tile: its header is sound.

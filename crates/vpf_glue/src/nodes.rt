@@ -6,11 +6,11 @@ ghost use Rattle.vpf_table.specs.Grid.{Grid};
 ghost use Rattle.vpf_write.specs.Writing.{Writes};
 ghost use Rattle.vpf_prims.specs.Libraries.{library_of};
 ghost use Rattle.vpf_prims.specs.References.{id_of};
-ghost use Rattle.vpf_follow.specs.Rows.{row_node};
+ghost use Rattle.vpf_follow.specs.Inner.Rows.{row_node};
 ghost use Rattle.vpf_wing.specs.Links.{links_of, tail_node};
 ghost use Rattle.vpf_follow.specs.Following.{is_home};
 ghost use Rattle.vpf_glue.specs.GluedTables.Grids.{glued_node_grid, row_in};
-ghost use Rattle.vpf_glue.specs.Sources.{FitsPairs, IsOfTile};
+ghost use Rattle.vpf_glue.specs.Inner.Sources.{FitsPairs, IsOfTile};
 
 use crate::glued_tables::laws::rows_of_tiles_fit;
 use crate::sources::{checked_of, numbers_are_right, row_in_tile};

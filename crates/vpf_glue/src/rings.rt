@@ -4,7 +4,7 @@ ghost use Rattle.std.specs.Prelude.{◌≡◌, ◌<◌, ◌^◌, All, length, ma
 ghost use Rattle.vpf_prims.specs.Libraries.{library_of};
 ghost use Rattle.vpf_write.specs.Writing.{Writes};
 ghost use Rattle.vpf_renumbering.specs.Glued.{glued_rings};
-ghost use Rattle.vpf_renumbering.specs.GluedFaces.Rings.{HasHomeStart, ring_said};
+ghost use Rattle.vpf_renumbering.specs.Inner.GluedFaces.Rings.{HasHomeStart, ring_said};
 ghost use Rattle.vpf_glue.specs.GluedTables.Grids.{glued_ring_grid, whole_in};
 
 use crate::sources::edges_number_few;

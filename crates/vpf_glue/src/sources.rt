@@ -3,7 +3,7 @@
 ghost use Rattle.std.specs.Prelude.{◌≡◌, ◌≤◌, ◌*◌, IfSome, length};
 ghost use Rattle.std.specs.Option.{IsSomeAnd, option_copied};
 ghost use Rattle.vpf_findings.specs.declared.finding.TableName.TheVariants.{End};
-ghost use Rattle.vpf_head.specs.Soundness.{IsSound};
+ghost use Rattle.vpf_head.specs.Inner.Soundness.{IsSound};
 ghost use Rattle.vpf_prims.specs.Coverages.{tile_at};
 ghost use Rattle.vpf_prims.specs.Numbering.{IsRowOf};
 ghost use Rattle.vpf_prims.specs.Libraries.{library_of};
@@ -11,7 +11,7 @@ ghost use Rattle.vpf_cross.specs.CarriedLines.{first_tile};
 ghost use Rattle.vpf_base.specs.Limits.{most_rows};
 ghost use Rattle.vpf_renumbering.specs.Glued.{first_darts, plus_darts};
 ghost use Rattle.vpf_glue.specs.GluedTables.Grids.{first_end, whole_in};
-ghost use Rattle.vpf_glue.specs.Sources.{IsOfTile, IsRight, IsRowIn, table_in};
+ghost use Rattle.vpf_glue.specs.Inner.Sources.{IsOfTile, IsRight, IsRowIn, table_in};
 
 use vpf_coverage::Coverage;
 use vpf_cross::{Checked, first_tile};

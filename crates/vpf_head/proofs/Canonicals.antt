@@ -8,8 +8,8 @@ use Rattle.std.proofs.lemmas.List.Elements.{All-head, All-tail}
 use Rattle.vpf_base.specs.Limits.{longest_text}
 use Rattle.vpf_triplet.specs.declared.kinds.Count.{Count}
 use Rattle.vpf_triplet.specs.declared.kinds.Count.TheVariants.{Fixed, Star}
-use Rattle.vpf_triplet.specs.declared.orders.Order.{Order}
-use Rattle.vpf_triplet.specs.declared.orders.Order.TheVariants.{Little, Big}
+use Rattle.vpf_base.specs.declared.orders.Order.{Order}
+use Rattle.vpf_base.specs.declared.orders.Order.TheVariants.{Little, Big}
 use Rattle.vpf_triplet.specs.Kinds.{kind_text, count_text}
 use Rattle.vpf_head.specs.Bytes.{semicolon, comma, colon, equals}
 use Rattle.vpf_head.specs.Canonical.{name_text, column_text, columns_text, canonical_text, canonical_header}
@@ -17,7 +17,7 @@ use Rattle.vpf_head.specs.Fields.{letter_key, key_text}
 use Rattle.vpf_head.specs.Folding.{lowercase, same_name}
 use Rattle.vpf_head.specs.Head.{Head, Col, names, place_of}
 use Rattle.vpf_head.specs.Reading.{header_of}
-use Rattle.vpf_head.specs.Soundness.{IsInBounds, IsCounted, IsSpelled, IsSound}
+use Rattle.vpf_head.specs.Inner.Soundness.{IsInBounds, IsCounted, IsSpelled, IsSound}
 use Rattle.vpf_head.specs.Spelling.{IsCount, IsColumn, IsColumns, narrated_comma, mark_of, IsHeaderText, IsHeader}
 use Rattle.vpf_head.proofs.FieldLaws.{key_takes}
 use Rattle.vpf_head.proofs.HeadLaws.{passes_nowhere}

@@ -8,7 +8,7 @@ use Rattle.vpf_triplet.specs.declared.places.Place.{Place}
 use Rattle.vpf_triplet.specs.declared.places.PlaceError.{PlaceError}
 use Rattle.vpf_triplet.specs.declared.places.PlaceError.TheVariants as errors
 use Rattle.vpf_triplet.specs.Places.{Answers, ForPlace}
-use Rattle.vpf_head.specs.Deciding.{BeginsHeader, DecidesHeader}
+use Rattle.vpf_head.specs.Inner.Deciding.{BeginsHeader, DecidesHeader}
 use Rattle.vpf_head.specs.Faults.{FirstHeaderFault}
 use Rattle.vpf_head.specs.Head.{Head}
 use Rattle.vpf_head.specs.Reading.{header_of}

@@ -13,8 +13,8 @@ use Rattle.vpf_head.specs.declared.columns.Column.{Column}
 use Rattle.vpf_head.specs.Folding.{same_name}
 use Rattle.vpf_head.specs.Head.{Col, names, is_data, holds_data, is_triplet, is_star, varies_in, with_kind}
 use Rattle.vpf_head.specs.Canonical.{column_text, columns_text}
-use Rattle.vpf_head.specs.Soundness.{IsSpelled}
-use Rattle.vpf_head.specs.Views.{col, AreNamed}
+use Rattle.vpf_head.specs.Inner.Soundness.{IsSpelled}
+use Rattle.vpf_head.specs.Inner.Views.{col, AreNamed}
 
 abbrev Entries : Type 0
 Entries = List (ColumnName × Column)

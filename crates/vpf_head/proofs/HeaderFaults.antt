@@ -9,7 +9,7 @@ use Rattle.vpf_base.specs.Limits.{longest_text, most_columns}
 use Rattle.vpf_base.specs.Results.{◌>>=◌}
 use Rattle.vpf_base.proofs.Booleans.{not_true, tested}
 use Rattle.vpf_base.proofs.Results.{no_ok, failed, err_is}
-use Rattle.vpf_triplet.specs.declared.orders.Order.{Order}
+use Rattle.vpf_base.specs.declared.orders.Order.{Order}
 use Rattle.vpf_triplet.specs.declared.places.Place.{Place}
 use Rattle.vpf_triplet.specs.declared.places.Code.{Code}
 use Rattle.vpf_triplet.specs.declared.places.Code.TheVariants as codes

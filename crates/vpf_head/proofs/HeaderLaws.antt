@@ -6,11 +6,11 @@ use Rattle.std.proofs.lemmas.List.{drop_at, take_at, drop-take, length-append, l
 use Rattle.vpf_base.specs.Limits.{longest_text}
 use Rattle.vpf_base.proofs.Results.{guarded}
 use Rattle.vpf_base.specs.Bytes.{IsBytes}
-use Rattle.vpf_triplet.proofs.NumberLemmas.{number_again, number_takes}
-use Rattle.vpf_triplet.specs.declared.orders.Order.{Order}
-use Rattle.vpf_triplet.specs.declared.orders.Order.TheVariants.{Little, Big}
+use Rattle.vpf_base.proofs.NumberLemmas.{number_again, number_takes}
+use Rattle.vpf_base.specs.declared.orders.Order.{Order}
+use Rattle.vpf_base.specs.declared.orders.Order.TheVariants.{Little, Big}
 use Rattle.vpf_triplet.specs.declared.places.Code.TheVariants as codes
-use Rattle.vpf_triplet.specs.Numbers.{number_of, number}
+use Rattle.vpf_base.specs.Numbers.{number_of, number}
 use Rattle.vpf_triplet.specs.Places.{fault}
 use Rattle.vpf_head.specs.Bytes.{semicolon}
 use Rattle.vpf_head.specs.Head.{Head}

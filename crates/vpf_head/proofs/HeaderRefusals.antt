@@ -5,7 +5,7 @@ use Rattle.std.specs.List.{list_any, list_all}
 use Rattle.std.proofs.lemmas.Bool.{lt-ltb, le-ltb}
 use Rattle.std.proofs.lemmas.List.{drop_at, drop-drop, length-append}
 use Rattle.vpf_base.specs.Limits.{longest_text, most_columns}
-use Rattle.vpf_triplet.specs.declared.orders.Order.{Order}
+use Rattle.vpf_base.specs.declared.orders.Order.{Order}
 use Rattle.vpf_triplet.specs.declared.places.Place.{Place}
 use Rattle.vpf_triplet.specs.declared.places.Code.{Code}
 use Rattle.vpf_triplet.specs.declared.places.Code.TheVariants as codes

@@ -1,5 +1,5 @@
 -- A header is made of the parts that its file spells, and of no others.
-use Rattle.std.proofs.Common.{◌≡◌, ℕ, suc, ◌+◌, ◌<◌, ◌≤◌, Bool, true, false, List, [], ◌∷◌, ◌++◌, length, map, take, drop, get_or, Option, Some, None, Result, Ok, Err, refl, sym, ap, subst, ◌∙◌, arith, ltb}
+use Rattle.std.proofs.Common.{[], ◌≡◌, ℕ, suc, ◌+◌, ◌<◌, ◌≤◌, Bool, true, false, List, ◌∷◌, ◌++◌, length, map, take, drop, get_or, Option, Some, None, Result, Ok, Err, refl, sym, ap, subst, ◌∙◌, arith, ltb}
 use Rattle.std.specs.Prelude.{bytes_eq, slice_get, is_some, position}
 use Rattle.std.specs.Int.{w32}
 use Rattle.std.specs.List.{IsDistinct}
@@ -12,17 +12,17 @@ use Rattle.indexmap.specs.IndexMap.{IndexMap, values, get, insert_entry}
 use Rattle.indexmap.proofs.CallerLemmas.{insert_entry-new}
 use Rattle.indexmap.proofs.MapLemmas.{some_index}
 use Rattle.std.proofs.lemmas.Option.{slice_get-get_or}
-use Rattle.vpf_triplet.proofs.KindLemmas.{kinds_same}
+use Rattle.vpf_triplet.specs.Inner.KindLaws.{kinds_same}
 use Rattle.vpf_base.specs.Limits.{longest_text}
 use Rattle.vpf_base.proofs.Results.{passed, guarded, bind_ok, ok_is}
 use Rattle.vpf_triplet.specs.declared.kinds.Count.{Count}
 use Rattle.vpf_triplet.specs.declared.kinds.Count.TheVariants.{Fixed, Star}
-use Rattle.vpf_triplet.specs.declared.orders.Order.{Order}
-use Rattle.vpf_triplet.specs.declared.orders.Order.TheVariants.{Little, Big}
+use Rattle.vpf_base.specs.declared.orders.Order.{Order}
+use Rattle.vpf_base.specs.declared.orders.Order.TheVariants.{Little, Big}
 use Rattle.vpf_triplet.specs.declared.places.Place.{Place}
 use Rattle.vpf_triplet.specs.declared.places.Code.TheVariants as codes
 use Rattle.vpf_triplet.specs.Kinds.{kind_text, count_text, same_kind}
-use Rattle.vpf_triplet.specs.Numbers.{number}
+use Rattle.vpf_base.specs.Numbers.{number}
 use Rattle.vpf_triplet.specs.Places.{fault}
 use Rattle.vpf_head.specs.declared.columns.Column.{Column}
 use Rattle.vpf_head.specs.declared.names.ColumnName.{ColumnName}
@@ -34,15 +34,16 @@ use Rattle.vpf_head.specs.Folding.{same_name}
 use Rattle.vpf_head.specs.Head.{Head, Col, names, place_of}
 use Rattle.vpf_head.specs.Making.{same_count, same_key, next_part, next_after_text, next_after_name, past_column, past_columns, read_as_given, text_file, new_of}
 use Rattle.vpf_head.specs.Reading.{order_of, header_of}
-use Rattle.vpf_head.specs.Soundness.{IsSound}
+use Rattle.vpf_head.specs.Inner.Soundness.{IsSound}
 use Rattle.vpf_head.specs.Spelling.{mark_of, IsHeader}
 use Rattle.vpf_head.specs.Texts.{number_bytes}
-use Rattle.vpf_head.specs.Views.{col, key_eq, AreNamed}
+use Rattle.vpf_head.specs.Inner.Views.{col, key_eq, AreNamed}
 use Rattle.vpf_head.proofs.Canonicals.{is_new, canonical_spelled}
 use Rattle.vpf_head.proofs.Entries.{position_named, AreNamed-push, next_column}
 use Rattle.vpf_head.proofs.FieldLaws.{same_bytes}
 use Rattle.vpf_head.proofs.HeaderLaws.{four_long, header_again, header_takes}
 use Rattle.vpf_head.proofs.SoundLaws.{header_sound}
+use Rattle.vpf_head.specs.Inner.CountLaws.{own_count}
 
 -- ---- parts that are the same
 
@@ -207,10 +208,6 @@ same_text (b ∷ w) = rw (eq-eqb b b refl, same_text w) refl
 same_option : (name : Option (List ℕ)) → option_eq bytes_eq name name ≡ true
 same_option None = refl
 same_option (Some w) = same_text w
-
-own_count : (c : Count) → same_count c c ≡ true
-own_count (Fixed n) = eq-eqb n n refl
-own_count Star = refl
 
 own_key : (k : Key) → same_key k k ≡ true
 own_key Primary = refl

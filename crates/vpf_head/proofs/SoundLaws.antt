@@ -10,10 +10,10 @@ use Rattle.vpf_base.proofs.Results.{passed, guarded, bind_ok, ok_is}
 use Rattle.vpf_base.proofs.Booleans.{neither}
 use Rattle.vpf_triplet.specs.declared.kinds.Count.{Count}
 use Rattle.vpf_triplet.specs.declared.kinds.Count.TheVariants.{Fixed, Star}
-use Rattle.vpf_triplet.specs.declared.orders.Order.{Order}
+use Rattle.vpf_base.specs.declared.orders.Order.{Order}
 use Rattle.vpf_triplet.specs.declared.places.Code.TheVariants as codes
 use Rattle.std.specs.Int.{w32}
-use Rattle.vpf_triplet.specs.Numbers.{number_of}
+use Rattle.vpf_base.specs.Numbers.{number_of}
 use Rattle.vpf_triplet.specs.Places.{fault}
 use Rattle.vpf_triplet.specs.declared.kinds.Kind.{Kind}
 use Rattle.vpf_triplet.specs.declared.kinds.Kind.TheVariants as kinds
@@ -27,7 +27,7 @@ use Rattle.vpf_head.specs.Head.{Head, Col, names, is_data, holds_data, names_row
 use Rattle.vpf_head.specs.Items.{text_at, name_at}
 use Rattle.vpf_head.specs.Reading.{columns_at, end_at, close_at, after_mark, order_of, head_at, header_of}
 use Rattle.vpf_head.specs.Spelling.{IsName, IsBareCount, narrative_item, ending_text, IsColumn, IsColumns}
-use Rattle.vpf_head.specs.Soundness.{IsInBounds, IsCounted, IsWritten, IsSpelled, IsSound}
+use Rattle.vpf_head.specs.Inner.Soundness.{IsInBounds, IsCounted, IsWritten, IsSpelled, IsSound}
 use Rattle.vpf_head.specs.Texts.{has_mark}
 use Rattle.vpf_head.proofs.ColumnLaws.{measured}
 use Rattle.vpf_head.proofs.FieldLaws.{key_back}

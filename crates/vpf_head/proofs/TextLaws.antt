@@ -7,8 +7,8 @@ use Rattle.std.proofs.lemmas.List.{drop-drop, length-append, length-drop, append
 use Rattle.vpf_base.specs.Limits.{most_columns}
 use Rattle.vpf_base.proofs.Results.{passed, bind_ok, ok_is}
 use Rattle.vpf_base.proofs.Booleans.{both, neither}
-use Rattle.vpf_triplet.specs.declared.orders.Order.{Order}
-use Rattle.vpf_triplet.specs.declared.orders.Order.TheVariants.{Little, Big}
+use Rattle.vpf_base.specs.declared.orders.Order.{Order}
+use Rattle.vpf_base.specs.declared.orders.Order.TheVariants.{Little, Big}
 use Rattle.vpf_triplet.specs.declared.places.Code.TheVariants as codes
 use Rattle.vpf_triplet.specs.Places.{fault}
 use Rattle.vpf_head.specs.declared.items.Form.TheVariants.{Heading}

@@ -2,7 +2,7 @@
 use Rattle.std.specs.Prelude.{ℕ, List, [], ◌∷◌, ◌++◌, length, Option, Some, None}
 use Rattle.std.specs.Int.{w32}
 use Rattle.vpf_triplet.specs.Kinds.{kind_text, count_text}
-use Rattle.vpf_triplet.specs.Numbers.{number}
+use Rattle.vpf_base.specs.Numbers.{number}
 use Rattle.vpf_head.specs.Bytes.{semicolon, comma, colon, equals, hyphen}
 use Rattle.vpf_head.specs.Fields.{key_text}
 use Rattle.vpf_head.specs.Head.{Head, Col}

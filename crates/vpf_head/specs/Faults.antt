@@ -10,7 +10,7 @@ use Rattle.vpf_triplet.specs.declared.places.Place.{Place}
 use Rattle.vpf_triplet.specs.declared.places.Code.{Code}
 use Rattle.vpf_triplet.specs.declared.places.Code.TheVariants as codes
 use Rattle.vpf_triplet.specs.Kinds.{kind_text, allows}
-use Rattle.vpf_triplet.specs.Numbers.{number_of}
+use Rattle.vpf_base.specs.Numbers.{number_of}
 use Rattle.vpf_triplet.specs.Places.{fault}
 use Rattle.vpf_head.specs.declared.columns.Key.{Key}
 use Rattle.vpf_head.specs.declared.items.Form.{Form}

@@ -8,8 +8,6 @@ pub mod Items
 pub mod Reading
 pub mod Spelling
 pub mod Canonical
-pub mod Soundness
 pub mod Making
 pub mod Faults
-pub mod Deciding
-pub mod Views
+pub mod Inner

@@ -9,7 +9,7 @@ ghost use Rattle.vpf_head.specs.Head.{with_kind};
 ghost use Rattle.vpf_head.specs.Making.{new_of, read_as_given};
 ghost use Rattle.vpf_head.specs.Reading.{end_at, close_at, after_mark, order_of, head_at, header_of};
 ghost use Rattle.vpf_head.specs.Texts.{is_blank};
-ghost use Rattle.vpf_head.specs.Views.{col, head_given, AreNamed};
+ghost use Rattle.vpf_head.specs.Inner.Views.{col, head_given, AreNamed};
 
 use crate::columns::Column;
 use crate::fields::present;
@@ -44,7 +44,7 @@ impl<'a> Model for Header<'a> {
 
     ghost Value = { Head };
 
-    ghost use Rattle.vpf_head.specs.Views.{header_parts, IsHeaderInside};
+    ghost use Rattle.vpf_head.specs.Inner.Views.{header_parts, IsHeaderInside};
 
     ghost view = { header_parts };
 
@@ -224,15 +224,15 @@ impl<'a> Header<'a> {
     ghost use Rattle.vpf_triplet.specs.declared.kinds.Count.TheVariants.{Fixed};
     ghost use Rattle.vpf_triplet.specs.Places.{Answers, ForPlace};
     ghost use Rattle.vpf_head.specs.Canonical.{canonical_header, canonical_text};
-    ghost use Rattle.vpf_head.specs.Deciding.{BeginsHeader};
+    ghost use Rattle.vpf_head.specs.Inner.Deciding.{BeginsHeader};
     ghost use Rattle.vpf_head.specs.Faults.{FirstHeaderFault};
     ghost use Rattle.vpf_head.specs.Head.{Head, names_rows, place_of, varies_in, with_kind};
     ghost use Rattle.vpf_head.specs.Making.{new_of};
     ghost use Rattle.vpf_head.specs.Reading.{header_of};
-    ghost use Rattle.vpf_head.specs.Soundness.{IsSound};
+    ghost use Rattle.vpf_head.specs.Inner.Soundness.{IsSound};
     ghost use Rattle.vpf_head.specs.Spelling.{IsHeader};
     ghost use Rattle.vpf_base.specs.Limits.{longest_text};
-    ghost use Rattle.vpf_head.specs.Views.{col, head_of_parts};
+    ghost use Rattle.vpf_head.specs.Inner.Views.{col, head_of_parts};
 
     /// The header of a file, and the offset of its first row in bytes. Refused exactly where the file begins with no
     /// spelling of a header, at the first fault from left to right: the length number, then the text item by item

@@ -4,7 +4,7 @@ ghost use Rattle.std.specs.Prelude.{◌≡◌, ◌<◌, ◌≤◌, IfOk, IfSome,
 ghost use Rattle.vpf_triplet.specs.Places.{Gives};
 ghost use Rattle.vpf_head.specs.Items.{item_at, text_at, name_at};
 ghost use Rattle.vpf_head.specs.Forms.{is_stop, is_separator, holds_control};
-ghost use Rattle.vpf_head.specs.Views.{item};
+ghost use Rattle.vpf_head.specs.Inner.Views.{item};
 
 use vpf_base::limits::LONGEST_NAME;
 use vpf_triplet::{Code, Place};

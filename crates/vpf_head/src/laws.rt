@@ -5,15 +5,15 @@ ghost use Rattle.vpf_base.specs.Limits.{longest_text};
 ghost use Rattle.vpf_base.specs.Bytes.{IsBytes};
 ghost use Rattle.vpf_triplet.specs.declared.kinds.Count.TheVariants.{Fixed};
 ghost use Rattle.vpf_triplet.specs.declared.kinds.Kind.{Kind};
-ghost use Rattle.vpf_triplet.specs.declared.orders.Order.{Order};
+ghost use Rattle.vpf_base.specs.declared.orders.Order.{Order};
 ghost use Rattle.vpf_triplet.specs.declared.places.Place.{Place};
 ghost use Rattle.vpf_head.specs.Canonical.{canonical_header, canonical_text};
-ghost use Rattle.vpf_head.specs.Deciding.{BeginsHeader, DecidesHeader};
+ghost use Rattle.vpf_head.specs.Inner.Deciding.{BeginsHeader, DecidesHeader};
 ghost use Rattle.vpf_head.specs.Faults.{FirstHeaderFault};
 ghost use Rattle.vpf_head.specs.Head.{Head, names_rows, with_kind};
 ghost use Rattle.vpf_head.specs.Making.{new_of};
 ghost use Rattle.vpf_head.specs.Reading.{header_of};
-ghost use Rattle.vpf_head.specs.Soundness.{IsSound};
+ghost use Rattle.vpf_head.specs.Inner.Soundness.{IsSound};
 ghost use Rattle.vpf_head.specs.Spelling.{IsHeader};
 
 /// Each list of bytes begins with the spelling of exactly one header, or has exactly one first

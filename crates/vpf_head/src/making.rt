@@ -12,7 +12,7 @@ ghost use Rattle.vpf_head.specs.Fields.{key_text};
 ghost use Rattle.vpf_head.specs.Folding.{same_name};
 ghost use Rattle.vpf_head.specs.Head.{names};
 ghost use Rattle.vpf_head.specs.Making.{same_count, same_key, next_part, next_after_text, next_after_name, past_column, past_columns, text_file};
-ghost use Rattle.vpf_head.specs.Views.{col, head_given, AreNamed};
+ghost use Rattle.vpf_head.specs.Inner.Views.{col, head_given, AreNamed};
 
 use crate::columns::{Column, Key};
 use crate::names::ColumnName;

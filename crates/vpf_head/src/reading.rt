@@ -7,7 +7,7 @@ ghost use Rattle.vpf_base.specs.Limits.{most_columns};
 ghost use Rattle.vpf_triplet.specs.Places.{Gives, Answers};
 ghost use Rattle.vpf_head.specs.Head.{place_of};
 ghost use Rattle.vpf_head.specs.Reading.{closes, fresh_name_at, kind_at, count_at, key_at, colon_by, closed_at, narrative_at, rest_at, column_at, columns_at};
-ghost use Rattle.vpf_head.specs.Views.{col, key_eq, AreNamed};
+ghost use Rattle.vpf_head.specs.Inner.Views.{col, key_eq, AreNamed};
 
 use crate::columns::{Column, Key};
 use crate::fields::{count_in, key_of, present};

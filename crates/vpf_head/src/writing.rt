@@ -9,9 +9,9 @@ ghost use Rattle.vpf_triplet.specs.Kinds.{kind_text, count_text};
 ghost use Rattle.vpf_head.specs.Bytes.{semicolon, comma, colon};
 ghost use Rattle.vpf_head.specs.Canonical.{name_text, column_text, columns_text};
 ghost use Rattle.vpf_head.specs.Fields.{key_text};
-ghost use Rattle.vpf_head.specs.Soundness.{IsSpelled};
+ghost use Rattle.vpf_head.specs.Inner.Soundness.{IsSpelled};
 ghost use Rattle.vpf_head.specs.Spelling.{mark_of};
-ghost use Rattle.vpf_head.specs.Views.{col};
+ghost use Rattle.vpf_head.specs.Inner.Views.{col};
 
 use crate::columns::{Column, Key};
 use crate::reading::{Columns, column_of};

@@ -1,8 +1,8 @@
 -- Keys put tile by tile.
 use Rattle.std.proofs.Common.{◌≡◌, ℕ, zero, suc, ◌+◌, List, ◌++◌, map, refl, append_assoc, append-nil, add-zero, zero-add, arith}
 use Rattle.std.specs.List.{flat_map, range_with_len}
-use Rattle.vpf_keys.specs.declared.keyed.KeyedRow.{KeyedRow}
-use Rattle.vpf_keys.specs.Keys.{Keyed, keyed_of}
+use Rattle.vpf_joins.specs.declared.keys.keyed.KeyedRow.{KeyedRow}
+use Rattle.vpf_joins.specs.Keys.Keys.{Keyed, keyed_of}
 
 range_more : {X : Type 0} (f : ℕ → List X) (a n : ℕ) → flat_map f (range_with_len a (suc n)) ≡ flat_map f (range_with_len a n) ++ f (a + n)
 range_more f a zero = rw (append-nil, add-zero) refl

@@ -3,7 +3,7 @@ use Rattle.std.specs.Prelude.{◌≡◌, ℕ, ◌+◌, ◌<◌, ◌==◌, Bool, 
 use Rattle.std.specs.List.{list_any}
 use Rattle.vpf_table.specs.Grid.{Grid}
 use Rattle.vpf_prims.specs.Coverages.{CoverageTables}
-use Rattle.vpf_schema.specs.Joins.{SchemaJoin}
+use Rattle.vpf_feature_files.specs.SchemaRows.Joins.{SchemaJoin}
 use Rattle.vpf_joins.specs.declared.features.Feature.{Feature}
 use Rattle.vpf_joins.specs.declared.features.Primitive.{Primitive}
 use Rattle.vpf_joins.specs.Joining.{joined_at, once_rising}

@@ -13,10 +13,10 @@ use Rattle.vpf_prims.specs.Coverages.{CoverageTables, last_tile, tile_at}
 use Rattle.vpf_prims.specs.Lists.{kth}
 use Rattle.vpf_prims.specs.Reading.{named_cell}
 use Rattle.vpf_prims.specs.Tables.{TileTables, table_named}
-use Rattle.vpf_keys.specs.Keys.{Keyed, keyed_in, rows_with}
-use Rattle.vpf_keys.specs.declared.keyed.RowAt.{RowAt}
-use Rattle.vpf_schema.specs.Items.{primitive_named}
-use Rattle.vpf_schema.specs.Joins.{SchemaJoin}
+use Rattle.vpf_joins.specs.Keys.Keys.{Keyed, keyed_in, rows_with}
+use Rattle.vpf_joins.specs.declared.keys.keyed.RowAt.{RowAt}
+use Rattle.vpf_feature_files.specs.SchemaRows.Items.{primitive_named}
+use Rattle.vpf_feature_files.specs.SchemaRows.Joins.{SchemaJoin}
 use Rattle.vpf_joins.specs.declared.features.Primitive.{Primitive}
 
 -- the cells of the column at a place, none where there is no such column

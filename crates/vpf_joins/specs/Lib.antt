@@ -1,3 +1,4 @@
 pub mod Joining
 pub mod Features
-pub mod Prepared
+pub mod Keys
+pub mod Inner

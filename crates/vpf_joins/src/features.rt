@@ -4,9 +4,9 @@ ghost use Rattle.std.specs.Prelude.{◌≡◌, ◌<◌, [], IfOk, length, map};
 ghost use Rattle.std.specs.List.{All};
 ghost use Rattle.vpf_prims.specs.Lists.{kth};
 ghost use Rattle.vpf_prims.specs.Numbering.{IsRowOf};
-ghost use Rattle.vpf_schema.specs.Joins.{join_of};
+ghost use Rattle.vpf_feature_files.specs.SchemaRows.Joins.{join_of};
 ghost use Rattle.vpf_joins.specs.Features.{feature_seen, features_in};
-ghost use Rattle.vpf_joins.specs.Prepared.{IsKeyWithin, answers_of};
+ghost use Rattle.vpf_joins.specs.Inner.Prepared.{IsKeyWithin, answers_of};
 
 use crate::joining::{Join, joined, prepare};
 use crate::marking::once_rising;
@@ -14,8 +14,8 @@ use std::alloc::{AllocError, Global};
 use std::marker::Brand;
 use std::sync::ledger::{Blank, Ledger};
 use vpf_coverage::Coverage;
+use vpf_feature_files::schema_rows::SchemaRow;
 use vpf_findings::TableName;
-use vpf_schema::SchemaRow;
 use vpf_source::Steps;
 use vpf_table::{RowView, TableView};
 

@@ -4,19 +4,19 @@ ghost use Rattle.std.specs.Prelude.{◌≡◌, ◌<◌, ◌++◌, IfOk, IfSome, 
 ghost use Rattle.std.specs.List.{All, flat_map};
 ghost use Rattle.vpf_table.specs.Grid.{Row};
 ghost use Rattle.vpf_prims.specs.References.{cell_at};
-ghost use Rattle.vpf_schema.specs.Joins.{join_of};
+ghost use Rattle.vpf_feature_files.specs.SchemaRows.Joins.{join_of};
 ghost use Rattle.vpf_value.specs.Values.{view};
 ghost use Rattle.vpf_joins.specs.Joining.{joined_by};
-ghost use Rattle.vpf_joins.specs.Prepared.{IsKeyWithin, answer_of, answers_of};
+ghost use Rattle.vpf_joins.specs.Inner.Prepared.{IsKeyWithin, answer_of, answers_of};
 
 use crate::features::Primitive;
 use crate::keying::keys_over;
+use crate::keys::KeyIndex;
 use std::alloc::{AllocError, Global};
 use vpf_coverage::Coverage;
+use vpf_feature_files::schema_rows::SchemaRow;
 use vpf_findings::TableName;
 use vpf_head::Header;
-use vpf_keys::KeyIndex;
-use vpf_schema::SchemaRow;
 use vpf_source::names::trimmed;
 use vpf_table::RowView;
 use vpf_value::Cell;

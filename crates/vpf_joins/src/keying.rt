@@ -1,13 +1,13 @@
 //! The keys of the rows of primitive tables, over all tiles.
 
 ghost use Rattle.std.specs.Prelude.{◌≡◌, ◌++◌, IfOk, OnOk, map};
-ghost use Rattle.vpf_keys.specs.Keys.{keyed_in, keyed_of};
+ghost use Rattle.vpf_joins.specs.Keys.Keys.{keyed_in, keyed_of};
 ghost use Rattle.vpf_joins.specs.Joining.{key_cells, keyed_in_table, keyed_over, table_in_tile};
 
+use crate::keys::{KeyedRow, put_keys};
 use std::alloc::{AllocError, Global};
 use vpf_coverage::Coverage;
 use vpf_findings::TableName;
-use vpf_keys::{KeyedRow, put_keys};
 use vpf_source::names::trimmed;
 use vpf_table::TableView;
 

@@ -4,6 +4,7 @@
 mod features;
 mod joining;
 mod keying;
+pub mod keys;
 mod marking;
 
 pub use features::{Feature, Primitive, features_of};

@@ -11,7 +11,7 @@ use Rattle.vpf_replies.specs.declared.halting.Halt.{Halt}
 use Rattle.vpf_replies.specs.declared.halting.Halt.TheVariants as halts
 use Rattle.vpf_replies.specs.Answer.{Answer, done}
 use Rattle.vpf_replies.specs.Halting.{ComesTo}
-use Rattle.vpf_load_replies.specs.Stopping.{IsStopAnswer, stop_answer}
+use Rattle.vpf_featured.specs.LoadReplies.Stopping.{IsStopAnswer, stop_answer}
 use Rattle.vpf_library_files.specs.Loading.Loads.{ReadsStop}
 use Rattle.vpf_features.specs.Finding.{Named}
 use Rattle.vpf_featured.specs.Finding.{featured_finding, placed_finding, tables_or_features_finding}

@@ -4,81 +4,33 @@ use Rattle.std.specs.Prelude.{◌↔◌, Result, Ok, Err}
 use Rattle.std.specs.Option.{option_map}
 use Rattle.vpf_source.specs.Files.{Files}
 use Rattle.vpf_source.specs.declared.file.File.{File}
-use Rattle.vpf_triplet.specs.declared.places.Place.{Place}
-use Rattle.vpf_triplet.specs.declared.places.Code.{Code}
-use Rattle.vpf_triplet.specs.declared.places.Code.TheVariants as codes
-use Rattle.vpf_findings.specs.FirstLaws.{or-none_both}
+use Rattle.vpf_findings.specs.Inner.FirstLaws.{or-none_both}
 use Rattle.vpf_prims.specs.Coverages.{CoverageTables}
 use Rattle.vpf_prims.specs.Libraries.{library_of}
-use Rattle.vpf_numbers.specs.Laws.{CoverageNumbersDecide}
+use Rattle.vpf_numbers.specs.Inner.Laws.{CoverageNumbersDecide}
 use Rattle.vpf_numbers.specs.Matching.{HaveColumns}
 use Rattle.vpf_numbers.specs.TableLines.{coverage_numbers}
 use Rattle.vpf_library_files.specs.Loading.Holding.{AreCoverageFiles, HoldsBytes, bytes_in}
-use Rattle.vpf_library_files.specs.Loading.Laws.{FilesAreLibraries, FilesAreWhole, HeldIsRead, ReadIsHeld}
+use Rattle.vpf_library_files.specs.Inner.Loading.Laws.{FilesAreLibraries, FilesAreWhole, HeldIsRead, ReadIsHeld}
 use Rattle.vpf_library_files.specs.Loading.Loading.{Read, read_coverage, within}
 use Rattle.vpf_library_files.specs.declared.loading.loading.LoadStop.{LoadStop}
-use Rattle.vpf_library_files.specs.declared.loading.loading.LoadStop.TheVariants as stops
 use Rattle.vpf_cross.specs.Agreeing.{LibraryAgrees}
 use Rattle.vpf_cross.specs.CrossFinding.{topology_finding}
-use Rattle.vpf_cross.specs.Laws.{AgreementDecides, LikeAreWhole}
+use Rattle.vpf_cross.specs.Inner.Laws.{AgreementDecides, LikeAreWhole}
 use Rattle.vpf_replies.specs.declared.verdict.Verdict.TheVariants.{Done}
 use Rattle.vpf_replies.specs.Answer.{Answer}
-use Rattle.vpf_replies.specs.Tables.{answer_by}
-use Rattle.vpf_load_replies.specs.Stopping.{stop_answer}
 use Rattle.vpf_library_commands.specs.declared.checking.CheckRequest.{CheckRequest}
 use Rattle.vpf_feature_files.specs.Reading.{read_schema}
 use Rattle.vpf_features.specs.Finding.{Named}
-use Rattle.vpf_feature_agreement.specs.Agreeing.{FeaturesAgree, FeaturesDecide, features_finding}
-use Rattle.vpf_feature_agreement.specs.Steps.{both_ok, came, count_same, value_same}
+use Rattle.vpf_features.specs.FeatureAgreement.Agreeing.{FeaturesAgree, FeaturesDecide, features_finding}
+use Rattle.vpf_features.specs.Inner.FeatureAgreement.StepLaws.{both_ok, came, count_same, value_same}
 use Rattle.vpf_featured.specs.Finding.{in_its_file, placed_finding, tables_or_features_finding}
 use Rattle.vpf_featured.specs.Reading.{FeaturedCoverage, read_featured}
 use Rattle.vpf_library_commands.specs.Agreeing.{AgreeingIsRead, Agrees, CheckCounts, CheckDecides, CoverageDecides, IsAgreeing}
 use Rattle.vpf_library_commands.specs.Check.{coverage_finding, found_answer, read_answer, read_finding}
+use Rattle.vpf_library_commands.specs.Inner.DecidingLaws.{stop_refuses}
 
 -- ---- a stop is no answer of what is done
-
-fault_refuses : (name : List ℕ) (place : Place) (code : Code) → (answer_by name place code).verdict ≡ Done → ⊥
-fault_refuses name place (codes.LimitHeader found) h = absurd cc
-fault_refuses name place (codes.LimitColumns found) h = absurd cc
-fault_refuses name place (codes.LimitName found) h = absurd cc
-fault_refuses name place (codes.LimitRows found) h = absurd cc
-fault_refuses name place codes.NumberCut h = absurd cc
-fault_refuses name place codes.HeaderCut h = absurd cc
-fault_refuses name place codes.ItemEnd h = absurd cc
-fault_refuses name place codes.ItemSeparator h = absurd cc
-fault_refuses name place codes.ItemByte h = absurd cc
-fault_refuses name place codes.NameEmpty h = absurd cc
-fault_refuses name place codes.NameRepeat h = absurd cc
-fault_refuses name place codes.Kind h = absurd cc
-fault_refuses name place codes.Count h = absurd cc
-fault_refuses name place codes.Key h = absurd cc
-fault_refuses name place codes.NoData h = absurd cc
-fault_refuses name place codes.AfterHeader h = absurd cc
-fault_refuses name place codes.CellCut h = absurd cc
-fault_refuses name place codes.Triplet h = absurd cc
-fault_refuses name place codes.IndexCut h = absurd cc
-fault_refuses name place codes.IndexExtra h = absurd cc
-fault_refuses name place codes.IndexCount h = absurd cc
-fault_refuses name place codes.IndexRow h = absurd cc
-fault_refuses name place codes.ThemeCut h = absurd cc
-fault_refuses name place codes.ThemeForm h = absurd cc
-fault_refuses name place codes.ThemeKind h = absurd cc
-fault_refuses name place codes.ThemeCount h = absurd cc
-fault_refuses name place codes.ThemeRowtype h = absurd cc
-fault_refuses name place codes.ThemeSize h = absurd cc
-fault_refuses name place codes.ThemeSort h = absurd cc
-fault_refuses name place codes.ThemeSpan h = absurd cc
-fault_refuses name place codes.ThemeRow h = absurd cc
-fault_refuses name place codes.ThemePad h = absurd cc
-
-stop_refuses : (stop : LoadStop) → (stop_answer stop).verdict ≡ Done → ⊥
-stop_refuses (stops.Missing name) h = absurd cc
-stop_refuses (stops.Place name place) h = fault_refuses name place place.code h
-stop_refuses (stops.Limit name limit) h = absurd cc
-stop_refuses (stops.Finding name f) h = absurd cc
-stop_refuses (stops.Varies name) h = absurd cc
-stop_refuses stops.Fault h = absurd cc
-stop_refuses stops.NoMemory h = absurd cc
 
 finding_refuses : (c : CoverageTables) (first : Option Named) → (found_answer c first).verdict ≡ Done → first ≡ None
 finding_refuses c None h = refl

@@ -5,7 +5,7 @@ use Rattle.std.proofs.lemmas.List.{length-map}
 use mathlib.Core.Path.{fun_ext}
 use Rattle.vpf_darts.specs.Darts.{code}
 use Rattle.vpf_findings.specs.Findings.{Disagreement}
-use Rattle.vpf_findings.specs.FirstLaws.{or-none_both}
+use Rattle.vpf_findings.specs.Inner.FirstLaws.{or-none_both}
 use Rattle.vpf_prims.specs.Coverages.{untiled_coverage}
 use Rattle.vpf_prims.specs.Libraries.{in_tiles, library_of}
 use Rattle.vpf_prims.specs.Numbering.{IsNumbered}
@@ -13,16 +13,16 @@ use Rattle.vpf_prims.specs.Primitives.{Library, Primitives, edge_count, untiled}
 use Rattle.vpf_prims.specs.Reading.{edge_in_row, primitives_of}
 use Rattle.vpf_prims.specs.Suiting.{HasColumns}
 use Rattle.vpf_prims.specs.Tables.{TileTables}
-use Rattle.vpf_numbers.specs.Laws.{CoverageNumbersDecide}
+use Rattle.vpf_numbers.specs.Inner.Laws.{CoverageNumbersDecide}
 use Rattle.vpf_numbers.specs.TableLines.{coverage_numbers, numbers_finding}
 use Rattle.vpf_wing.specs.Nexts.{tail, face, wing, next_dart}
 use Rattle.vpf_wing.specs.Places.{next_place, least_place}
 use Rattle.vpf_wing.specs.CycleLines.{cycles_finding, loops_finding, ring_cycle, ring_dart}
-use Rattle.vpf_wing.specs.Laws.{CyclesDecide, LoopsDecide}
+use Rattle.vpf_wing.specs.Inner.Laws.{CyclesDecide, LoopsDecide}
 use Rattle.vpf_wing.specs.WellFormed.{IsWellFormed}
 use Rattle.vpf_cross.specs.CrossFinding.{topology_finding}
 use Rattle.vpf_library_commands.specs.Check.{coverage_finding}
-use Rattle.vpf_library_commands.specs.Example.{ExampleIsFound, ExampleIsWellFormed, example_edges, example_tile}
+use Rattle.vpf_library_commands.specs.Inner.Example.{ExampleIsFound, ExampleIsWellFormed, example_edges, example_tile}
 
 pub example_is_found : ExampleIsFound
 unfolding code numbers_finding in_tiles tail face wing next_dart next_place least_place cycles_finding ring_cycle ring_dart
@@ -30,11 +30,11 @@ example_is_found = (refl, refl)
 
 -- ---- an untiled coverage without findings is well formed
 
-tile_alone : (T : TileTables) (t : ℕ) → (library_of (untiled_coverage T)).tile t ≡ (untiled (primitives_of T.tables)).tile t
+pub tile_alone : (T : TileTables) (t : ℕ) → (library_of (untiled_coverage T)).tile t ≡ (untiled (primitives_of T.tables)).tile t
 tile_alone T zero = refl
 tile_alone T (suc t) = rw (eqb-suc-zero t) refl
 
-library_alone : (T : TileTables) → library_of (untiled_coverage T) ≡ untiled (primitives_of T.tables)
+pub library_alone : (T : TileTables) → library_of (untiled_coverage T) ≡ untiled (primitives_of T.tables)
 library_alone T = ap (λ (tile : ℕ → Option Primitives). record { is_tiled = false; last = 0; tile = tile }) (fun_ext (tile_alone T))
 
 found_alone : (rule : ℕ → TileTables → Option Disagreement) (T : TileTables) → in_tiles rule (untiled_coverage T) ≡ None → rule 0 T ≡ None

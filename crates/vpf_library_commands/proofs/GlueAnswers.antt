@@ -10,15 +10,14 @@ use Rattle.vpf_table.specs.Spans.{IsOpened}
 use Rattle.vpf_prims.specs.Coverages.{CoverageTables}
 use Rattle.vpf_library_files.specs.Tileref.Stops.{path_texts}
 use Rattle.vpf_library_files.specs.Loading.Holding.{AreCoverageFiles, AreFilesOf, AreTiledFiles, AreTilesFiles}
-use Rattle.vpf_library_files.specs.Loading.Loading.{LoadedCoverage, Read, ◌and_then◌, has_some, read_coverage}
-use Rattle.vpf_library_files.specs.Loading.Loading.{read_tiled, read_tileref, read_tiles, tileref_name, within}
+use Rattle.vpf_library_files.specs.Loading.Loading.{LoadedCoverage, Read, ◌and_then◌, has_some, read_coverage, read_tiled, read_tileref, read_tiles, tileref_name, within}
 use Rattle.vpf_library_files.specs.declared.loading.loading.LoadStop.{LoadStop}
 use Rattle.vpf_glue.specs.Tables.{glued_made}
 use Rattle.vpf_replies.specs.Answer.{Answer}
 use Rattle.vpf_features.specs.Finding.{Named}
 use Rattle.vpf_feature_files.specs.Reading.{read_schema}
 use Rattle.vpf_feature_files.specs.Schemas.{Schema}
-use Rattle.vpf_feature_agreement.specs.Steps.{both_ok, came, value_same}
+use Rattle.vpf_features.specs.Inner.FeatureAgreement.StepLaws.{both_ok, came, value_same}
 use Rattle.vpf_feature_writing.specs.Making.{features_made, made_then}
 use Rattle.vpf_featured.specs.Finding.{featured_finding}
 use Rattle.vpf_featured.specs.Reading.{FeaturedCoverage, read_featured}
@@ -26,15 +25,13 @@ use Rattle.vpf_library_commands.specs.declared.requesting.MakeRequest.{MakeReque
 use Rattle.vpf_library_commands.specs.Glue.{first_table, gluing_answer, joined_answer, own_edges_name, tileref_answer}
 use Rattle.vpf_library_commands.specs.Made.{files_answer}
 use Rattle.vpf_library_commands.proofs.CheckAnswers.{IsReadStopped}
+use Rattle.vpf_coverage.specs.Inner.Opening.OpenLaws.{OpenedReads}
 
 -- ---- the table of tiles
 
 -- what is spelled as a table is opened as that table, and what is opened is read
 abbrev pub SpelledOpens : Type 0
 SpelledOpens = (bytes : List ℕ) (index : Option (List ℕ)) (g : Grid) → IsOpened g bytes index → opened_of bytes index ≡ Ok g
-
-abbrev pub OpenedReads : Type 0
-OpenedReads = (bytes : List ℕ) (index : Option (List ℕ)) (g : Grid) → opened_of bytes index ≡ Ok g → table_of bytes ≡ Ok g
 
 first_of_files : SpelledOpens → OpenedReads → (name : List ℕ) (grid : Grid) (mine behind : List File) → AreFilesOf name grid mine
     → first_table (mine ++ behind) ≡ Some grid

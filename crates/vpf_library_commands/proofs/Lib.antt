@@ -6,11 +6,3 @@ pub mod TraceAnswers
 pub mod TileAnswers
 pub mod TileLoads
 pub mod GlueAnswers
-pub use Rattle.vpf_tiler.proofs.tiled_files.Pairs
-pub use Rattle.vpf_tiler.proofs.tiled_files.ReadTables
-pub use Rattle.vpf_tiler.proofs.tiled_files.AbsentNames
-pub use Rattle.vpf_tiler.proofs.tiled_files.NameLemmas
-pub use Rattle.vpf_tiler.proofs.tiled_files.PathLemmas
-pub use Rattle.vpf_tiler.proofs.tiled_files.ReadTiles
-pub use Rattle.vpf_tiler.proofs.tiled_files.TableNames
-pub use Rattle.vpf_tiler.proofs.tiled_files.WrittenTables

@@ -1,11 +1,11 @@
 -- The answer of `tile` by what was read.
-use Rattle.std.proofs.Common.{◌≡◌, ◌∙◌, ℕ, ◌<◌, ◌≤◌, List, [], ◌∷◌, ◌++◌, length, Option, None, Some, map, refl, ap, append_assoc, rules, arith}
-use Rattle.std.specs.Prelude.{IfOk, OnOk, Result, Ok, Err}
+use Rattle.std.proofs.Common.{[], ◌≡◌, ◌∙◌, ℕ, ◌<◌, ◌≤◌, List, ◌∷◌, ◌++◌, length, Option, None, Some, map, refl, ap, append_assoc, rules, arith}
+use Rattle.std.specs.Prelude.{OnOk, Result, Ok, Err}
 use Rattle.vpf_source.specs.declared.file.File.{File}
 use Rattle.vpf_table.specs.Grid.{Grid}
 use Rattle.vpf_table.specs.declared.limit.Limit.{Limit as Passed}
 use Rattle.vpf_tiling.specs.declared.tileable.refusals.Refusal.{Refusal}
-use Rattle.vpf_table_files.specs.declared.errors.AddError.TheVariants as adds
+use Rattle.vpf_library_files.specs.declared.table_files.errors.AddError.TheVariants as adds
 use Rattle.vpf_feature_files.specs.Schemas.{Schema, joins_of}
 use Rattle.vpf_features.specs.Finding.{Named}
 use Rattle.vpf_feature_writing.specs.Making.{Made, features_made, made_then}
@@ -28,7 +28,7 @@ use Rattle.vpf_replies.specs.declared.halting.Halt.{Halt}
 use Rattle.vpf_replies.specs.declared.halting.Halt.TheVariants as halts
 use Rattle.vpf_replies.specs.Answer.{Answer, refused}
 use Rattle.vpf_replies.specs.Halting.{ComesTo}
-use Rattle.vpf_load_replies.specs.Stopping.{IsStopAnswer, stop_answer}
+use Rattle.vpf_featured.specs.LoadReplies.Stopping.{IsStopAnswer, stop_answer}
 use Rattle.vpf_library_commands.specs.declared.requesting.MakeRequest.{MakeRequest}
 use Rattle.vpf_library_commands.specs.Make.{make_request}
 use Rattle.vpf_library_commands.specs.Keys.{keyed_text, numbered_class}
@@ -58,11 +58,6 @@ many_words f (a ∷ b ∷ c ∷ d ∷ words) h = refl
 pub put_behind : {V E : Type 0} (r : Result V E) (a b c s t u : List ℕ) → t ≡ s ++ (a & b) → OnOk r (u ≡ t ++ c) → OnOk r (u ≡ s ++ (a & (b & c)))
 put_behind (Ok v) a b c s t u e h = rw (h, e, append_assoc, append_assoc) refl
 put_behind (Err x) a b c s t u e h = search rules
-
--- what is so of a value is so of it in other words
-pub if_ok_more : {V E : Type 0} (P Q : V → Type 0) (r : Result V E) → ((v : V) → P v → Q v) → IfOk r P → IfOk r Q
-if_ok_more P Q (Ok v) more h = more v h
-if_ok_more P Q (Err x) more h = search rules
 
 -- ---- a stop
 

@@ -1,23 +1,19 @@
 -- The answer of `trace` by what was loaded, and of which coverages it is done.
-use Rattle.std.proofs.Common.{◌≡◌, ℕ, suc, Option, Some, None, List, [], ◌∷◌, length, map, codes, refl, sym, ap, ◌∙◌, subst}
+use Rattle.std.proofs.Common.{◌≡◌, ℕ, Option, Some, None, List, refl, sym, ap, ◌∙◌, subst}
 use Rattle.std.specs.Prelude.{Result, Ok, Err}
-use Rattle.std.specs.List.{flat_map}
 use Rattle.vpf_darts.specs.declared.darts.TileDart.{TileDart}
 use Rattle.vpf_darts.specs.Listings.{numbers_of}
-use Rattle.vpf_darts.specs.Darts.{tile_dart_code, tile_dart_text}
 use Rattle.vpf_findings.specs.Printing.{disagree_text}
-use Rattle.vpf_wing.specs.DartLaws.{code-minus}
-use Rattle.vpf_findings.specs.Text.Texts.{◌&◌}
 use Rattle.vpf_cross.specs.Agreeing.{LibraryAgrees}
 use Rattle.vpf_prims.specs.Coverages.{CoverageTables}
 use Rattle.vpf_prims.specs.Libraries.{library_of}
 use Rattle.vpf_library_files.specs.Loading.Loading.{Read}
 use Rattle.vpf_library_files.specs.declared.loading.loading.LoadStop.{LoadStop}
-use Rattle.vpf_trace.specs.Laws.{LibraryHasTrace, OneTrace}
+use Rattle.vpf_trace.specs.Inner.Laws.{LibraryHasTrace, OneTrace}
 use Rattle.vpf_trace.specs.Tracing.{IsTrace}
 use Rattle.vpf_replies.specs.Answer.{Answer, done, refused}
-use Rattle.vpf_replies.specs.Listings.{cycle_lines, cycle_text, dart_of, numbered_text, listing_text}
-use Rattle.vpf_load_replies.specs.Stopping.{stop_answer}
+use Rattle.vpf_replies.specs.Listings.{listing_text}
+use Rattle.vpf_featured.specs.LoadReplies.Stopping.{stop_answer}
 use Rattle.vpf_features.specs.Finding.{Named}
 use Rattle.vpf_featured.specs.Reading.{FeaturedCoverage, read_featured}
 use Rattle.vpf_library_commands.specs.declared.checking.CheckRequest.{CheckRequest}
@@ -25,6 +21,7 @@ use Rattle.vpf_library_commands.specs.Check.{found_answer, read_answer, read_fin
 use Rattle.vpf_library_commands.specs.Trace.{HasTraceAnswer, IsReadTrace, IsTracedAnswer, OneTraceAnswer, TraceDecides, TraceLists}
 use Rattle.vpf_library_commands.proofs.CheckAnswers.{IsReadStopped, both_of}
 use Rattle.vpf_library_commands.proofs.Deciding.{ReadLaws, agreeing_has_none, agreeing_is_read, agreeing_read, check_decides}
+use Rattle.vpf_library_commands.specs.Inner.TraceLaws.{text_same, lists_are, darts_of}
 
 -- ---- by what was loaded
 
@@ -42,43 +39,6 @@ pub listing_answers : (c : CoverageTables) (first : Option Named) (cycles : List
 listing_answers c first cycles answer none lists is = rw none (cycles, lists, is)
 
 -- ---- one answer
-
--- darts are printed by their numbers
-dart_same : (x y : TileDart) → tile_dart_code x ≡ tile_dart_code y → numbered_text x ≡ numbered_text y
-unfolding numbered_text
-dart_same x y e = ap (λ n. tile_dart_text (dart_of n)) e
-
-others_same : (xs ys : List TileDart) → map tile_dart_code xs ≡ map tile_dart_code ys
-    → flat_map (λ other. codes " " & numbered_text other) xs ≡ flat_map (λ other. codes " " & numbered_text other) ys
-others_same [] [] e = refl
-others_same [] (y ∷ ys) e = absurd cc
-others_same (x ∷ xs) [] e = absurd cc
-others_same (x ∷ xs) (y ∷ ys) e =
-    let first : tile_dart_code x ≡ tile_dart_code y = cc in
-    let rest : map tile_dart_code xs ≡ map tile_dart_code ys = cc in
-    rw (dart_same x y first, others_same xs ys rest) refl
-
-cycle_same : (xs ys : List TileDart) → map tile_dart_code xs ≡ map tile_dart_code ys → cycle_text xs ≡ cycle_text ys
-cycle_same [] [] e = refl
-cycle_same [] (y ∷ ys) e = absurd cc
-cycle_same (x ∷ xs) [] e = absurd cc
-cycle_same (x ∷ xs) (y ∷ ys) e =
-    let first : tile_dart_code x ≡ tile_dart_code y = cc in
-    let rest : map tile_dart_code xs ≡ map tile_dart_code ys = cc in
-    rw (dart_same x y first, others_same xs ys rest) refl
-
-lines_same : (xs ys : List (List TileDart)) → numbers_of xs ≡ numbers_of ys → (cycle_lines xs ≡ cycle_lines ys) × (length xs ≡ length ys)
-lines_same [] [] e = (refl, refl)
-lines_same [] (y ∷ ys) e = absurd cc
-lines_same (x ∷ xs) [] e = absurd cc
-lines_same (x ∷ xs) (y ∷ ys) e =
-    let first : map tile_dart_code x ≡ map tile_dart_code y = cc in
-    let rest : numbers_of xs ≡ numbers_of ys = cc in
-    let both = lines_same xs ys rest in
-    (rw (cycle_same x y first, both.0) refl, ap suc both.1)
-
-pub text_same : (xs ys : List (List TileDart)) → numbers_of xs ≡ numbers_of ys → listing_text xs ≡ listing_text ys
-text_same xs ys e = let both = lines_same xs ys e in rw (both.0, both.1) refl
 
 both_are : (a b c : Answer) → a ≡ c → b ≡ c → a ≡ b
 both_are a b c e f = e ∙ sym f
@@ -113,21 +73,6 @@ trace_decides laws files request answer bytes is =
     (λ done. decides.0 (sym same ∙ done), λ agrees. same ∙ decides.1 agrees)
 
 -- ---- there is one, and it lists the cycles
-
--- the darts of these numbers
-abbrev pub darts_of : List (List ℕ) → List (List TileDart)
-darts_of lists = map (map dart_of) lists
-
-number_is : (d : ℕ) → tile_dart_code (dart_of d) ≡ d
-number_is d = code-minus d
-
-numbers_are : (ds : List ℕ) → map tile_dart_code (map dart_of ds) ≡ ds
-numbers_are [] = refl
-numbers_are (d ∷ ds) = rw (number_is d, numbers_are ds) refl
-
-pub lists_are : (lists : List (List ℕ)) → numbers_of (darts_of lists) ≡ lists
-lists_are [] = refl
-lists_are (ds ∷ lists) = rw (numbers_are ds, lists_are lists) refl
 
 found_has : LibraryHasTrace → (c : CoverageTables) (first : Option Named) → (first ≡ None → LibraryAgrees (library_of c)) → (answer : Answer) × IsTracedAnswer c first answer
 found_has law c (Some (name, d)) agrees = (refused (disagree_text name d), refl)

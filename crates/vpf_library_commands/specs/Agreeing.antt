@@ -6,7 +6,7 @@ use Rattle.vpf_numbers.specs.Matching.{HaveColumns}
 use Rattle.vpf_library_files.specs.Loading.Loading.{LoadedCoverage, read_coverage, within}
 use Rattle.vpf_library_files.specs.Loading.Holding.{HoldsBytes, HoldsCoverage, bytes_in}
 use Rattle.vpf_feature_files.specs.Reading.{read_schema}
-use Rattle.vpf_feature_agreement.specs.Agreeing.{FeaturesAgree}
+use Rattle.vpf_features.specs.FeatureAgreement.Agreeing.{FeaturesAgree}
 use Rattle.vpf_featured.specs.Reading.{FeaturedCoverage, read_featured}
 use Rattle.vpf_cross.specs.Agreeing.{LibraryAgrees}
 use Rattle.vpf_replies.specs.declared.verdict.Verdict.TheVariants.{Done}

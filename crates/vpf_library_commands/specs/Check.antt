@@ -13,7 +13,7 @@ use Rattle.vpf_library_files.specs.Loading.Loading.{within}
 use Rattle.vpf_library_files.specs.declared.loading.loading.LoadStop.{LoadStop}
 use Rattle.vpf_cross.specs.CrossFinding.{topology_finding}
 use Rattle.vpf_replies.specs.Answer.{Answer, done, refused}
-use Rattle.vpf_load_replies.specs.Stopping.{stop_answer}
+use Rattle.vpf_featured.specs.LoadReplies.Stopping.{stop_answer}
 use Rattle.vpf_features.specs.Finding.{Named}
 use Rattle.vpf_featured.specs.Finding.{featured_finding}
 use Rattle.vpf_featured.specs.Reading.{FeaturedCoverage, read_featured}

@@ -11,7 +11,7 @@ use Rattle.vpf_library_files.specs.declared.loading.loading.LoadStop.{LoadStop}
 use Rattle.vpf_glue.specs.Tables.{glued_made}
 use Rattle.vpf_replies.specs.Answer.{Answer, refused}
 use Rattle.vpf_replies.specs.Refusals.{UntiledCoverage, refusal_answer}
-use Rattle.vpf_load_replies.specs.Stopping.{stop_answer}
+use Rattle.vpf_featured.specs.LoadReplies.Stopping.{stop_answer}
 use Rattle.vpf_features.specs.Finding.{Named}
 use Rattle.vpf_feature_writing.specs.Making.{features_made, made_then}
 use Rattle.vpf_featured.specs.Finding.{featured_finding}

@@ -4,8 +4,8 @@ use Rattle.std.specs.Prelude.{ℕ, Bool, ◌&&◌, ◌||◌, List, find, Option,
 use Rattle.std.specs.Option.{option_map}
 use Rattle.vpf_findings.specs.Text.Bytes.{printed}
 use Rattle.vpf_findings.specs.Text.Texts.{◌&◌}
-use Rattle.vpf_schema.specs.Items.{is_feature_table, name_in, primitive_named, same_item}
-use Rattle.vpf_schema.specs.Joins.{SchemaJoin}
+use Rattle.vpf_feature_files.specs.SchemaRows.Items.{is_feature_table, name_in, primitive_named, same_item}
+use Rattle.vpf_feature_files.specs.SchemaRows.Joins.{SchemaJoin}
 
 -- the first is a table of features and the second one of primitives, whose key is their number
 abbrev pub by_number : (features primitives key : List ℕ) → Bool

@@ -3,8 +3,8 @@ use Rattle.std.specs.Prelude.{◌≡◌, List, [], map, Ok, Err, ℕ}
 use Rattle.vpf_source.specs.declared.file.File.{File}
 use Rattle.vpf_table.specs.Limits.{bound_text}
 use Rattle.vpf_library_files.specs.Loading.Loading.{within}
-use Rattle.vpf_table_files.specs.declared.errors.AddError.{AddError}
-use Rattle.vpf_table_files.specs.declared.errors.AddError.TheVariants as errors
+use Rattle.vpf_library_files.specs.declared.table_files.errors.AddError.{AddError}
+use Rattle.vpf_library_files.specs.declared.table_files.errors.AddError.TheVariants as errors
 use Rattle.vpf_feature_writing.specs.Making.{Made}
 use Rattle.vpf_replies.specs.Answer.{Answer, limited, refused}
 use Rattle.vpf_replies.specs.Making.{made_answer}

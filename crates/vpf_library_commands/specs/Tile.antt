@@ -14,7 +14,7 @@ use Rattle.vpf_tiling.specs.Plan.PlanLoads.{read_plan}
 use Rattle.vpf_tiling.specs.Plan.Untiled.{read_untiled}
 use Rattle.vpf_tiling.specs.declared.tileable.refusals.Refusal.{Refusal}
 use Rattle.vpf_tiling.specs.declared.tileable.refusals.Refusal.TheVariants as refusals
-use Rattle.vpf_table_files.specs.declared.errors.AddError.TheVariants as adds
+use Rattle.vpf_library_files.specs.declared.table_files.errors.AddError.TheVariants as adds
 use Rattle.vpf_feature_files.specs.Reading.{read_schema}
 use Rattle.vpf_feature_files.specs.Schemas.{Schema, joins_of}
 use Rattle.vpf_features.specs.Finding.{Named}
@@ -25,7 +25,7 @@ use Rattle.vpf_tiler.specs.declared.errors.TileError.{TileError}
 use Rattle.vpf_tiler.specs.declared.errors.TileError.TheVariants as errors
 use Rattle.vpf_tiler.specs.Making.{tiled}
 use Rattle.vpf_replies.specs.Answer.{Answer, refused}
-use Rattle.vpf_load_replies.specs.Stopping.{stop_answer}
+use Rattle.vpf_featured.specs.LoadReplies.Stopping.{stop_answer}
 use Rattle.vpf_library_commands.specs.declared.requesting.MakeRequest.{MakeRequest}
 use Rattle.vpf_library_commands.specs.Keys.{keyed_text, numbered_class}
 use Rattle.vpf_library_commands.specs.Made.{files_answer}

@@ -12,7 +12,7 @@ use Rattle.vpf_trace.specs.Tracing.{IsTrace}
 use Rattle.vpf_replies.specs.declared.verdict.Verdict.TheVariants.{Done}
 use Rattle.vpf_replies.specs.Answer.{Answer, done, refused}
 use Rattle.vpf_replies.specs.Listings.{listing_text}
-use Rattle.vpf_load_replies.specs.Stopping.{stop_answer}
+use Rattle.vpf_featured.specs.LoadReplies.Stopping.{stop_answer}
 use Rattle.vpf_features.specs.Finding.{Named}
 use Rattle.vpf_featured.specs.Reading.{FeaturedCoverage, read_featured}
 use Rattle.vpf_library_commands.specs.declared.checking.CheckRequest.{CheckRequest}

@@ -4,16 +4,16 @@ ghost use Rattle.std.specs.Prelude.{◌≡◌, ◌++◌, IfOk, OnOk, map, string
 ghost use Rattle.vpf_source.specs.Files.{Files};
 ghost use Rattle.vpf_replies.specs.Answer.{done};
 ghost use Rattle.vpf_replies.specs.Halting.{ComesTo, TellsFault};
-ghost use Rattle.vpf_featured.specs.Held.{AreFeaturedFiles, AreOfFeatured};
+ghost use Rattle.vpf_featured.specs.Inner.Held.{AreFeaturedFiles, AreOfFeatured};
 ghost use Rattle.vpf_featured.specs.Reading.{FeaturedCoverage};
 ghost use Rattle.vpf_library_commands.specs.Check.{agrees_text, check_answer, check_request, found_answer, read_finding, tiling_text};
 
 use crate::totals::{Totals, totals_of};
 use std::alloc::{AllocError, Global};
 use vpf_coverage::Coverage;
+use vpf_featured::load_replies::stopped;
 use vpf_featured::{FeaturedFiles, load_featured, open_agreeing};
 use vpf_features::FeatureFault;
-use vpf_load_replies::stopped;
 use vpf_replies::{Halt, Reply, Stop, Verdict, disagreement};
 use vpf_source::names::{coverage_name, file_name};
 use vpf_source::{Name, Tree};

@@ -2,16 +2,16 @@
 
 ghost use Rattle.std.specs.Prelude.{◌≡◌, IfOk, map};
 ghost use Rattle.std.specs.Option.{option_map};
-ghost use Rattle.vpf_schema.specs.Joins.{join_of};
+ghost use Rattle.vpf_feature_files.specs.SchemaRows.Joins.{join_of};
 ghost use Rattle.vpf_feature_files.specs.Schemas.{joins_of};
 ghost use Rattle.vpf_replies.specs.Answer.{refused};
 ghost use Rattle.vpf_library_commands.specs.Keys.{by_number, joins_by_number, keyed_text, numbered_class};
 
 use std::alloc::{AllocError, Global};
+use vpf_feature_files::schema_rows::{ItemName, SchemaRow};
 use vpf_features::Schema;
 use vpf_findings::text::put_printed;
 use vpf_replies::{Reply, Verdict};
-use vpf_schema::{ItemName, SchemaRow};
 
 /// Whether the first item names a table of features and the second one of primitives, whose key is their number.
 fn is_by_number(features: &ItemName<'_>, primitives: &ItemName<'_>, key: &ItemName<'_>) -> bool

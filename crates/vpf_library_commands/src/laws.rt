@@ -2,10 +2,10 @@
 
 ghost use Rattle.vpf_library_commands.specs.Agreeing.{AgreeingIsRead, CheckCounts, CheckDecides, CoverageDecides};
 ghost use Rattle.vpf_library_commands.specs.Trace.{HasTraceAnswer, OneTraceAnswer, TraceDecides, TraceLists};
-ghost use Rattle.vpf_library_commands.specs.Example.{ExampleIsFound, ExampleIsWellFormed};
+ghost use Rattle.vpf_library_commands.specs.Inner.Example.{ExampleIsFound, ExampleIsWellFormed};
 
 use vpf_cross::laws::{agreement_decides, like_tiles_are_whole};
-use vpf_feature_agreement::laws::features_decide;
+use vpf_features::feature_agreement::laws::features_decide;
 use vpf_library_files::loading::laws::{coverages_are_held, files_are_libraries};
 use vpf_numbers::laws::numbers_decide;
 use vpf_trace::laws::one_trace;

@@ -2,7 +2,7 @@
 
 ghost use Rattle.std.specs.Prelude.{◌≡◌, IfOk, map};
 ghost use Rattle.vpf_base.specs.Results.{Meets};
-ghost use Rattle.vpf_table_files.specs.Adding.{error_seen};
+ghost use Rattle.vpf_library_files.specs.TableFiles.Adding.{error_seen};
 ghost use Rattle.vpf_feature_writing.specs.Making.{Made, features_made, made_then, then_files};
 ghost use Rattle.vpf_library_commands.specs.Made.{IsUnmadeAnswer, file_within, files_answer};
 
@@ -10,9 +10,9 @@ use std::alloc::{AllocError, Global};
 use vpf_feature_writing::feature_files;
 use vpf_features::Schema;
 use vpf_library_files::loading::within;
+use vpf_library_files::table_files::AddError;
 use vpf_replies::{Reply, limit, makes};
 use vpf_source::{File, Name};
-use vpf_table_files::AddError;
 
 /// A file under its name in a folder.
 fn moved(alloc: Global, folder: &str, file: File) -> Result<File, AllocError>

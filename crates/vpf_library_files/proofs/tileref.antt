@@ -4,8 +4,6 @@ pub mod LawApart
 pub mod LawLines
 pub mod LawTileref
 pub mod NameLemmas
-pub mod PathDecides
 pub mod PathLemmas
 pub mod StopLemmas
 pub mod TakingLemmas
-pub mod TextLemmas

@@ -1,2 +1,4 @@
 pub mod Tileref
 pub mod Loading
+pub mod TableFiles
+pub mod Inner

@@ -1,4 +1,3 @@
 pub mod Loading
 pub mod Holding
 pub mod Loads
-pub mod Laws

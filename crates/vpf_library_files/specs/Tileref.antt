@@ -1,9 +1,5 @@
 pub mod Paths
-pub mod Texts
 pub mod Numbered
 pub mod Bounds
-pub mod Errors
 pub mod Tileref
-pub mod Taking
 pub mod Stops
-pub mod Laws

@@ -3,4 +3,5 @@
 #![tactic(auto)]
 
 pub mod loading;
+pub mod table_files;
 pub mod tileref;

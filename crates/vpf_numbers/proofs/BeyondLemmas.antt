@@ -14,7 +14,7 @@ use Rattle.vpf_prims.specs.References.{reference_in}
 use Rattle.vpf_prims.specs.Reading.{PrimitiveTables}
 use Rattle.vpf_numbers.specs.Around.{Around, count_in_tile, grid_named, rows_in, rows_there, tables_around}
 use Rattle.vpf_numbers.specs.RowLines.{beyond_line}
-use Rattle.vpf_numbers.specs.Beyond.{beyond_there, rows_around}
+use Rattle.vpf_numbers.specs.Inner.Beyond.{beyond_there, rows_around}
 
 there_is : (f : PrimitiveTables → ℕ) (tables : Option PrimitiveTables) → is_some (option_map f tables) ≡ is_some tables
 there_is f None = refl

@@ -1,6 +1,6 @@
 -- Lines on the columns of a table find nothing exactly where the columns with a role are there and of their kinds, and all stand as in the
 -- table that they are to be like.
-use Rattle.std.proofs.Common.{◌≡◌, ℕ, zero, suc, ◌<◌, ◌≤◌, Bool, List, [], ◌∷◌, length, true, false, Option, Some, None, refl, ap, subst, arith}
+use Rattle.std.proofs.Common.{[], ◌≡◌, ℕ, zero, suc, ◌<◌, ◌≤◌, Bool, List, ◌∷◌, length, true, false, Option, Some, None, refl, ap, subst, arith}
 use Rattle.std.specs.Prelude.{◌↔◌, ◌==◌, ◌&&◌, not, is_some, slice_get, IfSome}
 use Rattle.std.specs.Option.{option_and_then, option_eq, option_map}
 use Rattle.std.proofs.lemmas.Bool.Decides.{nat_tests}
@@ -10,7 +10,7 @@ use Rattle.vpf_triplet.specs.declared.kinds.Kind.{Kind}
 use Rattle.vpf_triplet.specs.declared.kinds.Count.{Count}
 use Rattle.vpf_triplet.specs.declared.kinds.Count.TheVariants.{Fixed, Star}
 use Rattle.vpf_triplet.specs.Kinds.{kind_text, same_kind}
-use Rattle.vpf_triplet.proofs.KindLemmas.{kinds_same}
+use Rattle.vpf_triplet.specs.Inner.KindLaws.{kinds_same}
 use Rattle.vpf_head.specs.Head.{Col, place_of}
 use Rattle.vpf_head.specs.Making.{same_count}
 use Rattle.vpf_table.specs.Grid.{Row}
@@ -19,11 +19,12 @@ use Rattle.vpf_prims.specs.Roles.{Role, suits}
 use Rattle.vpf_prims.specs.Columns.{placed_line, role_line, column_of}
 use Rattle.vpf_prims.specs.Lines.{no_rows_line}
 use Rattle.vpf_prims.specs.Suiting.{SuitsRole, carried_columns}
-use Rattle.vpf_prims.proofs.ColumnLemmas.{place_within}
+use Rattle.vpf_prims.specs.Inner.ColumnLaws.{place_within}
 use Rattle.vpf_numbers.specs.ColumnLines.{bare_line, beside_finding, carried_columns_finding, carried_lines, form_line, lacking_finding, like_line, moved_line, named_line, role_lines, roles_finding}
 use Rattle.vpf_numbers.specs.Matching.{AreLike, HaveSameColumns, form_of}
 use Rattle.vpf_numbers.proofs.NumbersLines.{through, number_at, or_decides, unless_decides}
 use Rattle.vpf_numbers.proofs.PlaceLemmas.{IsSame, all_both, all_kept, all_of, all_same, own_place}
+use Rattle.vpf_head.specs.Inner.CountLaws.{own_count}
 
 -- the line on the column of a role
 placed_decides : (at : TableAt) (role : Role) (column : Option Col) → (placed_line at role column ≡ None) ↔ SuitsRole role column
@@ -111,10 +112,6 @@ counts_same (Fixed m) (Fixed n) h = let e : m ≡ n = grind (arith, nat_tests) i
 counts_same (Fixed m) Star h = absurd cc
 counts_same Star (Fixed n) h = absurd cc
 counts_same Star Star h = refl
-
-own_count : (c : Count) → same_count c c ≡ true
-own_count (Fixed n) = grind (arith, nat_tests)
-own_count Star = refl
 
 own_kind : (k : Kind) → same_kind k k ≡ true
 own_kind k = nat_list_eq_equiv.refl (kind_text k)

@@ -3,7 +3,7 @@ use Rattle.std.proofs.Common.{◌≡◌, ◌∙◌, ℕ, zero, suc, ◌+◌, ◌
 use Rattle.std.specs.Prelude.{◌↔◌, slice_index_or}
 use Rattle.std.specs.Option.{option_map}
 use Rattle.vpf_findings.specs.Findings.{Disagreement}
-use Rattle.vpf_findings.specs.FirstLaws.{over_none, over_silent}
+use Rattle.vpf_findings.specs.Inner.FirstLaws.{over_none, over_silent}
 use Rattle.vpf_prims.specs.Coverages.{CoverageTables, last_tile, tile_at}
 use Rattle.vpf_prims.specs.Libraries.{in_tile, in_tiles, library_of, primitives_in}
 use Rattle.vpf_prims.specs.Numbering.{IsNumbered}
@@ -11,7 +11,7 @@ use Rattle.vpf_prims.specs.Primitives.{has_tables, is_there}
 use Rattle.vpf_prims.specs.Reading.{PrimitiveTables, primitives_of}
 use Rattle.vpf_prims.specs.Tables.{TileTables}
 use Rattle.vpf_numbers.specs.Around.{around_of}
-use Rattle.vpf_numbers.specs.Laws.{CoverageNumbersDecide, NumbersDecide}
+use Rattle.vpf_numbers.specs.Inner.Laws.{CoverageNumbersDecide, NumbersDecide}
 use Rattle.vpf_numbers.specs.Matching.{HaveColumns}
 use Rattle.vpf_numbers.specs.TableLines.{numbers_finding}
 use Rattle.vpf_numbers.proofs.NumbersBeyond.{IsSeen}

@@ -6,7 +6,7 @@ use Rattle.vpf_triplet.specs.declared.triplets.Triplet.{Triplet}
 use Rattle.vpf_value.specs.Values.{Value, TextOf, Word4Of, Word8Of, NumberOf, DateOf, Nothing, TripletOf, WordsOf}
 use Rattle.vpf_table.specs.Grid.{Row}
 use Rattle.vpf_findings.specs.Firsts.{◌or◌, unless}
-use Rattle.vpf_findings.specs.FirstLaws.{or-none_both}
+use Rattle.vpf_findings.specs.Inner.FirstLaws.{or-none_both, unless_none}
 use Rattle.vpf_prims.specs.declared.placing.TableAt.{TableAt}
 use Rattle.vpf_prims.specs.Columns.{RoleAt}
 use Rattle.vpf_prims.specs.References.{reference_in, signed_in, cell_at, is_same, is_from, stays}
@@ -14,7 +14,6 @@ use Rattle.vpf_prims.specs.Reading.{natural_in, mark_at}
 use Rattle.vpf_prims.specs.Lines.{id_line, range_line}
 use Rattle.vpf_numbers.specs.RowLines.{plain_line, reference_lines, mark_line, mark_line_at}
 use Rattle.vpf_prims.specs.Numbering.{IsPlain, IsLineMark}
-use Rattle.vpf_prims.proofs.RowLemmas.{unless_none}
 
 -- one thing exactly where another, and that exactly where a third
 pub through : {A B C : Type 0} → (A ↔ B) → (B ↔ C) → A ↔ C

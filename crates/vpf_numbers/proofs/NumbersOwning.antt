@@ -4,7 +4,7 @@ use Rattle.std.specs.Option.{option_map}
 use Rattle.vpf_triplet.specs.declared.triplets.Triplet.{Triplet}
 use Rattle.vpf_prims.specs.Lists.{kth}
 use Rattle.vpf_prims.specs.Numbering.{IsCross, IsEdgeOf, IsEntityOf, IsFace, IsFaceOf, IsNodeOf, IsNumbered, IsPlain, IsReference, IsRingOf, IsRowOf}
-use Rattle.vpf_prims.specs.Owning.{NamesItsOwn, OwnsEdge, OwnsRing}
+use Rattle.vpf_prims.specs.Inner.Owning.{NamesItsOwn, OwnsEdge, OwnsRing}
 use Rattle.vpf_prims.specs.Primitives.{EdgePrimitive, Library, Primitives, RingPrimitive, absent_edge, absent_entity, absent_face, absent_node, absent_ring, edge_count, edges_in, entities_in, face_count, faces_in, node_count, nodes_in, ring_count, rings_in}
 use Rattle.vpf_prims.specs.Reading.{primitives_of}
 use Rattle.vpf_prims.specs.References.{id_of}

@@ -5,13 +5,13 @@ use Rattle.vpf_findings.specs.declared.errors.FindError.{FindError}
 use Rattle.vpf_findings.specs.declared.errors.FindError.TheVariants as errors
 use Rattle.vpf_findings.specs.Findings.{Disagreement, disagreement_of}
 use Rattle.vpf_findings.specs.Firsts.{◌or◌, Tells, first_of_rows}
-use Rattle.vpf_findings.specs.FirstLaws.{or-none_both}
+use Rattle.vpf_findings.specs.Inner.FirstLaws.{or-none_both}
 use Rattle.vpf_head.specs.Head.{Col}
 use Rattle.vpf_table.specs.Grid.{Row}
 use Rattle.vpf_prims.specs.declared.placing.RoleColumn.{RoleColumn}
 use Rattle.vpf_prims.specs.declared.placing.TableAt.{TableAt}
 use Rattle.vpf_prims.specs.Columns.{RoleAt, columns_finding, id_column, reference_column, role_at, role_column, role_line}
-use Rattle.vpf_prims.specs.Placed.{IsColumnOf}
+use Rattle.vpf_prims.specs.Inner.Placed.{IsColumnOf}
 use Rattle.vpf_prims.specs.Roles.{Role, number_role, reference_role}
 use Rattle.vpf_numbers.specs.ColumnLines.{like_line, role_lines, roles_finding}
 use Rattle.vpf_numbers.specs.RowLines.{plain_rows_line, ring_row_lines, ring_rows_line}

@@ -1,7 +1,7 @@
 //! What is known around a tile.
 
 ghost use Rattle.std.specs.Prelude.{◌≡◌, None, map, option_map};
-ghost use Rattle.vpf_prims.specs.Views.{tables_in_view};
+ghost use Rattle.vpf_prims.specs.Inner.Views.{tables_in_view};
 ghost use Rattle.vpf_numbers.specs.Around.{columns_in_view, first_having, grid_named, model_in};
 
 use std::marker::Model;
@@ -28,7 +28,7 @@ impl<'v, 'a> Model for Around<'v, 'a> {
 
     ghost Value = { Around };
 
-    ghost use Rattle.vpf_numbers.specs.Inside.{HasModels, around_in};
+    ghost use Rattle.vpf_numbers.specs.Inner.Inside.{HasModels, around_in};
 
     ghost view = { around_in };
 
@@ -84,7 +84,7 @@ fn model<'v, 'a>(
 
 impl<'v, 'a> Around<'v, 'a> {
     ghost use Rattle.std.specs.Prelude.{◌≡◌, map, option_map};
-    ghost use Rattle.vpf_prims.specs.Views.{tables_in_view};
+    ghost use Rattle.vpf_prims.specs.Inner.Views.{tables_in_view};
     ghost use Rattle.vpf_numbers.specs.Around.{columns_in_view, model_cnd, model_edg, model_end, model_fac, model_rng, rows_there};
 
     /// What is known in a coverage, by the tables of its tiles from tile 0 on, none where a tile is empty.

@@ -3,7 +3,7 @@
 ghost use Rattle.std.specs.Prelude.{◌≡◌, map, option_map};
 ghost use Rattle.std.specs.List.{list_any};
 ghost use Rattle.vpf_head.specs.Folding.{same_name};
-ghost use Rattle.vpf_head.specs.Views.{col};
+ghost use Rattle.vpf_head.specs.Inner.Views.{col};
 ghost use Rattle.vpf_findings.specs.Firsts.{Finds};
 ghost use Rattle.vpf_prims.specs.Roles.{role_of};
 ghost use Rattle.vpf_prims.specs.Suiting.{carried_columns};

@@ -2,10 +2,10 @@
 
 ghost use Rattle.std.specs.Prelude.{◌≡◌, ◌<◌, ◌^◌, IfOk, Some};
 ghost use Rattle.vpf_findings.specs.Firsts.{Tells};
-ghost use Rattle.vpf_prims.specs.Owning.{NamesItsOwn};
+ghost use Rattle.vpf_prims.specs.Inner.Owning.{NamesItsOwn};
 ghost use Rattle.vpf_prims.specs.Reading.{primitives_of};
 ghost use Rattle.vpf_prims.specs.Tables.{TileTables, cnd_at, edg_at, entities_at, fac_at, rng_at};
-ghost use Rattle.vpf_prims.specs.Views.{AreColumnsOf, tables_in_view};
+ghost use Rattle.vpf_prims.specs.Inner.Views.{AreColumnsOf, tables_in_view};
 ghost use Rattle.vpf_numbers.specs.Around.{tables_around};
 ghost use Rattle.vpf_numbers.specs.TableLines.{numbers_finding};
 

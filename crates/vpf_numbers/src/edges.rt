@@ -7,7 +7,7 @@ ghost use Rattle.vpf_prims.specs.Roles.{edge_roles};
 ghost use Rattle.vpf_numbers.specs.Around.{columns_in_view, model_edg};
 ghost use Rattle.vpf_numbers.specs.ColumnLines.{beside_finding, roles_finding};
 ghost use Rattle.vpf_findings.specs.declared.finding.TableName.TheVariants as names;
-ghost use Rattle.vpf_numbers.specs.Beyond.{named_cross_lines};
+ghost use Rattle.vpf_numbers.specs.Inner.Beyond.{named_cross_lines};
 ghost use Rattle.vpf_numbers.specs.RowLines.{edge_face_lines, edge_node_lines, edge_row_lines, mark_line};
 
 use crate::around::Around;

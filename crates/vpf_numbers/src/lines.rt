@@ -7,7 +7,7 @@ ghost use Rattle.vpf_findings.specs.Firsts.{Finds};
 ghost use Rattle.vpf_prims.specs.Columns.{IsWithin, role_at};
 ghost use Rattle.vpf_prims.specs.References.{reference_in};
 ghost use Rattle.vpf_numbers.specs.RowLines.{face_lines, is_first, mark_line, plain_wanted, reference_lines};
-ghost use Rattle.vpf_numbers.specs.Beyond.{beyond_there, named_cross_lines};
+ghost use Rattle.vpf_numbers.specs.Inner.Beyond.{beyond_there, named_cross_lines};
 
 use crate::around::Around;
 use vpf_findings::{Finding, Seen, SeenWord, TableName};

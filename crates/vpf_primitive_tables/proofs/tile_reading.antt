@@ -1,7 +1,4 @@
-pub mod ChangeLemmas
 pub mod EachLemmas
-pub mod CellLemmas
-pub mod CarriedLemmas
 pub mod KindLemmas
 pub mod OwnLemmas
 pub mod RowLemmas

@@ -1,4 +1,4 @@
 pub mod TableForms
 pub mod TileTables
-pub mod TileReading
-pub mod TileWriting
+pub mod Inner
+pub use Rattle.vpf_cut_rings.specs.Inner.Rings

@@ -1,3 +1,1 @@
 pub mod Forms
-pub mod Places
-pub mod Models

@@ -6,3 +6,5 @@ pub mod table_forms;
 pub mod tile_reading;
 pub mod tile_tables;
 pub mod tile_writing;
+
+pub use vpf_cut_rings as cut_rings;

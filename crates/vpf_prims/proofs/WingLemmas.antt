@@ -12,7 +12,7 @@ use Rattle.vpf_prims.specs.Columns.{RoleAt}
 use Rattle.vpf_prims.specs.References.{is_from}
 use Rattle.vpf_prims.specs.Lines.{id_line, range_line}
 use Rattle.vpf_prims.specs.Edges.{EdgesAt, reference_at, id_at, edge_of, edge_lines, edges_finding, IsEdge, HasWings, HaveWings}
-use Rattle.vpf_prims.proofs.RowLemmas.{unless_none}
+use Rattle.vpf_table.specs.FirstLaws.{unless_none}
 
 from_one : (o : Option ℕ) (last : ℕ) → is_from 1 last o ≡ true → IsEdge last (unwrap_or o 0)
 from_one (Some n) last h = (grind (arith, nat_tests), grind (arith, nat_tests))

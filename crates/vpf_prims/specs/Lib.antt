@@ -1,6 +1,5 @@
 pub mod Roles
 pub mod Columns
-pub mod Placed
 pub mod Lines
 pub mod References
 pub mod Edges
@@ -9,11 +8,8 @@ pub mod Primitives
 pub mod Reading
 pub mod Suiting
 pub mod Numbering
-pub mod Owning
 pub mod Tables
-pub mod Views
-pub mod Tiles
 pub mod Coverages
 pub mod Libraries
-pub mod Laws
 pub use Rattle.vpf_table.specs.Grid
+pub mod Inner

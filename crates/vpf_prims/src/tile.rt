@@ -31,7 +31,7 @@ impl<'a> Model for Tile<'a> {
 
     ghost Value = { TileTables };
 
-    ghost use Rattle.vpf_prims.specs.Tiles.{tables_of, IsTile};
+    ghost use Rattle.vpf_prims.specs.Inner.Tiles.{tables_of, IsTile};
 
     ghost view = { tables_of };
 
@@ -59,8 +59,8 @@ impl<'a> Tile<'a> {
     ghost use Rattle.vpf_prims.specs.Reading.{primitives_of};
     ghost use Rattle.vpf_prims.specs.Tables.{at_citation, cited_cell, cited_column, cited_grid, edg_at, fac_file, rng_file};
     ghost use Rattle.vpf_prims.specs.Tables.{cnd_file, end_file, file_named, file_where, table_at, table_named};
-    ghost use Rattle.vpf_prims.specs.Owning.{NamesItsOwn};
-    ghost use Rattle.vpf_prims.specs.Views.{AreColumnsOf, tables_in_view};
+    ghost use Rattle.vpf_prims.specs.Inner.Owning.{NamesItsOwn};
+    ghost use Rattle.vpf_prims.specs.Inner.Views.{AreColumnsOf, tables_in_view};
 
     /// The tile of these tables and their columns, the first of whose files stands at this place among those that were read.
     pub fn new(first: u32, views: PrimitiveViews<'a>, columns: TileColumns<'a>) -> Tile<'a>

@@ -1,5 +1,5 @@
 -- What is answered over the column of a name.
-use Rattle.std.proofs.Common.{◌≡◌, ◌⊎◌, inl, inr, ℕ, ◌<◌, ◌≤◌, List, [], Option, None, Some, length, get_or, refl, sym, arith}
+use Rattle.std.proofs.Common.{[], ◌≡◌, ℕ, ◌<◌, List, Option, None, Some, length, refl, sym}
 use Rattle.std.proofs.lemmas.List.{length-map}
 use Rattle.std.proofs.lemmas.List.Quantifiers.{position-Some}
 use Rattle.std.proofs.lemmas.Option.{slice_get_cases}
@@ -8,16 +8,13 @@ use Rattle.vpf_head.specs.Head.{Col, names, place_of}
 use Rattle.vpf_head.specs.Folding.{same_name}
 use Rattle.vpf_replies.specs.Answer.{Answer}
 use Rattle.vpf_replies.specs.Columns.{IsAt, on_column, on_found}
+use Rattle.vpf_replies.specs.Inner.ColumnLaws.{column_or_past}
 
 there : (over : ℕ → Col → Answer) (name : List ℕ) (columns : List Col) (c : ℕ) (column : Col) (place : Option ℕ) → place ≡ Some c → slice_get columns c ≡ Some column → on_found over name columns place ≡ over c column
 there over name columns c column place e f = rw (e, f) refl
 
 pub column_there : (over : ℕ → Col → Answer) (name : List ℕ) (columns : List Col) (c : ℕ) (column : Col) → Some c ≡ place_of name columns → slice_get columns c ≡ Some column → on_column over name columns ≡ over c column
 column_there over name columns c column e f = there over name columns c column (place_of name columns) (sym e) f
-
-column_or_past : (columns : List Col) (c : ℕ) → c < length columns → ((column : Col) × (c < length columns) × (slice_get columns c ≡ Some column) × (get_or columns c column ≡ column)) ⊎ ((length columns ≤ c) × (slice_get columns c ≡ None)) → (column : Col) × (slice_get columns c ≡ Some column)
-column_or_past columns c h (inl w) = (w.0, w.2)
-column_or_past columns c h (inr w) = absurd (omega arith)
 
 column_within : (columns : List Col) (c : ℕ) → c < length columns → (column : Col) × (slice_get columns c ≡ Some column)
 column_within columns c h = column_or_past columns c h (slice_get_cases columns c).1

@@ -4,7 +4,7 @@ use Rattle.std.specs.Prelude.{slice_get}
 use Rattle.vpf_base.proofs.Lists.{next_item}
 use Rattle.vpf_darts.specs.declared.darts.TileDart.{TileDart}
 use Rattle.vpf_darts.specs.Darts.{sign_in, sign_of, tile_dart_code, tile_dart_text}
-use Rattle.vpf_darts.specs.Laws.{NumbersNameDarts}
+use Rattle.vpf_darts.specs.Inner.Laws.{NumbersNameDarts}
 use Rattle.vpf_replies.specs.Listings.{cycle_lines, cycle_text, dart_of, numbered_text}
 
 pub cycle_put : (text : List ℕ) (cycles : List (List TileDart)) (i : ℕ) (cycle : List TileDart) → slice_get cycles i ≡ Some cycle

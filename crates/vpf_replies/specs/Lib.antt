@@ -6,6 +6,6 @@ pub mod Columns
 pub mod Making
 pub mod Found
 pub mod Halting
-pub mod Loading
 pub mod Listings
 pub mod Selecting
+pub mod Inner

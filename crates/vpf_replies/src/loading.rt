@@ -6,7 +6,7 @@ ghost use Rattle.vpf_base.specs.Limits.{most_bytes};
 ghost use Rattle.vpf_source.specs.Files.{Files};
 ghost use Rattle.vpf_source.specs.Loading.{LoadGives, load_answer};
 ghost use Rattle.vpf_replies.specs.Halting.{TellsFault};
-ghost use Rattle.vpf_replies.specs.Loading.{IsOptional, IsRequired, IsRequiredSize};
+ghost use Rattle.vpf_replies.specs.Inner.Loading.{IsOptional, IsRequired, IsRequiredSize};
 
 use crate::halting::{Halt, Stop};
 use crate::refusing::{Refusal, refuse};

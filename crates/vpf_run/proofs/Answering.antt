@@ -26,12 +26,12 @@ use Rattle.vpf_library_commands.specs.Make.{make_request}
 use Rattle.vpf_library_commands.specs.Tile.{tile_answer}
 use Rattle.vpf_library_commands.specs.Trace.{HasTraceAnswer, OneTraceAnswer}
 use Rattle.vpf_drill.specs.Drill.{IsDrill}
-use Rattle.vpf_drill.specs.Laws.{HasDrill, OneDrill}
+use Rattle.vpf_drill.specs.Inner.Laws.{HasDrill, OneDrill}
 use Rattle.vpf_drill.specs.Request.{CanBeAsked, RequestsCanBeAsked, drill_request}
 use Rattle.vpf_run.specs.declared.command.Command.{Command}
 use Rattle.vpf_run.specs.declared.command.Command.TheVariants.{Show, Table, Cycles, Swap, Index, Rows, Check, Trace, Tile, Glue, Select, Drill}
 use Rattle.vpf_run.specs.Commands.{IsAnswer, IsAnswerAlone, IsAnswerTo, command_of}
-use Rattle.vpf_run.specs.Deciding.{HasAnswer, OneAnswer}
+use Rattle.vpf_run.specs.Inner.Deciding.{HasAnswer, OneAnswer}
 use Rattle.vpf_run.specs.Indexed.{IsPlainAnswer, PlainAnswers}
 
 -- ---- what is so of all commands that words spell

@@ -11,7 +11,7 @@ use Rattle.vpf_run.specs.declared.command.Command.{Command}
 use Rattle.vpf_run.specs.declared.command.Command.TheVariants.{Check, Trace}
 use Rattle.vpf_run.specs.declared.status.Status.{Status}
 use Rattle.vpf_run.specs.declared.status.Status.TheVariants as statuses
-use Rattle.vpf_run.specs.Checked.{AgreementIsSaid, OnlyAgreementIsDone, OnlyAgreementIsTraced}
+use Rattle.vpf_run.specs.Inner.Checked.{AgreementIsSaid, OnlyAgreementIsDone, OnlyAgreementIsTraced}
 use Rattle.vpf_run.specs.Commands.{IsAnswer, command_of}
 use Rattle.vpf_run.specs.Run.{Carries, World}
 use Rattle.vpf_run.proofs.ServedAnswers.{verdict_done}

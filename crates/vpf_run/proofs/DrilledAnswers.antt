@@ -3,7 +3,7 @@ use Rattle.std.proofs.Common.{◌≡◌, ◌≢◌, ◌⊎◌, ◌∙◌, ℕ, O
 use Rattle.vpf_source.specs.Files.{Files}
 use Rattle.vpf_replies.specs.declared.verdict.Verdict.TheVariants.{Done}
 use Rattle.vpf_replies.specs.Answer.{Answer, usage_answer}
-use Rattle.vpf_drill.specs.Laws.{HasDrill}
+use Rattle.vpf_drill.specs.Inner.Laws.{HasDrill}
 use Rattle.vpf_drill.specs.Request.{CanBeAsked}
 use Rattle.vpf_run.specs.declared.command.Command.{Command}
 use Rattle.vpf_run.specs.declared.command.Command.TheVariants.{Drill}

@@ -3,6 +3,5 @@ pub mod Answering
 pub mod ServedAnswers
 pub mod Grammared
 pub mod CheckedAnswers
-pub mod StopLemmas
 pub mod TiledAnswers
 pub mod DrilledAnswers

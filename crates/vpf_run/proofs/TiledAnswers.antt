@@ -1,6 +1,5 @@
 -- What `tile` is done of: an untiled coverage that agrees and a plan that serves; the tree then holds its tiled library.
-use Rattle.std.proofs.Common.{String, ◌≡◌, ◌∙◌, ℕ, Bool, true, false, cond, List, [], ◌∷◌, ◌++◌, length, map, Option, None, Some, Result, Ok, Err, refl, sym, ap, rules}
-use Rattle.std.proofs.Common.{subst}
+use Rattle.std.proofs.Common.{[], String, ◌≡◌, ◌∙◌, ℕ, Bool, true, false, cond, List, ◌∷◌, ◌++◌, length, map, Option, None, Some, Result, Ok, Err, refl, sym, ap, rules, subst}
 use Rattle.std.specs.Prelude.{IsOk, IsUtf8, codes, string_bytes}
 use Rattle.std.specs.List.{AllByRecursion}
 use Rattle.std.specs.Option.{option_map}
@@ -15,14 +14,13 @@ use Rattle.vpf_prims.specs.Tables.{TileTables}
 use Rattle.vpf_library_files.specs.Loading.Holding.{HoldsBytes}
 use Rattle.vpf_library_files.specs.declared.loading.loading.LoadStop.{LoadStop}
 use Rattle.vpf_tiling.specs.declared.tileable.refusals.Refusal.{Refusal}
-use Rattle.vpf_table_files.specs.Adding.{NamedTable, files_made, first_limit_of}
-use Rattle.vpf_table_files.specs.declared.errors.AddError.TheVariants as adds
+use Rattle.vpf_library_files.specs.TableFiles.Adding.{NamedTable, files_made, first_limit_of}
+use Rattle.vpf_library_files.specs.declared.table_files.errors.AddError.TheVariants as adds
 use Rattle.vpf_feature_files.specs.Schemas.{Schema, joins_of}
 use Rattle.vpf_features.specs.Finding.{Named}
-use Rattle.vpf_feature_writing.specs.Making.{Made, features_made, then_files}
+use Rattle.vpf_library_commands.specs.FeatureWritingMaking.{Made, features_made, then_files}
 use Rattle.vpf_library_commands.specs.CutBy.{plan_refusal}
-use Rattle.vpf_library_commands.specs.TilerMaking.{unless_tile_limited}
-use Rattle.vpf_library_commands.specs.TilerMaking.{unless_refused}
+use Rattle.vpf_library_commands.specs.TilerMaking.{unless_tile_limited, unless_refused}
 use Rattle.vpf_replies.specs.declared.verdict.Verdict.TheVariants.{Done}
 use Rattle.vpf_replies.specs.Answer.{Answer, refused}
 use Rattle.vpf_library_commands.specs.declared.requesting.MakeRequest.{MakeRequest}
@@ -30,8 +28,7 @@ use Rattle.vpf_library_commands.specs.Keys.{keyed_text, numbered_class}
 use Rattle.vpf_library_commands.specs.Made.{file_within, files_answer}
 use Rattle.vpf_feature_commands.specs.Select.{select_request}
 use Rattle.vpf_library_commands.specs.Make.{make_request}
-use Rattle.vpf_library_commands.specs.Tile.{TileParts, cut_answer, keyed_answer, parts_answer, parts_finding, read_parts, tables_answer, tile_answer}
-use Rattle.vpf_library_commands.specs.Tile.{tiled_answer, tiling_answer, untiled_text}
+use Rattle.vpf_library_commands.specs.Tile.{TileParts, keyed_answer, parts_answer, parts_finding, read_parts, tables_answer, tile_answer, tiled_answer, tiling_answer, untiled_text}
 use Rattle.vpf_library_commands.specs.Check.{check_request}
 use Rattle.vpf_drill.specs.Request.{drill_request}
 use Rattle.vpf_table_commands.specs.Accept.{table_request}
@@ -51,7 +48,7 @@ use Rattle.vpf_run.specs.Commands.{IsAnswer, command_by, command_of}
 use Rattle.vpf_run.specs.Cutting.{IsTiling, LacksAfter}
 use Rattle.vpf_run.specs.Run.{Carries, World}
 use Rattle.vpf_run.proofs.ServedAnswers.{verdict_done}
-use Rattle.vpf_run.proofs.StopLemmas.{stop_refuses}
+use Rattle.vpf_library_commands.specs.Inner.DecidingLaws.{stop_refuses}
 
 -- ---- the words of `tile` are text, and so are the names that they spell
 

@@ -1,8 +1,8 @@
 //! Laws of answers.
 
 ghost use Rattle.vpf_library_commands.specs.Trace.{HasTraceAnswer};
-ghost use Rattle.vpf_run.specs.Checked.{AgreementIsSaid, CyclesAreSaid, OnlyAgreementIsDone, OnlyAgreementIsTraced};
-ghost use Rattle.vpf_run.specs.Deciding.{HasAnswer, OneAnswer};
+ghost use Rattle.vpf_run.specs.Inner.Checked.{AgreementIsSaid, CyclesAreSaid, OnlyAgreementIsDone, OnlyAgreementIsTraced};
+ghost use Rattle.vpf_run.specs.Inner.Deciding.{HasAnswer, OneAnswer};
 ghost use Rattle.vpf_run.specs.Grammar.{FaultsAreSaid, TablesAreSaid};
 ghost use Rattle.vpf_run.specs.Indexed.{PlainAnswers};
 

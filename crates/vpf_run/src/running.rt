@@ -28,7 +28,7 @@ ghost use Rattle.vpf_darts.specs.declared.darts.TileDart.{TileDart};
 ghost use Rattle.vpf_darts.specs.Listings.{numbers_of};
 ghost use Rattle.vpf_prims.specs.Libraries.{library_of};
 ghost use Rattle.vpf_replies.specs.Listings.{listing_text};
-ghost use Rattle.vpf_trace.specs.Tracing.{IsTrace};
+ghost use Rattle.vpf_library_commands.specs.TraceTracing.{IsTrace};
 ghost use Rattle.vpf_table_commands.specs.declared.indexing.IndexRequest.{IndexRequest};
 ghost use Rattle.vpf_table_commands.specs.declared.selecting.RowsRequest.{RowsRequest};
 ghost use Rattle.vpf_table_commands.specs.Rows.{IndexAgrees};
@@ -204,9 +204,8 @@ pub fn run<T: Tree, O: Sink>(alloc: Global, words: &[String], tree: &mut T, out:
         (record { files = T.files tree.new; written = O.written out.new }) }
 
     // `check` is done exactly where the files hold the coverage in the grammar of tables, its columns are right and its rows agree, in each
-    // tile and across the tiles, and the features that are read behind it agree: then it prints the numbers of primitives of all its tiles. (The
-    // files of a tree that tells them are of
-    // bytes.)
+    // tile and across the tiles, and the features that are read behind it agree: then it prints the numbers of primitives of all its tiles.
+    // (The files of a tree that tells them are of bytes.)
     ensures checked { (files : Files) (request : CheckRequest) (read : FeaturedCoverage) → command_of (map string_bytes words.now) ≡ Some (Check request)
         → T.files tree.old ≡ Some files → IsAgreeing files request read
         → Carries (done (agrees_text read.coverage.coverage)) result (record { files = T.files tree.old; written = O.written out.old })

@@ -1,17 +1,17 @@
 -- An index of the column, and what is selected with it.
-use Rattle.std.proofs.Common.{◌≡◌, ℕ, zero, suc, ◌+◌, ◌-◌, ◌<◌, Bool, true, false, cond, List, [], ◌∷◌, ◌++◌, length, Option, Some, None, Ok, append_assoc, refl, sym, ap, subst, ◌∙◌, arith}
+use Rattle.std.proofs.Common.{[], ◌≡◌, ℕ, zero, suc, ◌+◌, ◌-◌, ◌<◌, Bool, true, false, cond, List, ◌∷◌, ◌++◌, length, Option, Some, None, Ok, append_assoc, refl, sym, ap, subst, ◌∙◌, arith}
 use Rattle.std.specs.Prelude.{slice_get, option_and_then, nat_eq}
 use Rattle.std.specs.Option.{option_or}
 use Rattle.std.proofs.lemmas.Bool.{eqb-true}
 use Rattle.std.proofs.lemmas.List.{length-append}
 use Rattle.vpf_triplet.specs.Kinds.{same_kind, is_fixed}
-use Rattle.vpf_triplet.proofs.KindLemmas.{kinds_same, counts_same}
+use Rattle.vpf_triplet.specs.Inner.KindLaws.{kinds_same, counts_same}
 use Rattle.vpf_base.proofs.Booleans.{both}
 use Rattle.vpf_triplet.specs.declared.kinds.Kind.{Kind}
 use Rattle.vpf_triplet.specs.declared.kinds.Count.{Count}
 use Rattle.vpf_triplet.specs.declared.kinds.Count.TheVariants.{Fixed}
 use Rattle.vpf_value.specs.Values.{Value}
-use Rattle.vpf_value.specs.Fitting.{FitsCell}
+use Rattle.vpf_value.specs.Inner.Fitting.{FitsCell}
 use Rattle.vpf_head.specs.Head.{Col}
 use Rattle.vpf_findings.specs.Findings.{Disagreement}
 use Rattle.vpf_table.specs.Grid.{Grid}

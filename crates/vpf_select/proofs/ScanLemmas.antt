@@ -1,18 +1,18 @@
 -- The rows that are looked at, one after another.
-use Rattle.std.proofs.Common.{◌≡◌, ℕ, zero, suc, ◌+◌, ◌-◌, ◌<◌, ◌≤◌, Bool, true, false, cond, List, [], ◌∷◌, ◌++◌, map, length, get_or, Some, append_assoc, refl, sym, ap, ◌∙◌, arith}
+use Rattle.std.proofs.Common.{[], ◌≡◌, ℕ, zero, suc, ◌+◌, ◌-◌, ◌<◌, ◌≤◌, Bool, true, false, cond, List, ◌∷◌, ◌++◌, map, length, get_or, Some, append_assoc, refl, sym, ap, ◌∙◌, arith}
 use Rattle.std.specs.Prelude.{slice_get, slice_index_or}
 use Rattle.std.proofs.lemmas.List.{append-nil, length-map}
 use Rattle.std.proofs.lemmas.List.Elements.{All-cons, All-nil}
 use Rattle.std.proofs.lemmas.Option.{get_or_from_slice_get}
-use Rattle.vpf_theme.proofs.WalkLemmas.{row_first, rows_rest}
+use Rattle.vpf_theme.specs.Inner.WalkLaws.{row_first, rows_rest}
 use Rattle.vpf_value.specs.Values.{Value, Nothing}
 use Rattle.vpf_table.specs.Grid.{Grid, Row}
 use Rattle.vpf_theme.specs.Ordering.{same_value}
 use Rattle.vpf_theme.specs.Findings.{cell_of, cells_of}
 use Rattle.vpf_theme.specs.Agreeing.{scan_from, scan_of}
-use Rattle.vpf_theme.specs.KeyLaws.{same_yes, same_no}
-use Rattle.vpf_theme.specs.Views.{AreRows}
-use Rattle.vpf_select.specs.Passing.{first_unmet, met_by}
+use Rattle.vpf_theme.specs.Inner.KeyLaws.{same_yes, same_no}
+use Rattle.vpf_theme.specs.Inner.Views.{AreRows}
+use Rattle.vpf_select.specs.Inner.Passing.{first_unmet, met_by}
 use Rattle.vpf_select.specs.Selecting.{first_unlike}
 
 -- the cell of a row at the position of a column

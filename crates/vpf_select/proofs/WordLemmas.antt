@@ -15,7 +15,7 @@ use Rattle.vpf_triplet.specs.declared.kinds.Count.{Count}
 use Rattle.vpf_triplet.specs.declared.kinds.Count.TheVariants.{Fixed, Star}
 use Rattle.vpf_triplet.specs.Kinds.{allows}
 use Rattle.vpf_value.specs.Values.{Value, TextOf, Word4Of, Word8Of, NumberOf, DateOf, date_bytes}
-use Rattle.vpf_value.specs.Fitting.{FitsText, FitsWord4, FitsWord8, FitsNumber, FitsDate, FitsKind, FitsCell}
+use Rattle.vpf_value.specs.Inner.Fitting.{FitsText, FitsWord4, FitsWord8, FitsNumber, FitsDate, FitsKind, FitsCell}
 use Rattle.vpf_select.specs.Words.{letter_w, filled, text_in, digits_in, negative, positive, number_in, is_hex, word_in, value_in}
 use Rattle.vpf_select.proofs.DigitLemmas.{hex_below}
 

@@ -1,4 +1,3 @@
-pub mod Values
 pub mod Words
 pub mod Selecting
-pub mod Passing
+pub mod Inner

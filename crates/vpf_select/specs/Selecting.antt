@@ -2,14 +2,14 @@
 use Rattle.std.specs.Prelude.{◌≡◌, ℕ, ◌+◌, ◌-◌, ◌*◌, ◌^◌, ◌≤◌, true, false, not, List, length, find, slice_get, Option, Some, None, Result, Ok, Err}
 use Rattle.vpf_base.specs.Results.{Meets}
 use Rattle.vpf_value.specs.Values.{Value}
-use Rattle.vpf_value.specs.Fitting.{FitsCell}
+use Rattle.vpf_value.specs.Inner.Fitting.{FitsCell}
 use Rattle.vpf_head.specs.Head.{Col}
 use Rattle.vpf_table.specs.Grid.{Grid}
 use Rattle.vpf_theme.specs.Ordering.{same_value}
 use Rattle.vpf_theme.specs.Entries.{Theme, found_in}
 use Rattle.vpf_theme.specs.Findings.{cell_of, fits_line, of_column}
 use Rattle.vpf_theme.specs.Agreeing.{listed, scan_of}
-use Rattle.vpf_theme.specs.Searching.{compared_for}
+use Rattle.vpf_theme.specs.Inner.Searching.{compared_for}
 use Rattle.vpf_select.specs.declared.selecting.SelectError.{SelectError}
 use Rattle.vpf_select.specs.declared.selecting.SelectError.TheVariants as errors
 

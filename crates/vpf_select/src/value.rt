@@ -44,11 +44,11 @@ pub struct Value {
 }
 
 impl Model for Value {
-    ghost use Rattle.vpf_select.specs.Values.{CellValue};
+    ghost use Rattle.vpf_select.specs.Inner.Values.{CellValue};
 
     ghost Value = { CellValue };
 
-    ghost use Rattle.vpf_select.specs.Values.{value_view};
+    ghost use Rattle.vpf_select.specs.Inner.Values.{value_view};
 
     ghost view = { value_view };
 }
@@ -56,7 +56,7 @@ impl Model for Value {
 impl Value {
     ghost use Rattle.std.specs.Prelude.{◌≡◌};
     ghost use Rattle.vpf_value.specs.Values.{view};
-    ghost use Rattle.vpf_select.specs.Values.{said};
+    ghost use Rattle.vpf_select.specs.Inner.Values.{said};
 
     /// The value that is kept so.
     pub(crate) fn new(owned: Owned) -> Value

@@ -3,7 +3,7 @@
 ghost use Rattle.std.specs.Prelude.{◌≡◌, ◌≤◌, ◌^◌, IfOk, IsTrue, option_map};
 ghost use Rattle.vpf_triplet.specs.Kinds.{allows};
 ghost use Rattle.vpf_value.specs.Values.{DateOf, NumberOf, Word4Of, Word8Of, date_bytes};
-ghost use Rattle.vpf_value.specs.Fitting.{FitsCell};
+ghost use Rattle.vpf_value.specs.Inner.Fitting.{FitsCell};
 ghost use Rattle.vpf_select.specs.Words.{Says, filled, number_in, text_in, value_in, word_in};
 
 use crate::digits::{number_in, word_in};

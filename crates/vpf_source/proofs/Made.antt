@@ -2,7 +2,7 @@
 use Rattle.std.proofs.Common.{◌≡◌, ℕ, List, [], ◌∷◌, ◌++◌, Option, Some, refl, sym, subst, inl, inr}
 use Rattle.vpf_source.specs.declared.file.File.{File}
 use Rattle.vpf_source.specs.Files.{Files, with_file, SameElsewhere}
-use Rattle.vpf_source.specs.Halves.{MayHold}
+use Rattle.vpf_source.specs.Inner.Halves.{MayHold}
 use Rattle.vpf_source.specs.Making.{with_all}
 
 made_elsewhere : (old : Files) (new : Option Files) (name bytes : List ℕ) → new ≡ with_file (Some old) name bytes → SameElsewhere (Some old) new name

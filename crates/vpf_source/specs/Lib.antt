@@ -1,10 +1,7 @@
-pub mod Calls
 pub mod Causes
 pub mod Files
-pub mod Halves
-pub mod Held
 pub mod Loading
 pub mod Making
-pub mod Sure
 pub mod Writing
 pub mod Names
+pub mod Inner

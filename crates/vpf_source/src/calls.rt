@@ -1,7 +1,7 @@
 //! Calls that are counted, and fail where they are told to.
 
 ghost use Rattle.std.specs.Prelude.{◌≡◌, ◌≤◌, ◌↔◌, IsErr, IsTrue};
-ghost use Rattle.vpf_source.specs.Calls.{after_call, next_fails, no_calls};
+ghost use Rattle.vpf_source.specs.Inner.Calls.{after_call, next_fails, no_calls};
 
 use crate::error::Failed;
 use std::marker::Model;
@@ -15,7 +15,7 @@ pub struct CallLog {
 }
 
 impl Model for CallLog {
-    ghost use Rattle.vpf_source.specs.Calls.{Calls};
+    ghost use Rattle.vpf_source.specs.Inner.Calls.{Calls};
 
     ghost Value = { Calls };
 

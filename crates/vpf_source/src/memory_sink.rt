@@ -2,7 +2,7 @@
 
 ghost use Rattle.std.specs.Prelude.{◌≡◌, ◌≤◌, ◌<◌, [], Some, length, min, IsTrue, IsErrOf, IfOk, ◌↔◌};
 ghost use Rattle.std.specs.Io.KnownBytes.{WriteAppends};
-ghost use Rattle.vpf_source.specs.Calls.{after_call, next_fails, no_calls};
+ghost use Rattle.vpf_source.specs.Inner.Calls.{after_call, next_fails, no_calls};
 ghost use Rattle.vpf_source.specs.Causes.{Rose, Stood};
 
 use crate::calls::CallLog;
@@ -22,7 +22,7 @@ pub struct MemSink {
 }
 
 impl MemSink {
-    ghost use Rattle.vpf_source.specs.Held.{sink_calls, sink_piece};
+    ghost use Rattle.vpf_source.specs.Inner.Held.{sink_calls, sink_piece};
 
     /// A sink with no byte. A write takes at most `piece` bytes, and the writes whose numbers stand in `fail` fail.
     pub fn new(alloc: Global, piece: u32, fail: Vec<u64>) -> Self
@@ -48,7 +48,7 @@ impl MemSink {
 }
 
 impl Sink for MemSink {
-    ghost use Rattle.vpf_source.specs.Held.{sink_bytes, sink_calls, sink_piece};
+    ghost use Rattle.vpf_source.specs.Inner.Held.{sink_bytes, sink_calls, sink_piece};
 
     ghost written = { λ sink. Some (sink_bytes sink) };
 

@@ -3,7 +3,7 @@
 ghost use Rattle.std.specs.Prelude.{◌≡◌, ◌≤◌, ◌<◌, ◌-◌, Some, length, drop, min, IsErr, IsErrOf, IsTrue, IfOk, OnOk, OnErr, ◌↔◌};
 ghost use Rattle.std.specs.Option.{option_copied};
 ghost use Rattle.std.specs.Io.{ReadsAtMost};
-ghost use Rattle.vpf_source.specs.Calls.{after_call, next_fails, no_calls};
+ghost use Rattle.vpf_source.specs.Inner.Calls.{after_call, next_fails, no_calls};
 ghost use Rattle.vpf_source.specs.Causes.{Rose, Stood};
 ghost use Rattle.vpf_source.specs.Files.{ReadsFrom, ReadsFile, SameElsewhere, TellsSize, bytes_of, no_files, with_file};
 
@@ -27,8 +27,8 @@ pub struct MemTree {
 }
 
 impl MemTree {
-    ghost use Rattle.vpf_source.specs.Held.{tree_calls, tree_files, tree_piece};
-    ghost use Rattle.vpf_source.specs.Halves.{MayHold, first_half};
+    ghost use Rattle.vpf_source.specs.Inner.Held.{tree_calls, tree_files, tree_piece};
+    ghost use Rattle.vpf_source.specs.Inner.Halves.{MayHold, first_half};
 
     /// A tree with no file. A read gives at most `piece` bytes, and the calls whose numbers stand in `fail` fail.
     pub fn new(alloc: Global, piece: u32, fail: Vec<u64>) -> Self
@@ -80,8 +80,8 @@ impl MemTree {
 }
 
 impl Tree for MemTree {
-    ghost use Rattle.vpf_source.specs.Held.{tree_calls, tree_files, tree_piece};
-    ghost use Rattle.vpf_source.specs.Halves.{MayHold, first_half};
+    ghost use Rattle.vpf_source.specs.Inner.Held.{tree_calls, tree_files, tree_piece};
+    ghost use Rattle.vpf_source.specs.Inner.Halves.{MayHold, first_half};
 
     ghost files = { λ tree. Some (tree_files tree) };
 

@@ -3,7 +3,7 @@
 ghost use Rattle.std.specs.Prelude.{◌≡◌, Some, [], OnErr, OnOk};
 ghost use Rattle.std.specs.Option.{option_copied};
 ghost use Rattle.vpf_source.specs.Files.{no_files, with_file};
-ghost use Rattle.vpf_source.specs.Held.{tree_calls};
+ghost use Rattle.vpf_source.specs.Inner.Held.{tree_calls};
 
 use crate::error::{DeviceError, Failed};
 use crate::memory_tree::MemTree;
@@ -20,7 +20,7 @@ pub struct SureTree {
 }
 
 impl SureTree {
-    ghost use Rattle.vpf_source.specs.Sure.{sure_files};
+    ghost use Rattle.vpf_source.specs.Inner.Sure.{sure_files};
 
     /// A tree with no file.
     pub fn new(alloc: Global) -> Self
@@ -50,7 +50,7 @@ impl SureTree {
 }
 
 impl Tree for SureTree {
-    ghost use Rattle.vpf_source.specs.Sure.{sure_files};
+    ghost use Rattle.vpf_source.specs.Inner.Sure.{sure_files};
 
     ghost files = { λ tree. Some (sure_files tree) };
 

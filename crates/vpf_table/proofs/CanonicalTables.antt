@@ -1,10 +1,10 @@
 -- The canonical table is spelled so, and is read again.
-use Rattle.std.specs.Prelude.{All}
-use Rattle.std.proofs.Common.{◌≡◌, ℕ, ◌+◌, ◌-◌, ◌^◌, ◌<◌, ◌≤◌, List, [], ◌∷◌, ◌++◌, length, drop, Bool, true, false, cond, Some, None, Ok, refl, sym, ap, subst, ◌∙◌, arith}
-use Rattle.std.proofs.lemmas.List.{length-append, drop_at, drop-drop}
-use Rattle.std.proofs.lemmas.List.Elements.{All-head, All-tail, All-nil, All-cons}
+use Rattle.std.specs.Prelude.{[], All}
+use Rattle.std.proofs.Common.{◌≡◌, ℕ, ◌+◌, ◌-◌, ◌≤◌, List, ◌∷◌, ◌++◌, length, drop, Bool, true, false, cond, Some, None, Ok, refl, sym, ap, subst, ◌∙◌, arith}
+use Rattle.std.proofs.lemmas.List.{drop_at, drop-drop}
+use Rattle.std.proofs.lemmas.List.Elements.{All-head, All-tail}
 use Rattle.vpf_base.specs.Bytes.{IsBytes}
-use Rattle.vpf_triplet.specs.declared.orders.Order.{Order}
+use Rattle.vpf_base.specs.declared.orders.Order.{Order}
 use Rattle.vpf_triplet.specs.declared.kinds.Kind.{Kind}
 use Rattle.vpf_triplet.specs.declared.kinds.Count.{Count}
 use Rattle.vpf_findings.specs.Values.{Value}
@@ -13,7 +13,7 @@ use Rattle.vpf_findings.specs.Fitting.{FitsCell}
 use Rattle.vpf_findings.specs.Canonical.{spelled}
 use Rattle.vpf_head.specs.Canonical.{canonical_text, canonical_header}
 use Rattle.vpf_head.specs.Head.{Head, Col, varies_in}
-use Rattle.vpf_head.specs.Soundness.{IsSound}
+use Rattle.vpf_head.specs.Inner.Soundness.{IsSound}
 use Rattle.vpf_head.specs.Reading.{header_of}
 use Rattle.vpf_head.specs.Spelling.{IsHeader}
 use Rattle.vpf_varindex.specs.RowIndex.{row_index, HasSpan}
@@ -23,10 +23,11 @@ use Rattle.vpf_table.specs.Walking.{past_of}
 use Rattle.vpf_table.specs.Opening.{spans_at, start_of, row_spans, opened_of}
 use Rattle.vpf_table.specs.Spelling.{IsRow, IsRows, IsTable}
 use Rattle.vpf_table.specs.Canonical.{FitsRow, IsSmall, IsWritable, row_text, rows_text, spans_from, canonical_table, canonical_spans, canonical_index, in_order}
-use Rattle.vpf_table.specs.Lower.{CellAndHeaderLaws}
+use Rattle.vpf_table.specs.Inner.Lower.{CellAndHeaderLaws}
 use Rattle.vpf_table.proofs.ReadRows.{SpelledFits, rows_fit}
 use Rattle.vpf_table.proofs.RowLaws.{row_again}
 use Rattle.vpf_table.proofs.TableLaws.{table_takes}
+use Rattle.vpf_table.specs.Inner.CanonicalLaws.{SoundInOrder}
 
 -- ---- what is written is spelled
 
@@ -63,10 +64,6 @@ table_spelled cell header g w e =
 
 -- ---- what is read can be written
 
--- a sound header is sound in either order
-abbrev pub SoundInOrder : Type 0
-SoundInOrder = (h : Head) (order : Order) → IsSound h → IsSound (record h { order = order })
-
 pub read_writable : CellAndHeaderLaws → SpelledFits → SoundInOrder → (bytes : List ℕ) (g : Grid) (order : Order) → IsBytes bytes → table_of bytes ≡ Ok g → IsWritable (in_order order g)
 read_writable laws fits in_each bytes g order are e =
     let t = table_takes laws bytes g are e in
@@ -100,16 +97,6 @@ table_spans laws cell header g w e =
     let front = canonical_header g.head in
     let start = ap start_of (header g.head (rows_text o cs g.rows) w.sound e.text) in
     ap (spans_at (length g.rows) o cs (canonical_table g)) start ∙ spans_written laws cell o cs g.rows (canonical_table g) (length front) w.fits (drop_at front (rows_text o cs g.rows) (length front) refl)
-
-spans_small : (o : Order) (cs : List Col) (at : ℕ) (rows : List Row) → at + length (rows_text o cs rows) < 2 ^ 32 → All HasSpan (spans_from o cs at rows)
-unfolding rows_text spans_from
-spans_small o cs at [] h = All-nil HasSpan
-spans_small o cs at (row ∷ rows) h =
-    let whole = length-append (row_text o cs row) (rows_text o cs rows) in
-    All-cons HasSpan (at, length (row_text o cs row)) (spans_from o cs (at + length (row_text o cs row)) rows) (omega (arith, h, whole), omega (arith, h, whole)) (spans_small o cs (at + length (row_text o cs row)) rows (omega (arith, h, whole)))
-
-pub table_has_spans : (g : Grid) → IsSmall g → All HasSpan (canonical_spans g)
-table_has_spans g e = spans_small g.head.order g.head.columns (length (canonical_header g.head)) g.rows (omega (arith, e.bytes, length-append (canonical_header g.head) (rows_text g.head.order g.head.columns g.rows)))
 
 -- a table's own index is taken as its own
 abbrev pub OwnIsTaken : Type 0

@@ -6,7 +6,7 @@ use Rattle.std.proofs.lemmas.Option.{slice_get-get_or}
 use Rattle.vpf_base.proofs.Lists.{next_item}
 use Rattle.vpf_base.proofs.Results.{ok_is, bind_ok}
 use Rattle.vpf_base.specs.Results.{◌>>=◌}
-use Rattle.vpf_triplet.specs.declared.orders.Order.{Order}
+use Rattle.vpf_base.specs.declared.orders.Order.{Order}
 use Rattle.vpf_triplet.specs.declared.places.Place.{Place}
 use Rattle.vpf_findings.specs.Values.{Value}
 use Rattle.vpf_head.specs.Head.{Col}

@@ -9,7 +9,7 @@ use Rattle.vpf_head.specs.Head.{Head}
 use Rattle.vpf_head.specs.Reading.{header_of}
 use Rattle.vpf_varindex.specs.Reading.{index_at}
 use Rattle.vpf_table.specs.declared.counted.Counted.{Counted}
-use Rattle.vpf_table.specs.Counts.{IsCountOf, IsCountedAs}
+use Rattle.vpf_table.specs.Inner.Counts.{IsCountOf, IsCountedAs}
 use Rattle.vpf_table.specs.Grid.{Grid}
 use Rattle.vpf_table.specs.Opening.{row_spans, owned, opened_of}
 use Rattle.vpf_table.specs.Reading.{rows_at, table_of}

@@ -4,10 +4,10 @@ use Rattle.std.specs.Prelude.{IfSome}
 use Rattle.vpf_base.proofs.Results.{ok_is}
 use Rattle.vpf_base.specs.Bytes.{IsBytes}
 use Rattle.vpf_triplet.specs.declared.places.Place.{Place}
-use Rattle.vpf_table.specs.Deciding.{Decides}
+use Rattle.vpf_table.specs.Inner.Deciding.{Decides}
 use Rattle.vpf_table.specs.Faults.{FirstFault}
 use Rattle.vpf_table.specs.Grid.{Grid}
-use Rattle.vpf_table.specs.Lower.{CellAndHeaderLaws, IndexLaws}
+use Rattle.vpf_table.specs.Inner.Lower.{CellAndHeaderLaws, IndexLaws}
 use Rattle.vpf_table.specs.Opening.{opened_of}
 use Rattle.vpf_table.specs.Spans.{IsOpened}
 use Rattle.vpf_table.proofs.FaultLaws.{opening_faults}

@@ -8,7 +8,7 @@ use Rattle.vpf_base.proofs.ByteLists.{IsBytes-drop}
 use Rattle.vpf_base.specs.Results.{◌>>=◌}
 use Rattle.vpf_base.specs.Bytes.{IsBytes}
 use Rattle.vpf_base.proofs.Results.{failed, err_is, no_ok}
-use Rattle.vpf_triplet.specs.declared.orders.Order.{Order}
+use Rattle.vpf_base.specs.declared.orders.Order.{Order}
 use Rattle.vpf_triplet.specs.declared.places.Place.{Place}
 use Rattle.vpf_triplet.specs.declared.places.Code.{Code}
 use Rattle.vpf_triplet.specs.declared.places.Code.TheVariants as codes
@@ -23,7 +23,7 @@ use Rattle.vpf_varindex.specs.RowIndex.{IsRowIndex}
 use Rattle.vpf_table.specs.Faults as faults
 use Rattle.vpf_table.specs.Faults.{Begins, Stops, TableFault, Differs, FirstFault}
 use Rattle.vpf_table.specs.Grid.{Row, Grid}
-use Rattle.vpf_table.specs.Lower.{CellAndHeaderLaws, IndexLaws}
+use Rattle.vpf_table.specs.Inner.Lower.{CellAndHeaderLaws, IndexLaws}
 use Rattle.vpf_table.specs.Opening.{row_spans, first_other, unless_other, owned, opened_of}
 use Rattle.vpf_table.specs.Reading.{lifted, row_at, rows_at, table_of}
 use Rattle.vpf_table.specs.Spelling.{IsRow, IsRows}

@@ -1,5 +1,5 @@
 -- Rows of one width stand at multiples of it.
-use Rattle.std.proofs.Common.{◌≡◌, ℕ, zero, suc, ◌+◌, ◌-◌, ◌*◌, ◌<◌, ◌≤◌, leb, List, [], ◌∷◌, length, drop, Option, Some, None, Result, Ok, Err, refl, sym, ap, subst, ◌∙◌, arith, inl, inr}
+use Rattle.std.proofs.Common.{[], ◌≡◌, ℕ, zero, suc, ◌+◌, ◌-◌, ◌*◌, ◌<◌, ◌≤◌, leb, List, ◌∷◌, length, drop, Option, Some, None, Result, Ok, Err, refl, sym, ap, subst, ◌∙◌, arith, inl, inr}
 use Rattle.std.specs.Prelude.{slice_get, IsOk}
 use Rattle.std.proofs.lemmas.Bool.{leb-false, cases_lt}
 use Rattle.std.proofs.lemmas.List.{length-drop}
@@ -7,7 +7,7 @@ use Rattle.vpf_base.specs.Limits.{most_rows}
 use Rattle.vpf_base.proofs.Booleans.{tested}
 use Rattle.vpf_base.proofs.Results.{ok_is, bind_ok}
 use Rattle.vpf_base.specs.Results.{◌>>=◌}
-use Rattle.vpf_triplet.specs.declared.orders.Order.{Order}
+use Rattle.vpf_base.specs.declared.orders.Order.{Order}
 use Rattle.vpf_triplet.specs.declared.places.Place.{Place}
 use Rattle.vpf_triplet.specs.declared.places.Code.{Code}
 use Rattle.vpf_triplet.specs.declared.places.Code.TheVariants as codes
@@ -22,10 +22,13 @@ use Rattle.vpf_head.specs.Head.{Col}
 use Rattle.vpf_table.specs.Grid.{Row}
 use Rattle.vpf_table.specs.Reading.{lifted, cell_in, row_at, rows_at}
 use Rattle.vpf_table.specs.Walking.{rows_of, end_of, counted}
-use Rattle.vpf_table.specs.Widths.{add_width, width_of}
-use Rattle.vpf_table.proofs.WalkLemmas.{cell_passed, row_passed}
+use Rattle.vpf_table.specs.Inner.Widths.{add_width, width_of}
+use Rattle.vpf_table.proofs.WalkLemmas.{row_passed}
+use Rattle.vpf_table.specs.Inner.WalkLaws.{cell_passed}
 use Rattle.vpf_table.proofs.Parts.{lifted_ok, rows}
 use Rattle.vpf_table.proofs.CellOf.{opens}
+use Rattle.vpf_table.specs.Inner.WidthLaws.{added, add_by}
+use Rattle.vpf_base.proofs.Options.{some_is}
 
 abbrev found : Value × ℕ → Result (Value × ℕ) Code
 found x = Ok x
@@ -35,9 +38,6 @@ found_is x y e = cc
 
 same_len : (u v : Value) (m n : ℕ) → found (u, m) ≡ found (v, n) → m ≡ n
 same_len u v m n e = ap (λ (x : Value × ℕ). x.1) (found_is (u, m) (v, n) e)
-
-pub some_is : (a b : ℕ) → Option.Some a ≡ Some b → a ≡ b
-some_is a b e = cc
 
 -- cells of one width end there, or are cut where fewer bytes are left
 abbrev pub FixedCells : Type 0
@@ -78,11 +78,6 @@ cell_past cells o c bytes at w f inside ok =
       | inl lt ↦ absurd (cut_fails at (cell_from o c.kind c.count rest) CellCut ((cells o c.kind c.count rest w f).cut lt) ok)
       | inr le ↦ let z = (cells o c.kind c.count rest w f).whole le in (whole_by at w z.0 (cell_from o c.kind c.count rest) z.1, omega (arith, le, length-drop at bytes, inside))
     ]
-
-pub added : (a b : Option ℕ) (w : ℕ) → add_width a b ≡ Some w → (x : ℕ) × (y : ℕ) × (a ≡ Some x) × (b ≡ Some y) × (x + y ≡ w)
-added None b w e = absurd cc
-added (Some a) None w e = absurd cc
-added (Some a) (Some b) w e = (a, b, refl, refl, some_is (a + b) w e)
 
 pub row_len : FixedCells → (o : Order) (cs : List Col) (bytes : List ℕ) (at : ℕ) (r : Row) (n w : ℕ) → width_of cs ≡ Some w → row_at o cs bytes at ≡ Ok (r, n) → n ≡ at + w
 unfolding row_at
@@ -136,10 +131,6 @@ row_stands cells (suc m) o cs bytes at rs w k f e h =
 pub rows_read : (r : Result (List Row) Place) → IsOk r → r ≡ Ok (rows_of r)
 rows_read (Ok rs) h = refl
 rows_read (Err p) h = absurd cc
-
-add_by : (sum x : ℕ) (w : Option ℕ) → add_width (Some (sum + x)) w ≡ add_width (Some sum) (add_width (Some x) w)
-add_by sum x None = refl
-add_by sum x (Some w) = ap (λ (k : ℕ). Some k) (omega arith)
 
 pub add_step : (sum x : ℕ) (total : Option ℕ) (c : Col) (cs : List Col) → cell_width c.kind c.count ≡ Some x → add_width (Some sum) (width_of (c ∷ cs)) ≡ total → add_width (Some (sum + x)) (width_of cs) ≡ total
 add_step sum x total c cs e h = add_by sum x (width_of cs) ∙ (rw (← e) h)

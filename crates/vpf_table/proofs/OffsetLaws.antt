@@ -1,19 +1,21 @@
 -- Cells behind columns of one width begin where these end.
-use Rattle.std.proofs.Common.{◌≡◌, ℕ, zero, suc, ◌+◌, ◌<◌, ◌≤◌, List, [], ◌∷◌, ◌++◌, length, take, drop, get_or, Option, Some, Ok, sym, ap, ◌∙◌, arith, inl, inr}
+use Rattle.std.proofs.Common.{[], ◌≡◌, ℕ, zero, suc, ◌+◌, ◌<◌, ◌≤◌, List, ◌∷◌, ◌++◌, length, take, drop, get_or, Option, Some, Ok, sym, ap, ◌∙◌, arith, inl, inr}
 use Rattle.std.specs.Prelude.{slice_get}
 use Rattle.std.proofs.lemmas.Bool.{cases_lt}
 use Rattle.std.proofs.lemmas.List.{length-append, take_more, get_or_append_left, get_or_push}
 use Rattle.std.proofs.lemmas.Option.{slice_get_within, slice_get-get_or, get_or_from_slice_get}
 use Rattle.vpf_base.proofs.Results.{ok_is}
-use Rattle.vpf_triplet.specs.declared.orders.Order.{Order}
+use Rattle.vpf_base.specs.declared.orders.Order.{Order}
 use Rattle.vpf_findings.specs.Widths.{cell_width}
 use Rattle.vpf_head.specs.Head.{Col}
 use Rattle.vpf_table.specs.Grid.{Row}
-use Rattle.vpf_table.specs.Offsets.{AreOffsets}
+use Rattle.vpf_table.specs.Inner.Offsets.{AreOffsets}
 use Rattle.vpf_table.specs.Reading.{row_at}
-use Rattle.vpf_table.specs.Widths.{width_of}
+use Rattle.vpf_table.specs.Inner.Widths.{width_of}
 use Rattle.vpf_table.proofs.CellOf.{opens}
-use Rattle.vpf_table.proofs.FixedWidth.{FixedCells, added, cell_ends, some_is}
+use Rattle.vpf_table.proofs.FixedWidth.{FixedCells, cell_ends}
+use Rattle.vpf_table.specs.Inner.WidthLaws.{added}
+use Rattle.vpf_base.proofs.Options.{some_is}
 
 -- the width of columns and of one behind them
 width_one : (a b : ℕ) (cs : List Col) (c : Col) → width_of cs ≡ Some a → cell_width c.kind c.count ≡ Some b → width_of (cs ++ c ∷ []) ≡ Some (a + b)

@@ -1,9 +1,9 @@
 -- Rows of one width: their bytes are the canonical ones.
-use Rattle.std.specs.Prelude.{IsOk}
-use Rattle.std.proofs.Common.{◌≡◌, ◌≢◌, ℕ, ◌≤◌, List, [], ◌∷◌, length, drop, Some, None, refl, sym, ap, ◌∙◌}
+use Rattle.std.specs.Prelude.{[], IsOk}
+use Rattle.std.proofs.Common.{◌≡◌, ◌≢◌, ℕ, ◌≤◌, List, ◌∷◌, length, drop, Some, None, refl, sym, ap, ◌∙◌}
 use Rattle.vpf_base.specs.Limits.{most_rows}
 use Rattle.vpf_base.specs.Bytes.{IsBytes}
-use Rattle.vpf_triplet.specs.declared.orders.Order.{Order}
+use Rattle.vpf_base.specs.declared.orders.Order.{Order}
 use Rattle.vpf_triplet.specs.declared.kinds.Kind.{Kind}
 use Rattle.vpf_triplet.specs.declared.kinds.Kind.TheVariants as kinds
 use Rattle.vpf_triplet.specs.declared.kinds.Count.{Count}
@@ -15,11 +15,12 @@ use Rattle.vpf_head.specs.Head.{Col}
 use Rattle.vpf_table.specs.Grid.{Row}
 use Rattle.vpf_table.specs.Reading.{rows_at}
 use Rattle.vpf_table.specs.Walking.{rows_of}
-use Rattle.vpf_table.specs.Widths.{width_of}
+use Rattle.vpf_table.specs.Inner.Widths.{width_of}
 use Rattle.vpf_table.specs.Spelling.{IsRow, IsRows}
 use Rattle.vpf_table.specs.Canonical.{row_text, rows_text}
-use Rattle.vpf_table.specs.Lower.{CellAndHeaderLaws}
-use Rattle.vpf_table.proofs.FixedWidth.{added, rows_read}
+use Rattle.vpf_table.specs.Inner.Lower.{CellAndHeaderLaws}
+use Rattle.vpf_table.proofs.FixedWidth.{rows_read}
+use Rattle.vpf_table.specs.Inner.WidthLaws.{added}
 use Rattle.vpf_table.proofs.RowLaws.{rows_take}
 
 -- ---- what is read is canonical

@@ -1,11 +1,11 @@
 -- Rows that are read fit their columns, and their canonical spelling is no longer than what was read.
-use Rattle.std.specs.Prelude.{All, IsOk, IsTrue}
-use Rattle.std.proofs.Common.{◌≡◌, ℕ, ◌-◌, ◌≤◌, List, [], ◌∷◌, length, drop, ap, arith}
+use Rattle.std.specs.Prelude.{[], All, IsOk, IsTrue}
+use Rattle.std.proofs.Common.{ℕ, ◌-◌, ◌≤◌, List, ◌∷◌, length, drop, ap, arith}
 use Rattle.std.proofs.lemmas.List.{length-append, length-drop}
 use Rattle.std.proofs.lemmas.List.Elements.{All-head, All-tail, All-nil, All-cons}
 use Rattle.vpf_base.specs.Limits.{most_rows}
 use Rattle.vpf_base.specs.Bytes.{IsBytes}
-use Rattle.vpf_triplet.specs.declared.orders.Order.{Order}
+use Rattle.vpf_base.specs.declared.orders.Order.{Order}
 use Rattle.vpf_triplet.specs.declared.kinds.Kind.{Kind}
 use Rattle.vpf_triplet.specs.declared.kinds.Count.{Count}
 use Rattle.vpf_triplet.specs.Kinds.{allows}
@@ -14,15 +14,16 @@ use Rattle.vpf_findings.specs.Spelling.{IsCell}
 use Rattle.vpf_findings.specs.Fitting.{FitsCell}
 use Rattle.vpf_findings.specs.Canonical.{spelled}
 use Rattle.vpf_head.specs.Head.{Col}
-use Rattle.vpf_head.specs.Soundness.{IsCounted}
+use Rattle.vpf_head.specs.Inner.Soundness.{IsCounted}
 use Rattle.vpf_table.specs.Grid.{Row}
 use Rattle.vpf_table.specs.Reading.{rows_at}
 use Rattle.vpf_table.specs.Walking.{rows_of}
 use Rattle.vpf_table.specs.Spelling.{IsRow, IsRows}
 use Rattle.vpf_table.specs.Canonical.{FitsRow, row_text, rows_text}
-use Rattle.vpf_table.specs.Lower.{CellAndHeaderLaws}
+use Rattle.vpf_table.specs.Inner.Lower.{CellAndHeaderLaws}
 use Rattle.vpf_table.proofs.RowLaws.{rows_take}
 use Rattle.vpf_table.proofs.FixedWidth.{rows_read}
+use Rattle.vpf_table.specs.Inner.OrderLaws.{EitherOrder}
 
 -- what is spelled fits
 abbrev pub SpelledFits : Type 0
@@ -31,10 +32,6 @@ SpelledFits = (o : Order) (kind : Kind) (count : Count) (v : Value) (bytes : Lis
 -- no spelling is shorter than the canonical one
 abbrev pub Shortest : Type 0
 Shortest = (o : Order) (kind : Kind) (count : Count) (v : Value) (bytes : List ℕ) → IsCell o kind count v bytes → length (spelled o kind count v) ≤ length bytes
-
--- it is as long in either order
-abbrev pub EitherOrder : Type 0
-EitherOrder = (o p : Order) (kind : Kind) (count : Count) (v : Value) → length (spelled o kind count v) ≡ length (spelled p kind count v)
 
 pub row_fits : SpelledFits → (o : Order) (cs : List Col) (row : Row) (x : List ℕ) → All IsCounted cs → IsRow o cs row x → FitsRow cs row
 row_fits fits o [] [] x s h = tt

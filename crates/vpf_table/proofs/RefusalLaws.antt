@@ -4,7 +4,7 @@ use Rattle.std.specs.Prelude.{◌==◌, ◌&&◌}
 use Rattle.std.proofs.lemmas.Bool.{lt-leb, eq-eqb, ne_eqb}
 use Rattle.std.proofs.lemmas.List.{drop_at, drop-drop, length-append, length-drop}
 use Rattle.vpf_base.specs.Limits.{most_rows}
-use Rattle.vpf_triplet.specs.declared.orders.Order.{Order}
+use Rattle.vpf_base.specs.declared.orders.Order.{Order}
 use Rattle.vpf_triplet.specs.declared.places.Place.{Place}
 use Rattle.vpf_triplet.specs.declared.places.Code.{Code}
 use Rattle.vpf_triplet.specs.declared.places.Code.TheVariants as codes
@@ -17,7 +17,7 @@ use Rattle.vpf_varindex.specs.Reading.{index_at}
 use Rattle.vpf_table.specs.Faults as faults
 use Rattle.vpf_table.specs.Faults.{Begins, Stops, TableFault, Differs, FirstFault}
 use Rattle.vpf_table.specs.Grid.{Row, Grid}
-use Rattle.vpf_table.specs.Lower.{CellAndHeaderLaws, IndexLaws}
+use Rattle.vpf_table.specs.Inner.Lower.{CellAndHeaderLaws, IndexLaws}
 use Rattle.vpf_table.specs.Opening.{row_spans, first_other, opened_of}
 use Rattle.vpf_table.specs.Reading.{row_at, rows_at, table_of}
 use Rattle.vpf_table.specs.Spelling.{IsRow, IsRows}

@@ -9,7 +9,7 @@ use Rattle.vpf_base.proofs.Results.{ok_is, bind_ok}
 use Rattle.vpf_base.specs.Results.{◌>>=◌}
 use Rattle.vpf_base.specs.Bytes.{IsBytes}
 use Rattle.vpf_base.proofs.ByteLists.{IsBytes-drop}
-use Rattle.vpf_triplet.specs.declared.orders.Order.{Order}
+use Rattle.vpf_base.specs.declared.orders.Order.{Order}
 use Rattle.vpf_triplet.specs.declared.places.Code.TheVariants as codes
 use Rattle.vpf_triplet.specs.Places.{fault}
 use Rattle.vpf_findings.specs.Reading.{cell_from}
@@ -18,7 +18,7 @@ use Rattle.vpf_head.specs.Head.{Col}
 use Rattle.vpf_table.specs.Grid.{Row}
 use Rattle.vpf_table.specs.Reading.{cell_in, row_at, rows_at}
 use Rattle.vpf_table.specs.Spelling.{IsRow, IsRows}
-use Rattle.vpf_table.specs.Lower.{CellAndHeaderLaws}
+use Rattle.vpf_table.specs.Inner.Lower.{CellAndHeaderLaws}
 use Rattle.vpf_table.proofs.Parts.{lifted_ok, rows}
 
 -- rows of these columns take at least a byte each

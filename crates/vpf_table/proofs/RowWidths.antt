@@ -6,7 +6,7 @@ use Rattle.vpf_base.specs.Limits.{most_rows}
 use Rattle.vpf_base.proofs.Booleans.{tested}
 use Rattle.vpf_base.proofs.Results.{ok_is, bind_ok}
 use Rattle.vpf_base.specs.Results.{◌>>=◌}
-use Rattle.vpf_triplet.specs.declared.orders.Order.{Order}
+use Rattle.vpf_base.specs.declared.orders.Order.{Order}
 use Rattle.vpf_triplet.specs.declared.places.Code.TheVariants as codes
 use Rattle.vpf_triplet.specs.Places.{fault}
 use Rattle.vpf_head.specs.Head.{Col}

@@ -7,7 +7,7 @@ use Rattle.std.proofs.lemmas.Slice.Eq.{starts_is}
 use Rattle.vpf_base.specs.Bytes.{IsBytes}
 use Rattle.vpf_head.specs.Head.{Head}
 use Rattle.vpf_head.specs.Reading.{header_of}
-use Rattle.vpf_table.specs.Lower.{CellAndHeaderLaws}
+use Rattle.vpf_table.specs.Inner.Lower.{CellAndHeaderLaws}
 
 pub header_shared : CellAndHeaderLaws → (bytes own : List ℕ) (h : Head) (start : ℕ) → IsBytes own → header_of own ≡ Ok (h, start) → starts_with eqb bytes (take start own) ≡ true → header_of bytes ≡ Ok (h, start)
 header_shared laws bytes own h start fits read begins =

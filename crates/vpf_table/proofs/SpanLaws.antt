@@ -9,7 +9,7 @@ use Rattle.vpf_base.proofs.Booleans.{tested}
 use Rattle.vpf_base.proofs.Results.{ok_is, bind_ok}
 use Rattle.vpf_base.specs.Results.{◌>>=◌}
 use Rattle.vpf_base.specs.Bytes.{IsBytes}
-use Rattle.vpf_triplet.specs.declared.orders.Order.{Order}
+use Rattle.vpf_base.specs.declared.orders.Order.{Order}
 use Rattle.vpf_triplet.specs.declared.places.Code.TheVariants as codes
 use Rattle.vpf_triplet.specs.Places.{fault}
 use Rattle.vpf_head.specs.Head.{Head, Col}
@@ -21,7 +21,7 @@ use Rattle.vpf_table.specs.Reading.{row_at, rows_at, table_of}
 use Rattle.vpf_table.specs.Spelling.{IsRow, IsRows, IsTable}
 use Rattle.vpf_table.specs.Opening.{spans_at, start_of, row_spans, owned, opened_of}
 use Rattle.vpf_table.specs.Spans.{AreSpans, LieAt, IsIndexed, IsOpened}
-use Rattle.vpf_table.specs.Lower.{CellAndHeaderLaws, IndexLaws}
+use Rattle.vpf_table.specs.Inner.Lower.{CellAndHeaderLaws, IndexLaws}
 use Rattle.vpf_table.proofs.Parts.{rows}
 use Rattle.vpf_table.proofs.CellOf.{is_ok_from}
 use Rattle.vpf_table.proofs.RowLaws.{row_again, row_takes}

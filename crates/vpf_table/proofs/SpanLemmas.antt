@@ -4,7 +4,7 @@ use Rattle.std.specs.Prelude.{IsOk, slice_get, ◌&&◌}
 use Rattle.std.proofs.lemmas.Bool.{eqb-true, eq-eqb}
 use Rattle.vpf_base.proofs.Results.{ok_is, done}
 use Rattle.vpf_base.proofs.Lists.{next_item}
-use Rattle.vpf_triplet.specs.declared.orders.Order.{Order}
+use Rattle.vpf_base.specs.declared.orders.Order.{Order}
 use Rattle.vpf_triplet.specs.declared.places.Place.{Place}
 use Rattle.vpf_findings.specs.Reading.{cell_from}
 use Rattle.vpf_head.specs.Head.{Col}

@@ -8,7 +8,7 @@ use Rattle.vpf_base.specs.Limits.{most_rows}
 use Rattle.vpf_base.proofs.Results.{ok_is, bind_ok}
 use Rattle.vpf_base.specs.Results.{◌>>=◌}
 use Rattle.vpf_base.specs.Bytes.{IsBytes}
-use Rattle.vpf_triplet.specs.declared.orders.Order.{Order}
+use Rattle.vpf_base.specs.declared.orders.Order.{Order}
 use Rattle.vpf_triplet.specs.declared.kinds.Kind.{Kind}
 use Rattle.vpf_triplet.specs.declared.kinds.Kind.TheVariants as kinds
 use Rattle.vpf_triplet.specs.declared.kinds.Count.{Count}
@@ -16,11 +16,11 @@ use Rattle.vpf_triplet.specs.declared.kinds.Count.TheVariants.{Fixed}
 use Rattle.vpf_findings.specs.Values.{Value}
 use Rattle.vpf_head.specs.Head.{Head, Col, is_data, holds_data}
 use Rattle.vpf_head.specs.Reading.{header_of}
-use Rattle.vpf_head.specs.Soundness.{IsInBounds, IsCounted, IsSound}
+use Rattle.vpf_head.specs.Inner.Soundness.{IsInBounds, IsCounted, IsSound}
 use Rattle.vpf_table.specs.Grid.{Row, Grid}
 use Rattle.vpf_table.specs.Reading.{rows_at, table_of}
 use Rattle.vpf_table.specs.Spelling.{IsRow, IsTable}
-use Rattle.vpf_table.specs.Lower.{CellAndHeaderLaws}
+use Rattle.vpf_table.specs.Inner.Lower.{CellAndHeaderLaws}
 use Rattle.vpf_table.proofs.RowLaws.{HasRoom, rows_again, rows_take}
 
 data_is_not_x : (kind : Kind) → is_data kind ≡ true → kind ≢ kinds.X

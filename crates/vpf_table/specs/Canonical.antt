@@ -1,12 +1,12 @@
 -- The canonical bytes of a table (MIL-STD-2407, 5.4, VPF table encoding) and of its variable-length index.
 use Rattle.std.specs.Prelude.{ℕ, ◌+◌, ◌<◌, ◌≤◌, ◌^◌, List, [], ◌∷◌, ◌++◌, length, Option, Some, None, if◌then◌else◌, All}
 use Rattle.vpf_base.specs.Limits.{longest_text, most_rows}
-use Rattle.vpf_triplet.specs.declared.orders.Order.{Order}
+use Rattle.vpf_base.specs.declared.orders.Order.{Order}
 use Rattle.vpf_findings.specs.Canonical.{spelled}
 use Rattle.vpf_findings.specs.Fitting.{FitsCell}
 use Rattle.vpf_head.specs.Canonical.{canonical_text, canonical_header}
 use Rattle.vpf_head.specs.Head.{Col, varies_in}
-use Rattle.vpf_head.specs.Soundness.{IsSound}
+use Rattle.vpf_head.specs.Inner.Soundness.{IsSound}
 use Rattle.vpf_varindex.specs.RowIndex.{row_index}
 use Rattle.vpf_table.specs.Grid.{Row, Grid}
 

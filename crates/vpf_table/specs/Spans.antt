@@ -2,7 +2,7 @@
 -- apart from reading.
 use Rattle.std.specs.Prelude.{◌≡◌, ℕ, ◌+◌, ◌≤◌, List, [], ◌∷◌, ◌++◌, length, Option, Some, None}
 use Rattle.vpf_base.specs.Limits.{most_rows}
-use Rattle.vpf_triplet.specs.declared.orders.Order.{Order}
+use Rattle.vpf_base.specs.declared.orders.Order.{Order}
 use Rattle.vpf_head.specs.Head.{Col}
 use Rattle.vpf_head.specs.Spelling.{IsHeader}
 use Rattle.vpf_varindex.specs.RowIndex.{IsRowIndex}

@@ -1,7 +1,7 @@
 -- The grammar of rows and tables (MIL-STD-2407, 5.4, VPF table encoding), apart from reading.
 use Rattle.std.specs.Prelude.{◌≡◌, ℕ, ◌≤◌, List, [], ◌∷◌, ◌++◌, length}
 use Rattle.vpf_base.specs.Limits.{most_rows}
-use Rattle.vpf_triplet.specs.declared.orders.Order.{Order}
+use Rattle.vpf_base.specs.declared.orders.Order.{Order}
 use Rattle.vpf_findings.specs.Spelling.{IsCell}
 use Rattle.vpf_head.specs.Head.{Col}
 use Rattle.vpf_head.specs.Spelling.{IsHeader}

@@ -4,7 +4,7 @@ ghost use Rattle.std.specs.Prelude.{◌≡◌, ◌≤◌, ◌<◌, Some, IfSome,
 ghost use Rattle.vpf_base.specs.Limits.{most_rows};
 ghost use Rattle.vpf_table.specs.Reading.{rows_at};
 ghost use Rattle.vpf_table.specs.Walking.{counted};
-ghost use Rattle.vpf_table.specs.Widths.{width_of};
+ghost use Rattle.vpf_table.specs.Inner.Widths.{width_of};
 
 use crate::placed_header::PlacedHeader;
 use crate::walking::skip_row;

@@ -2,12 +2,12 @@
 
 ghost use Rattle.std.specs.Prelude.{◌≡◌, ◌≤◌, ◌<◌, ℕ, All, false, IfSome, IsOk, IsSome, Some, length};
 ghost use Rattle.vpf_base.specs.Limits.{most_rows};
-ghost use Rattle.vpf_triplet.specs.declared.orders.Order.{Order};
+ghost use Rattle.vpf_base.specs.declared.orders.Order.{Order};
 ghost use Rattle.vpf_head.specs.Head.{varies_in};
 ghost use Rattle.vpf_table.specs.Canonical.{FitsRow, rows_text};
 ghost use Rattle.vpf_table.specs.Reading.{rows_at};
 ghost use Rattle.vpf_table.specs.Walking.{rows_of};
-ghost use Rattle.vpf_table.specs.Widths.{width_of};
+ghost use Rattle.vpf_table.specs.Inner.Widths.{width_of};
 
 use crate::laws::cells_and_headers;
 use crate::placed_header::PlacedHeader;

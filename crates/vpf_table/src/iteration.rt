@@ -24,7 +24,7 @@ impl<'t, 'a> Model for Rows<'t, 'a> {
 
     ghost Value = { List Row };
 
-    ghost use Rattle.vpf_table.specs.RowsLeft.{rows_left, AreRowsRead};
+    ghost use Rattle.vpf_table.specs.Inner.RowsLeft.{rows_left, AreRowsRead};
 
     ghost view = { rows_left };
 
@@ -37,7 +37,7 @@ impl<'t, 'a> Rows<'t, 'a> {
     ghost use Rattle.vpf_base.specs.Limits.{most_rows};
     ghost use Rattle.vpf_table.specs.Reading.{rows_at};
     ghost use Rattle.vpf_table.specs.Walking.{rows_of};
-    ghost use Rattle.vpf_table.specs.Widths.{width_of};
+    ghost use Rattle.vpf_table.specs.Inner.Widths.{width_of};
 
     /// The rows from `at` on, which are known to be spelled.
     pub(crate) fn new(

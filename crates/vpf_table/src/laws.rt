@@ -2,20 +2,20 @@
 
 ghost use Rattle.std.specs.Prelude.{◌≡◌, ◌<◌, ◌+◌, ◌^◌, ℕ, All, List, Option, IfSome, Ok, Err, Some, length, slice_get, slice_range};
 ghost use Rattle.vpf_base.specs.Bytes.{IsBytes};
-ghost use Rattle.vpf_triplet.specs.declared.orders.Order.{Order};
+ghost use Rattle.vpf_base.specs.declared.orders.Order.{Order};
 ghost use Rattle.vpf_triplet.specs.declared.places.Place.{Place};
 ghost use Rattle.vpf_varindex.specs.RowIndex.{row_index, HasSpan};
 ghost use Rattle.vpf_table.specs.Grid.{Grid, Row};
 ghost use Rattle.vpf_head.specs.Head.{Col};
 ghost use Rattle.vpf_table.specs.Canonical.{IsSmall, IsWritable, canonical_table, canonical_spans, canonical_index, in_order, rows_text};
-ghost use Rattle.vpf_table.specs.Widths.{width_of};
+ghost use Rattle.vpf_table.specs.Inner.Widths.{width_of};
 ghost use Rattle.vpf_table.specs.Reading.{table_of};
 ghost use Rattle.vpf_table.specs.Spelling.{IsRow, IsRows, IsTable};
-ghost use Rattle.vpf_table.specs.Deciding.{Decides};
+ghost use Rattle.vpf_table.specs.Inner.Deciding.{Decides};
 ghost use Rattle.vpf_table.specs.Faults.{FirstFault};
 ghost use Rattle.vpf_table.specs.Opening.{opened_of, row_spans};
 ghost use Rattle.vpf_table.specs.Spans.{IsOpened};
-ghost use Rattle.vpf_table.specs.Lower.{CellAndHeaderLaws, IndexLaws};
+ghost use Rattle.vpf_table.specs.Inner.Lower.{CellAndHeaderLaws, IndexLaws};
 
 use vpf_findings::value::laws as cells;
 use vpf_head::laws as headers;

@@ -22,7 +22,7 @@ impl<'a> Model for PlacedHeader<'a> {
 
     ghost Value = { Head };
 
-    ghost use Rattle.vpf_table.specs.PlacedHeaders.{placed_head, HasOffsets};
+    ghost use Rattle.vpf_table.specs.Inner.PlacedHeaders.{placed_head, HasOffsets};
 
     ghost view = { placed_head };
 
@@ -40,10 +40,10 @@ fn past_column(column: &Column<'_>, offset: usize) -> Option<usize>
 impl<'a> PlacedHeader<'a> {
     ghost use Rattle.std.specs.Prelude.{◌≡◌, ◌≤◌, ◌<◌, IfOk, Some, length, slice_get, take};
     ghost use Rattle.vpf_head.specs.Head.{varies_in};
-    ghost use Rattle.vpf_head.specs.Soundness.{IsSound};
-    ghost use Rattle.vpf_head.specs.Views.{col};
-    ghost use Rattle.vpf_table.specs.Offsets.{AreOffsets};
-    ghost use Rattle.vpf_table.specs.Widths.{width_of};
+    ghost use Rattle.vpf_head.specs.Inner.Soundness.{IsSound};
+    ghost use Rattle.vpf_head.specs.Inner.Views.{col};
+    ghost use Rattle.vpf_table.specs.Inner.Offsets.{AreOffsets};
+    ghost use Rattle.vpf_table.specs.Inner.Widths.{width_of};
 
     /// How many bytes the columns before each have, up to the first column whose cells vary.
     fn offsets_of(alloc: Global, header: &Header<'_>) -> Result<Vec<usize>, AllocError>

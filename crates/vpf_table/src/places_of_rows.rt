@@ -7,9 +7,9 @@ use vpf_varindex::IndexView;
 
 impl<'a> TableFile<'a> {
     ghost use Rattle.std.specs.Prelude.{◌≡◌, ◌<◌, IfSome, Some, length};
-    ghost use Rattle.vpf_table.specs.FileTables.{RowStandsAt};
+    ghost use Rattle.vpf_table.specs.Inner.FileTables.{RowStandsAt};
     ghost use Rattle.vpf_table.specs.Opening.{row_spans};
-    ghost use Rattle.vpf_table.specs.Widths.{width_of};
+    ghost use Rattle.vpf_table.specs.Inner.Widths.{width_of};
 
     /// Where row `k`, counted from 0, begins among rows of one width.
     fn fixed_place(&self, width: usize, k: u32) -> usize

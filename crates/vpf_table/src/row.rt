@@ -3,7 +3,7 @@
 ghost use Rattle.std.specs.Prelude.{◌≡◌, ◌≤◌, ◌<◌, ◌+◌, Some, IsOk, length, slice_get};
 ghost use Rattle.vpf_findings.specs.Values.{view};
 ghost use Rattle.vpf_table.specs.Reading.{row_at};
-ghost use Rattle.vpf_table.specs.RowWalks.{IsLeft};
+ghost use Rattle.vpf_table.specs.Inner.RowWalks.{IsLeft};
 ghost use Rattle.vpf_table.specs.Walking.{row_of};
 
 use crate::placed_header::PlacedHeader;
@@ -25,7 +25,7 @@ impl<'t, 'a> Model for RowView<'t, 'a> {
 
     ghost Value = { Row };
 
-    ghost use Rattle.vpf_table.specs.RowViews.{row_cells, IsRowRead};
+    ghost use Rattle.vpf_table.specs.Inner.RowViews.{row_cells, IsRowRead};
 
     ghost view = { row_cells };
 
@@ -141,7 +141,7 @@ impl<'t, 'a> Model for RowWalk<'t, 'a> {
 
     ghost Value = { Row };
 
-    ghost use Rattle.vpf_table.specs.RowWalks.{cells_walked, IsWalked};
+    ghost use Rattle.vpf_table.specs.Inner.RowWalks.{cells_walked, IsWalked};
 
     ghost view = { cells_walked };
 
@@ -188,7 +188,7 @@ impl<'t, 'a> Model for Cells<'t, 'a> {
 
     ghost Value = { Row };
 
-    ghost use Rattle.vpf_table.specs.CellsLeft.{cells_left, AreCellsRead};
+    ghost use Rattle.vpf_table.specs.Inner.CellsLeft.{cells_left, AreCellsRead};
 
     ghost view = { cells_left };
 

@@ -3,7 +3,7 @@
 ghost use Rattle.std.specs.Prelude.{◌≡◌, ◌≤◌, IfOk, Ok, length};
 ghost use Rattle.vpf_triplet.specs.Places.{Answers};
 ghost use Rattle.vpf_head.specs.Reading.{header_of};
-ghost use Rattle.vpf_table.specs.Counts.{IsCountOf};
+ghost use Rattle.vpf_table.specs.Inner.Counts.{IsCountOf};
 ghost use Rattle.vpf_table.specs.Reading.{table_of};
 
 use crate::counted::Counted;
@@ -34,11 +34,11 @@ pub struct TableFile<'a> {
 }
 
 impl<'a> Model for TableFile<'a> {
-    ghost use Rattle.vpf_table.specs.FileTables.{FileTable};
+    ghost use Rattle.vpf_table.specs.Inner.FileTables.{FileTable};
 
     ghost Value = { FileTable };
 
-    ghost use Rattle.vpf_table.specs.TableFiles.{file_of, IsRead};
+    ghost use Rattle.vpf_table.specs.Inner.TableFiles.{file_of, IsRead};
 
     ghost view = { file_of };
 
@@ -124,13 +124,13 @@ impl<'a> TableFile<'a> {
     ghost use Rattle.std.specs.Prelude.{◌≡◌, ◌≤◌, ◌<◌, ◌^◌, ℕ, All, false, IfOk, IfSome, IsSome, IsTrue, Ok, Some, length, slice_get};
     ghost use Rattle.vpf_base.specs.Bytes.{IsBytes};
     ghost use Rattle.vpf_triplet.specs.Places.{Answers, Gives};
-    ghost use Rattle.vpf_triplet.specs.declared.orders.Order.{Order};
+    ghost use Rattle.vpf_base.specs.declared.orders.Order.{Order};
     ghost use Rattle.vpf_head.specs.Head.{varies_in};
     ghost use Rattle.vpf_table.specs.Canonical.{FitsRow, rows_text};
     ghost use Rattle.vpf_table.specs.Opening.{opened_of, row_spans};
     ghost use Rattle.vpf_base.specs.Limits.{most_rows};
     ghost use Rattle.vpf_table.specs.Reading.{table_of};
-    ghost use Rattle.vpf_table.specs.Widths.{width_of};
+    ghost use Rattle.vpf_table.specs.Inner.Widths.{width_of};
 
     /// The table of a file: its header, and one row after another up to the end. Refused exactly where the bytes are no
     /// table, at the first fault, as `TableView::open` tells. Rows of one width are counted without a look at them. Takes

@@ -28,7 +28,7 @@ impl<'a> Model for TableView<'a> {
 
     ghost Value = { Grid };
 
-    ghost use Rattle.vpf_table.specs.Views.{grid_of, HasOwnIndex};
+    ghost use Rattle.vpf_table.specs.Inner.Views.{grid_of, HasOwnIndex};
 
     ghost view = { grid_of };
 
@@ -114,14 +114,14 @@ impl<'a> TableView<'a> {
     ghost use Rattle.std.specs.Prelude.{◌≡◌, ◌≤◌, ◌+◌, ◌-◌, ◌==◌, ◌<◌, ◌^◌, ℕ, All, false, IfOk, IfErr, IfSome, IsSome, IsTrue, Ok, Some, length, slice_get};
     ghost use Rattle.std.specs.Option.{option_copied};
     ghost use Rattle.vpf_triplet.specs.Places.{Answers, ForPlace};
-    ghost use Rattle.vpf_table.specs.Counts.{IsCountOf};
+    ghost use Rattle.vpf_table.specs.Inner.Counts.{IsCountOf};
     ghost use Rattle.vpf_table.specs.Faults.{FirstFault};
     ghost use Rattle.vpf_table.specs.Grid.{Grid};
-    ghost use Rattle.vpf_triplet.specs.declared.orders.Order.{Order};
+    ghost use Rattle.vpf_base.specs.declared.orders.Order.{Order};
     ghost use Rattle.vpf_table.specs.Canonical.{FitsRow, rows_text};
     ghost use Rattle.vpf_base.specs.Limits.{most_rows};
     ghost use Rattle.vpf_head.specs.Head.{varies_in};
-    ghost use Rattle.vpf_table.specs.Widths.{width_of};
+    ghost use Rattle.vpf_table.specs.Inner.Widths.{width_of};
     ghost use Rattle.vpf_table.specs.Opening.{opened_of};
     ghost use Rattle.vpf_table.specs.Reading.{table_of};
     ghost use Rattle.vpf_table.specs.Spans.{IsOpened};

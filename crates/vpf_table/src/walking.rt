@@ -2,10 +2,10 @@
 
 ghost use Rattle.std.specs.Prelude.{◌≡◌, ◌≤◌, ◌<◌, ◌^◌, ℕ, IsOk, Ok, Some, IfOk, IfSome, length};
 ghost use Rattle.vpf_findings.specs.Values.{view};
-ghost use Rattle.vpf_head.specs.Views.{col};
+ghost use Rattle.vpf_head.specs.Inner.Views.{col};
 ghost use Rattle.vpf_table.specs.Reading.{cell_in, row_at};
 ghost use Rattle.vpf_table.specs.Walking.{end_of, past_of};
-ghost use Rattle.vpf_table.specs.Widths.{width_of};
+ghost use Rattle.vpf_table.specs.Inner.Widths.{width_of};
 
 use crate::placed_header::PlacedHeader;
 use vpf_findings::value::laws::fixed_cells;

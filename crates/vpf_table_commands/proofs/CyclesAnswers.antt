@@ -10,7 +10,7 @@ use Rattle.vpf_findings.specs.Printing.{disagree_text}
 use Rattle.vpf_table.specs.Grid.{Grid}
 use Rattle.vpf_table.specs.Reading.{table_of}
 use Rattle.vpf_wing.specs.Boundaries.{table_finding}
-use Rattle.vpf_wing.specs.Laws.{HasBoundaryListing, OneBoundaryListing}
+use Rattle.vpf_wing.specs.Inner.Laws.{HasBoundaryListing, OneBoundaryListing}
 use Rattle.vpf_replies.specs.Answer.{Answer, done, refused}
 use Rattle.vpf_replies.specs.Found.{IsLoadedAnswer, large_answer, missing_answer, on_loaded}
 use Rattle.vpf_replies.specs.declared.halting.Halt.{Halt}

@@ -15,8 +15,8 @@ use Rattle.vpf_triplet.specs.Places.{Answers, ForPlace}
 use Rattle.vpf_table.specs.Grid.{Grid}
 use Rattle.vpf_table.specs.Reading.{table_of}
 use Rattle.vpf_feed.specs.declared.summary.Summary.{Summary}
-use Rattle.vpf_feed.specs.Progress.{FeedProgress, summed}
-use Rattle.vpf_feed.specs.Stages.{HoldsFed}
+use Rattle.vpf_feed.specs.Inner.Progress.{FeedProgress, summed}
+use Rattle.vpf_feed.specs.Inner.Stages.{HoldsFed}
 use Rattle.vpf_replies.specs.declared.halting.Halt.{Halt}
 use Rattle.vpf_replies.specs.declared.halting.Halt.TheVariants as halts
 use Rattle.vpf_replies.specs.Answer.{Answer, done}
@@ -25,7 +25,7 @@ use Rattle.vpf_replies.specs.Halting.{Halts, TellsFault}
 use Rattle.vpf_replies.specs.Tables.{on_table}
 use Rattle.vpf_table_commands.specs.declared.accepting.TableRequest.{TableRequest}
 use Rattle.vpf_table_commands.specs.Accept.{accepted_text, summed_answer, table_answer, table_bytes_answer}
-use Rattle.vpf_table_commands.specs.Feeding.{HaltsSummed, IsHaltOf}
+use Rattle.vpf_table_commands.specs.Inner.Feeding.{HaltsSummed, IsHaltOf}
 
 -- what is fed behind the first bytes of a file, where it is what the file has there
 pub fed_more : (file piece : List ℕ) (at n : ℕ) (p : FeedProgress) → piece ≡ take n (drop at file) → HoldsFed p (take at file ++ piece) → HoldsFed p (take (at + n) file)

@@ -2,8 +2,8 @@
 use Rattle.std.proofs.Common.{◌≡◌, ◌∙◌, ℕ, List, ◌∷◌, Option, None, Some, Result, Ok, refl, sym, ap, subst}
 use Rattle.vpf_base.specs.Bytes.{IsBytes}
 use Rattle.vpf_source.specs.declared.file.File.{File}
-use Rattle.vpf_triplet.specs.declared.orders.Order.{Order}
-use Rattle.vpf_triplet.specs.declared.orders.Order.TheVariants.{Little, Big}
+use Rattle.vpf_base.specs.declared.orders.Order.{Order}
+use Rattle.vpf_base.specs.declared.orders.Order.TheVariants.{Little, Big}
 use Rattle.vpf_triplet.specs.declared.places.Part.{Part}
 use Rattle.vpf_triplet.specs.declared.places.Place.{Place}
 use Rattle.vpf_table.specs.declared.limit.Limit.{Limit}

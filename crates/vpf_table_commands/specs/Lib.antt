@@ -1,8 +1,8 @@
 pub mod Words
 pub mod Show
 pub mod Accept
-pub mod Feeding
 pub mod Cycles
 pub mod Swap
 pub mod Index
 pub mod Rows
+pub mod Inner

@@ -1,7 +1,7 @@
 -- `show`: the header and the rows of a table.
 use Rattle.std.specs.Prelude.{ℕ, suc, List, [], ◌∷◌, length, Option, Some, None, codes}
 use Rattle.std.specs.Fmt.{decimal}
-use Rattle.vpf_triplet.specs.Numbers.{order_text}
+use Rattle.vpf_base.specs.Numbers.{order_text}
 use Rattle.vpf_triplet.specs.Kinds.{kind_text, count_text}
 use Rattle.vpf_head.specs.Head.{Head, Col}
 use Rattle.vpf_head.specs.Fields.{key_text}

@@ -4,8 +4,8 @@ use Rattle.std.specs.Str.{bytes_eq}
 use Rattle.vpf_base.specs.Bytes.{IsBytes}
 use Rattle.vpf_source.specs.Files.{Files}
 use Rattle.vpf_source.specs.declared.file.File.{File}
-use Rattle.vpf_triplet.specs.declared.orders.Order.{Order}
-use Rattle.vpf_triplet.specs.declared.orders.Order.TheVariants.{Little, Big}
+use Rattle.vpf_base.specs.declared.orders.Order.{Order}
+use Rattle.vpf_base.specs.declared.orders.Order.TheVariants.{Little, Big}
 use Rattle.vpf_triplet.specs.declared.places.Part.{Part}
 use Rattle.vpf_table.specs.declared.limit.Limit.{Limit}
 use Rattle.vpf_table.specs.Canonical.{canonical_table, in_order}
@@ -13,7 +13,7 @@ use Rattle.vpf_table.specs.Grid.{Grid}
 use Rattle.vpf_table.specs.Limits.{bound_text}
 use Rattle.vpf_table.specs.Reading.{table_of}
 use Rattle.vpf_write.specs.declared.in_place.Turning.{Turning as TableTurning}
-use Rattle.vpf_write.specs.InPlace.{HasRoom, turned_file}
+use Rattle.vpf_write.specs.Inner.InPlace.{HasRoom, turned_file}
 use Rattle.vpf_write.specs.Writing.{first_limit}
 use Rattle.vpf_source.specs.Names.Indexes.{ends_in_x}
 use Rattle.vpf_write.specs.Made.Files.{part_name, table_files}

@@ -2,9 +2,9 @@
 
 ghost use Rattle.std.specs.Prelude.{◌≡◌, ◌≢◌, ◌≤◌, [], IfOk, Some, length, take};
 ghost use Rattle.vpf_source.specs.Files.{Files, bytes_of};
-ghost use Rattle.vpf_feed.specs.Stages.{HoldsFed};
+ghost use Rattle.vpf_feed.specs.Inner.Stages.{HoldsFed};
 ghost use Rattle.vpf_replies.specs.Halting.{TellsFault};
-ghost use Rattle.vpf_table_commands.specs.Feeding.{IsFedOn, IsFedWhole, IsHaltOf, IsSummed};
+ghost use Rattle.vpf_table_commands.specs.Inner.Feeding.{IsFedOn, IsFedWhole, IsHaltOf, IsSummed};
 
 use std::alloc::Global;
 use vpf_feed::{Summary, TableFeed};

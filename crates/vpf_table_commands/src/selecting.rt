@@ -3,7 +3,7 @@
 ghost use Rattle.std.specs.Prelude.{◌≡◌, ◌<◌, IfOk, Some, length, map, slice_get, string_bytes};
 ghost use Rattle.vpf_source.specs.Files.{Files};
 ghost use Rattle.vpf_head.specs.Head.{Col};
-ghost use Rattle.vpf_head.specs.Views.{col};
+ghost use Rattle.vpf_head.specs.Inner.Views.{col};
 ghost use Rattle.vpf_source.specs.Names.Indexes.{index_name};
 ghost use Rattle.vpf_source.specs.Names.Naming.{file_name};
 ghost use Rattle.vpf_replies.specs.Halting.{ComesTo, TellsFault};

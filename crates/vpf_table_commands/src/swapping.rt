@@ -2,7 +2,7 @@
 
 ghost use Rattle.std.specs.Prelude.{◌≡◌, ◌∷◌, IfOk, Some, map, string_bytes};
 ghost use Rattle.vpf_source.specs.Files.{Files};
-ghost use Rattle.vpf_write.specs.InPlace.{HasRoom};
+ghost use Rattle.vpf_write.specs.Inner.InPlace.{HasRoom};
 ghost use Rattle.vpf_source.specs.Names.Naming.{file_name};
 ghost use Rattle.vpf_table.specs.Limits.{bound_text};
 ghost use Rattle.vpf_table.specs.Spelling.{IsTable};

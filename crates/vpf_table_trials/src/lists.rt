@@ -1,7 +1,7 @@
 //! Tables that are written from lists of cells, which no command does.
 
 ghost use Rattle.std.specs.Prelude.{◌≡◌, ◌++◌, IfOk, OnOk};
-ghost use Rattle.vpf_write.specs.Cuts.{joined};
+ghost use Rattle.vpf_write.specs.Inner.Cuts.{joined};
 
 use crate::same::same;
 use std::alloc::{AllocError, Global};

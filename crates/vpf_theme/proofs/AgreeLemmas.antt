@@ -10,7 +10,7 @@ use Rattle.vpf_findings.specs.Findings.{Disagreement, NumberSeen, disagreement_o
 use Rattle.vpf_table.specs.Grid.{Row, Grid}
 use Rattle.vpf_findings.specs.declared.errors.FindError.{FindError}
 use Rattle.vpf_findings.specs.declared.errors.FindError.TheVariants as errors
-use Rattle.vpf_findings.specs.FirstLaws.{or-none_both}
+use Rattle.vpf_findings.specs.Inner.FirstLaws.{or-none_both}
 use Rattle.vpf_theme.specs.Entries.{Theme}
 use Rattle.vpf_findings.specs.Firsts.{Tells, first_over}
 use Rattle.vpf_theme.specs.Findings.{at, cells_of, entries_finding, first_finding, fits_line, kind_line, row_count_line, missing_line, of_column}

@@ -1,5 +1,5 @@
 -- No finding is agreement, and agreement is no finding.
-use Rattle.std.proofs.Common.{◌≡◌, ℕ, zero, suc, ◌+◌, ◌<◌, ◌≤◌, Bool, true, false, not, ◌||◌, ◌&&◌, ◌==◌, nat_eq, cond, List, [], ◌∷◌, length, take, get_or, Option, Some, None, refl, sym, ap, subst, ◌∙◌, arith, inl, inr}
+use Rattle.std.proofs.Common.{[], ◌≡◌, ℕ, zero, suc, ◌+◌, ◌<◌, ◌≤◌, Bool, true, false, not, ◌||◌, ◌&&◌, ◌==◌, nat_eq, cond, List, ◌∷◌, length, take, get_or, Option, Some, None, refl, sym, ap, subst, ◌∙◌, arith, inl, inr}
 use Rattle.std.specs.Prelude.{Contains, find, nat_le, option_map}
 use Rattle.std.specs.List.{list_any, range_with_len}
 use Rattle.std.specs.List.Sorted.{IsStrictlyIncreasing}
@@ -7,7 +7,7 @@ use Rattle.std.specs.Option.{option_or}
 use Rattle.std.proofs.lemmas.Bool.{false≢true, cases_lt, eqb-true, eq-eqb}
 use Rattle.std.proofs.lemmas.Bool.Decides.{nat_tests}
 use Rattle.std.proofs.lemmas.Slice.Eq.{bytes_eq-Decides}
-use Rattle.vpf_triplet.proofs.KindLemmas.{kinds_same, counts_same}
+use Rattle.vpf_triplet.specs.Inner.KindLaws.{kinds_same, counts_same}
 use Rattle.vpf_base.proofs.Booleans.{not_false}
 use Rattle.vpf_triplet.specs.declared.kinds.Kind.{Kind}
 use Rattle.vpf_triplet.specs.declared.kinds.Count.{Count}
@@ -15,12 +15,12 @@ use Rattle.vpf_triplet.specs.Kinds.{kind_text, same_kind, is_fixed}
 use Rattle.vpf_value.specs.Values.{Value}
 use Rattle.vpf_head.specs.Head.{Col}
 use Rattle.vpf_findings.specs.Findings.{Disagreement}
-use Rattle.vpf_findings.specs.FirstLaws.{or-none_both, over_none, over_silent}
+use Rattle.vpf_findings.specs.Inner.FirstLaws.{or-none_both, over_none, over_silent}
 use Rattle.vpf_theme.specs.Ordering.{same_value}
 use Rattle.vpf_theme.specs.Entries.{Entry, Theme}
 use Rattle.vpf_theme.specs.Findings.{cell_of, entry_at, kind_line, row_count_line, fits_line, stands, missing_line, entry_place, repeated_line, other_line, first_fall, fall_line, lines_at, entries_finding, first_finding}
 use Rattle.vpf_theme.specs.Agreeing.{AgreesWithColumn, HaveRows}
-use Rattle.vpf_theme.specs.KeyLaws.{Decides-same_value, same_yes, same_no}
+use Rattle.vpf_theme.specs.Inner.KeyLaws.{Decides-same_value, same_yes, same_no}
 use Rattle.vpf_theme.proofs.AgreeLemmas.{fits_rows}
 
 -- ---- kinds and counts

@@ -10,8 +10,8 @@ use Rattle.vpf_theme.specs.declared.layout.Layout.{Layout}
 use Rattle.vpf_theme.specs.Ordering.{value_cmp}
 use Rattle.vpf_theme.specs.Entries.{Entry, entry_of, theme_in, value_of}
 use Rattle.vpf_theme.specs.Findings.{entry_at}
-use Rattle.vpf_theme.specs.KeyLaws.{same_yes, same_no}
-use Rattle.vpf_theme.specs.Searching.{compared_between, compared_by_halves, compared_in_turn}
+use Rattle.vpf_theme.specs.Inner.KeyLaws.{same_yes, same_no}
+use Rattle.vpf_theme.specs.Inner.Searching.{compared_between, compared_by_halves, compared_in_turn}
 use Rattle.vpf_theme.proofs.EntryLemmas.{view_value}
 
 -- ---- one by one

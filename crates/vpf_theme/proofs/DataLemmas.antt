@@ -1,5 +1,5 @@
 -- The data of an entry on which no line says anything.
-use Rattle.std.proofs.Common.{◌≡◌, ℕ, zero, suc, ◌+◌, ◌-◌, ◌*◌, ◌/◌, ◌<◌, ◌≤◌, Bool, true, false, not, cond, List, [], ◌∷◌, length, map, None, refl, sym, subst, arith, inl, inr}
+use Rattle.std.proofs.Common.{[], ◌≡◌, ℕ, zero, suc, ◌+◌, ◌-◌, ◌*◌, ◌/◌, ◌<◌, ◌≤◌, Bool, true, false, not, cond, List, ◌∷◌, length, map, None, refl, sym, subst, arith, inl, inr}
 use Rattle.std.specs.Prelude.{All, nat_eq, filter}
 use Rattle.std.specs.List.{range_with_len}
 use Rattle.std.proofs.lemmas.Bool.{ne_eqb, eq-eqb, cases_eq}
@@ -7,7 +7,7 @@ use Rattle.std.proofs.lemmas.Bool.Decides.{nat_tests}
 use Rattle.std.proofs.lemmas.List.FromFn.{get_or-map-range_with_len, length-map-range_with_len}
 use Rattle.vpf_base.proofs.Booleans.{not_false}
 use Rattle.vpf_triplet.specs.declared.places.Code.TheVariants as codes
-use Rattle.vpf_findings.specs.FirstLaws.{or-none_both, over_none}
+use Rattle.vpf_findings.specs.Inner.FirstLaws.{or-none_both, over_none}
 use Rattle.vpf_theme.specs.declared.layout.Form.{Form}
 use Rattle.vpf_theme.specs.declared.layout.Form.TheVariants as forms
 use Rattle.vpf_theme.specs.declared.layout.Layout.{Layout}
@@ -16,8 +16,9 @@ use Rattle.vpf_theme.specs.Layouts.{entry_start, row_bytes}
 use Rattle.vpf_theme.specs.Entries.{entry_of, extent_of, is_marked, listed_rows, number_at, number_start, rows_by}
 use Rattle.vpf_findings.specs.Firsts.{first_over}
 use Rattle.vpf_theme.specs.Reading.{fault_where, is_behind, is_row, is_bitmap, number_line, numbers_line, list_line, pad_line, bitmap_line, entry_rows_line, entry_line, entries_line}
-use Rattle.vpf_theme.specs.Views.{AreRows, HasData}
-use Rattle.vpf_theme.proofs.FaultLemmas.{no_fault, entry_none, entry_rows}
+use Rattle.vpf_theme.specs.Inner.Views.{AreRows, HasData}
+use Rattle.vpf_theme.proofs.FaultLemmas.{no_fault, entry_rows}
+use Rattle.vpf_theme.specs.Inner.FaultLaws.{entry_none}
 
 pub list_many : (l : Layout) (bytes : List ℕ) (i : ℕ) (e : Extent) → list_line l bytes i e ≡ None → (e.count ≡ 0 → ⊥) → numbers_line l bytes i e ≡ None
 list_many l bytes i e h ne = rw (ne_eqb e.count 0 ne) at h

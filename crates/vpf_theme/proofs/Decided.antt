@@ -1,11 +1,11 @@
 -- Bytes are a file of one thematic index, or have one first fault.
 use Rattle.std.proofs.Common.{◌⊎◌, ◌≡◌, ℕ, List, Result, Ok, Err, refl, inl, inr}
 use Rattle.vpf_base.specs.Bytes.{IsBytes}
-use Rattle.vpf_triplet.specs.declared.orders.Order.{Order}
+use Rattle.vpf_base.specs.declared.orders.Order.{Order}
 use Rattle.vpf_triplet.specs.declared.places.Place.{Place}
-use Rattle.vpf_theme.specs.Deciding.{DecidesTheme}
+use Rattle.vpf_theme.specs.Inner.Deciding.{DecidesTheme}
 use Rattle.vpf_theme.specs.Entries.{Theme}
-use Rattle.vpf_theme.specs.Faults.{FirstThemeFault}
+use Rattle.vpf_theme.specs.Inner.Faults.{FirstThemeFault}
 use Rattle.vpf_theme.specs.Reading.{theme_of}
 use Rattle.vpf_theme.specs.Spelling.{IsThematicIndex}
 use Rattle.vpf_theme.proofs.EntryFaults.{theme_faults, theme_refused}

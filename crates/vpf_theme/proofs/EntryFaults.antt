@@ -10,15 +10,15 @@ use Rattle.vpf_base.specs.Results.{◌>>=◌}
 use Rattle.vpf_base.specs.Bytes.{IsBytes}
 use Rattle.vpf_base.proofs.Booleans.{all_three, not_true}
 use Rattle.vpf_base.proofs.Results.{failed, err_is, no_ok}
-use Rattle.vpf_triplet.specs.declared.orders.Order.{Order}
+use Rattle.vpf_base.specs.declared.orders.Order.{Order}
 use Rattle.vpf_triplet.specs.declared.places.Place.{Place}
 use Rattle.vpf_triplet.specs.declared.places.Code.TheVariants as codes
 use Rattle.vpf_triplet.specs.Places.{Gives, theme_fault}
 use Rattle.vpf_value.specs.Values.{Value}
 use Rattle.vpf_theme.specs.declared.layout.Layout.{Layout}
 use Rattle.vpf_theme.specs.Entries.{Entry, Theme, entry_of, extent_of, theme_in, value_of}
-use Rattle.vpf_theme.specs.Faults as faults
-use Rattle.vpf_theme.specs.Faults.{BeginsEntries, HasEntry, IsAbove, RowsFault, FirstThemeFault}
+use Rattle.vpf_theme.specs.Inner.Faults as faults
+use Rattle.vpf_theme.specs.Inner.Faults.{BeginsEntries, HasEntry, IsAbove, RowsFault, FirstThemeFault}
 use Rattle.vpf_theme.specs.Layouts.{HasValues, entry_bytes, entry_start, layout_of}
 use Rattle.vpf_theme.specs.Ordering.{value_cmp}
 use Rattle.vpf_theme.specs.Reading.{cut_line, entries_line, entry_line, rises_at, entry_rows_line, sort_line, theme_of, unless_fault}

@@ -1,26 +1,22 @@
 -- What is known of the entries of a directory where no line says anything.
-use Rattle.std.proofs.Common.{◌≡◌, ℕ, ◌+◌, ◌-◌, ◌<◌, Bool, true, false, not, ◌&&◌, List, length, None, refl, arith}
+use Rattle.std.proofs.Common.{◌≡◌, ℕ, ◌+◌, ◌-◌, ◌<◌, Bool, true, false, not, ◌&&◌, List, length, None, refl, arith, Ordering, Less}
 use Rattle.std.specs.Prelude.{nat_lt}
 use Rattle.std.specs.Option.{option_or}
-use Rattle.std.proofs.Common.{Ordering, Less}
 use Rattle.std.specs.Ordering.{is_lt}
 use Rattle.std.proofs.lemmas.Bool.Decides.{nat_tests}
 use Rattle.vpf_triplet.specs.declared.places.Code.{Code}
 use Rattle.vpf_triplet.specs.declared.places.Code.TheVariants as codes
-use Rattle.vpf_findings.specs.FirstLaws.{or-none_both, over_none}
+use Rattle.vpf_findings.specs.Inner.FirstLaws.{or-none_both}
 use Rattle.vpf_theme.specs.declared.layout.Layout.{Layout}
 use Rattle.vpf_theme.specs.Layouts.{entry_bytes, entry_start}
 use Rattle.vpf_theme.specs.Ordering.{value_cmp}
 use Rattle.vpf_theme.specs.Entries.{IsWhole, value_of, extent_of}
 use Rattle.vpf_theme.specs.Reading.{fault_where, cut_line, rises_at, sort_line, entry_rows_line, entry_line, entries_line}
+use Rattle.vpf_theme.specs.Inner.FaultLaws.{entry_none}
 
 pub no_fault : (b : Bool) (at : ℕ) (code : Code) → fault_where b at code ≡ None → b ≡ false
 no_fault true at code h = absurd cc
 no_fault false at code h = refl
-
-pub entry_none : (l : Layout) (bytes : List ℕ) (i : ℕ) → entries_line l bytes ≡ None → i < l.entries → entry_line l bytes i ≡ None
-unfolding entries_line
-entry_none l bytes i h k = over_none (entry_line l bytes) 0 l.entries h i (omega arith) (omega arith)
 
 pub entry_cut : (l : Layout) (bytes : List ℕ) (i : ℕ) → entry_line l bytes i ≡ None → cut_line l bytes i ≡ None
 unfolding entry_line

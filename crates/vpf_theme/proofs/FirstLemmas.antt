@@ -1,7 +1,7 @@
 -- Loops over numbers that stop at the first thing that a line says.
 use Rattle.std.proofs.Common.{◌≡◌, ℕ, ◌+◌, ◌-◌, ◌<◌, ◌≤◌, Option, Some, None, sym, ◌∙◌}
 use Rattle.vpf_findings.specs.Firsts.{first_over}
-use Rattle.vpf_findings.specs.FirstLaws.{over_pass, over_stop, over_end}
+use Rattle.vpf_findings.specs.Inner.FirstLaws.{over_pass, over_stop, over_end}
 
 -- nothing is said of k
 pub first_pass : {F : Type 0} (line : ℕ → Option F) (k n : ℕ) (whole : Option F) → k < n → first_over line k (n - k) ≡ whole → line k ≡ None → first_over line (k + 1) (n - (k + 1)) ≡ whole

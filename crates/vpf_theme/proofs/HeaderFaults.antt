@@ -2,12 +2,12 @@
 use Rattle.std.proofs.Common.{◌≡◌, ℕ, ◌≤◌, Bool, true, false, ◌||◌, cond, List, length, get_or, Option, Some, None, Result, Ok, Err, refl, ap, subst, ◌∙◌, arith}
 use Rattle.std.specs.Prelude.{◌≢◌, ◌==◌, nat_lt}
 use Rattle.std.proofs.lemmas.Bool.{eqb-false, le-ltb, lt-ltb, ltb-false, ltb-true, ne_eqb}
-use Rattle.vpf_triplet.proofs.KindLemmas.{length-kind}
+use Rattle.vpf_triplet.specs.Inner.KindLaws.{length-kind}
 use Rattle.vpf_base.specs.Results.{◌>>=◌}
 use Rattle.vpf_base.specs.Bytes.{IsBytes}
 use Rattle.vpf_base.proofs.Booleans.{neither}
 use Rattle.vpf_base.proofs.Results.{failed, err_is, no_ok, ok_is}
-use Rattle.vpf_triplet.specs.declared.orders.Order.{Order}
+use Rattle.vpf_base.specs.declared.orders.Order.{Order}
 use Rattle.vpf_triplet.specs.declared.kinds.Kind.{Kind}
 use Rattle.vpf_triplet.specs.declared.places.Place.{Place}
 use Rattle.vpf_triplet.specs.declared.places.Code.{Code}
@@ -17,11 +17,12 @@ use Rattle.vpf_triplet.specs.Places.{theme_fault}
 use Rattle.vpf_theme.specs.declared.layout.Form.{Form}
 use Rattle.vpf_theme.specs.declared.layout.RowSize.{RowSize}
 use Rattle.vpf_theme.specs.declared.layout.Layout.{Layout}
-use Rattle.vpf_theme.specs.Faults as faults
-use Rattle.vpf_theme.specs.Faults.{HasForm, HasKind, HasCount, HasRowSize, HeaderFault}
+use Rattle.vpf_theme.specs.Inner.Faults as faults
+use Rattle.vpf_theme.specs.Inner.Faults.{HasForm, HasKind, HasCount, HasRowSize, HeaderFault}
 use Rattle.vpf_theme.specs.Layouts.{asked, allowed_count, directory_end, header_fields, form_in, form_text, is_count, is_size, indexed_kind_of, layout_of, row_size_of, row_size_text, sized_layout, u32_at}
 use Rattle.vpf_theme.specs.Spelling.{StandsAt}
-use Rattle.vpf_theme.proofs.HeaderLemmas.{form_again, form_stands, from_count, from_form, from_kind, from_size, kind_again, kind_stands, layout_with, length-form, length-size, size_again, size_stands, then_ok}
+use Rattle.vpf_theme.proofs.HeaderLemmas.{form_again, form_stands, from_form, kind_again, kind_stands, size_again, size_stands, then_ok}
+use Rattle.vpf_theme.specs.Inner.HeaderLaws.{from_count, from_kind, from_size, layout_with, length-size, length-form}
 use Rattle.vpf_theme.proofs.PieceLemmas.{letter_there, u32_stands, u32_there}
 
 none_some : {X : Type 0} (x : X) (o : Option X) → o ≡ None → o ≡ Some x → ⊥

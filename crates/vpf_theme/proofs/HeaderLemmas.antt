@@ -1,18 +1,17 @@
 -- A header is spelled exactly where it is read.
-use Rattle.std.proofs.Common.{◌≡◌, ℕ, ◌<◌, ◌≤◌, ◌⊎◌, Bool, true, false, ◌||◌, cond, List, [], ◌∷◌, length, get_or, Option, Some, None, Result, Ok, Err, refl, sym, ap, subst, ◌∙◌, arith, inl, inr}
+use Rattle.std.proofs.Common.{[], ◌≡◌, ℕ, ◌<◌, ◌≤◌, ◌⊎◌, Bool, true, false, ◌||◌, cond, List, ◌∷◌, length, get_or, Option, Some, Result, Ok, Err, refl, sym, ap, subst, ◌∙◌, arith, inl, inr}
 use Rattle.std.specs.Prelude.{◌==◌, ◌↔◌, bytes_eq, find, nat_lt}
 use Rattle.std.proofs.lemmas.Bool.{eq-eqb, eqb-true, le-ltb, ltb-false}
 use Rattle.std.proofs.lemmas.Slice.Eq.{bytes_eq-Decides}
-use Rattle.vpf_triplet.proofs.KindLemmas.{length-kind}
+use Rattle.vpf_triplet.specs.Inner.KindLaws.{length-kind}
 use Rattle.vpf_base.specs.Results.{◌>>=◌}
 use Rattle.vpf_base.specs.Bytes.{IsBytes}
-use Rattle.vpf_base.proofs.Results.{guarded, done, ok_is}
+use Rattle.vpf_base.proofs.Results.{guarded, ok_is}
 use Rattle.vpf_base.proofs.Booleans.{or_true, same_bool}
-use Rattle.vpf_triplet.specs.declared.orders.Order.{Order}
+use Rattle.vpf_base.specs.declared.orders.Order.{Order}
 use Rattle.vpf_triplet.specs.declared.kinds.Kind.{Kind}
 use Rattle.vpf_triplet.specs.declared.kinds.Kind.TheVariants as kinds
 use Rattle.vpf_triplet.specs.declared.places.Place.{Place}
-use Rattle.vpf_triplet.specs.declared.places.Code.{Code}
 use Rattle.vpf_triplet.specs.declared.places.Code.TheVariants as codes
 use Rattle.vpf_triplet.specs.Kinds.{kind_text}
 use Rattle.vpf_triplet.specs.Places.{theme_fault}
@@ -24,16 +23,14 @@ use Rattle.vpf_theme.specs.declared.layout.Layout.{Layout}
 use Rattle.vpf_theme.specs.Layouts.{HasValues, asked, allowed_count, directory_end, header_fields, form_in, form_text, is_count, is_indexed, is_size, indexed_kinds, is_sorted_mark, indexed_kind_of, layout_of, row_size_of, row_size_text, sized_layout, u32_at}
 use Rattle.vpf_theme.specs.Spelling.{IsThemeHeader, StandsAt}
 use Rattle.vpf_theme.proofs.PieceLemmas.{byte_stands, letter_there, u32_stands, u32_there}
+use Rattle.vpf_base.proofs.Options.{count_case}
+use Rattle.vpf_theme.specs.Inner.HeaderLaws.{length-form, length-size, asked_some, from_size, layout_with, from_kind, from_count}
 
 -- ---- letters
 
 pub form_again : (form : Form) → form_in (get_or (form_text form) 0 0) ≡ Some form
 form_again forms.List = refl
 form_again forms.Bitmap = refl
-
-pub length-form : (form : Form) → length (form_text form) ≡ 1
-length-form forms.List = refl
-length-form forms.Bitmap = refl
 
 pub kind_again : (kind : Kind) → is_indexed kind ≡ true → indexed_kind_of (get_or (kind_text kind) 0 0) ≡ Some kind
 kind_again kinds.T h = refl
@@ -55,10 +52,6 @@ kind_again kinds.Y h = absurd (cc h)
 pub size_again : (size : RowSize) → row_size_of (get_or (row_size_text size) 0 0) ≡ Some size
 size_again sizes.Short = refl
 size_again sizes.Long = refl
-
-pub length-size : (size : RowSize) → length (row_size_text size) ≡ 1
-length-size sizes.Short = refl
-length-size sizes.Long = refl
 
 -- ---- what is spelled is read
 
@@ -119,29 +112,9 @@ kind_stands bytes at kind h e =
     let f = found_one (λ (x : Kind). is_indexed x ≡ true) (λ (x : Kind). bytes_eq (get_or bytes at 0 ∷ []) (kind_text x)) indexed_kinds kind (refl, (refl, (refl, (refl, (refl, (refl, (refl, (refl, (refl, tt))))))))) e in
     (f.1, letter_stands bytes (kind_text kind) at h f.0)
 
-count_case : (b : Bool) (n m : ℕ) → cond b (Some n) None ≡ Some m → (b ≡ true) × (n ≡ m)
-count_case true n m e = (refl, cc e)
-count_case false n m e = absurd (cc e)
-
-asked_some : {X : Type 0} (at : ℕ) (code : Code) (o : Option X) (x : X) → asked at code o ≡ Ok x → o ≡ Some x
-asked_some at code None x e = absurd (cc e)
-asked_some at code (Some y) x e = let k : y ≡ x = cc e in ap (λ z. Some z) k
-
 pub then_ok : {A B : Type 0} (r : Result A Place) (next : A → Result B Place) (y : B) → (r >>= next) ≡ Ok y → (x : A) × (r ≡ Ok x) × (next x ≡ Ok y)
 then_ok (Ok x) next y e = (x, refl, e)
 then_ok (Err p) next y e = absurd (cc e)
-
-abbrev pub layout_with : Order → List ℕ → Form → Kind → ℕ → RowSize → Layout
-layout_with o bytes form kind count size = record { order = o; form = form; kind = kind; count = count; row_size = size; rows = u32_at o bytes 8; entries = u32_at o bytes 4; sorted = is_sorted_mark (get_or bytes 56 0) }
-
-abbrev pub from_size : Order → List ℕ → Form → Kind → ℕ → RowSize → Result Layout Place
-from_size o bytes form kind count size = done (layout_with o bytes form kind count size)
-
-abbrev pub from_count : Order → List ℕ → Form → Kind → ℕ → Result Layout Place
-from_count o bytes form kind count = asked 18 codes.ThemeRowtype (row_size_of (get_or bytes 18 0)) >>= from_size o bytes form kind count
-
-abbrev pub from_kind : Order → List ℕ → Form → Kind → Result Layout Place
-from_kind o bytes form kind = asked 14 codes.ThemeCount (allowed_count kind (u32_at o bytes 14)) >>= from_count o bytes form kind
 
 abbrev pub from_form : Order → List ℕ → Form → Result Layout Place
 from_form o bytes form = asked 13 codes.ThemeKind (indexed_kind_of (get_or bytes 13 0)) >>= from_kind o bytes form

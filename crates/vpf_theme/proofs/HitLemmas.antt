@@ -9,7 +9,7 @@ use Rattle.vpf_theme.specs.declared.layout.Form.TheVariants as forms
 use Rattle.vpf_theme.specs.declared.layout.Layout.{Layout}
 use Rattle.vpf_theme.specs.declared.entries.Extent.{Extent}
 use Rattle.vpf_theme.specs.Entries.{is_marked, listed_rows, number_at, rows_by}
-use Rattle.vpf_theme.specs.Views.{marked_left}
+use Rattle.vpf_theme.specs.Inner.Views.{marked_left}
 
 pub marked_yes : (l : Layout) (bytes : List ℕ) (e : Extent) (k : ℕ) → k < l.rows → is_marked bytes e.offset k ≡ true → marked_left l bytes e k ≡ (k + 1) ∷ marked_left l bytes e (k + 1)
 marked_yes l bytes e k h m =

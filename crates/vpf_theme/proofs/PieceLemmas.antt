@@ -1,14 +1,14 @@
 -- Pieces of a file: what stands at an offset is read there, and what is read there stands.
-use Rattle.std.proofs.Common.{◌≡◌, ℕ, suc, ◌+◌, ◌<◌, ◌≤◌, List, [], ◌∷◌, ◌++◌, length, take, drop, get_or, sym, ap, ◌∙◌, arith}
+use Rattle.std.proofs.Common.{[], ◌≡◌, ℕ, suc, ◌+◌, ◌<◌, ◌≤◌, List, ◌∷◌, ◌++◌, length, take, drop, get_or, sym, ap, ◌∙◌, arith}
 use Rattle.std.specs.Int.{w32}
-use Rattle.std.proofs.lemmas.List.{drop_at, drop-drop, get_or-drop, length-append, length-drop, take-append-drop}
+use Rattle.std.proofs.lemmas.List.{drop-drop, get_or-drop, length-drop, take-append-drop}
 use Rattle.std.proofs.Math.Seq.{drop-cons}
 use Rattle.vpf_base.proofs.ByteLists.{IsBytes-drop}
 use Rattle.vpf_base.specs.Bytes.{IsBytes}
-use Rattle.vpf_triplet.specs.declared.orders.Order.{Order}
-use Rattle.vpf_triplet.specs.Numbers.{number, number_of}
+use Rattle.vpf_base.specs.declared.orders.Order.{Order}
+use Rattle.vpf_base.specs.Numbers.{number, number_of}
 use Rattle.vpf_value.specs.declared.coords.WordWidth.TheVariants.{Four}
-use Rattle.vpf_value.proofs.Numbers.{length-number, length-number16, number-number_of, number-number_of16, number_of-number, number_of-number16, number_of16_below, number_of_below}
+use Rattle.vpf_value.specs.Inner.NumberLaws.{number-number_of, number-number_of16, number_of-number, number_of-number16, number_of16_below, number_of_below}
 use Rattle.vpf_theme.specs.declared.layout.RowSize.{RowSize}
 use Rattle.vpf_theme.specs.declared.layout.RowSize.TheVariants as sizes
 use Rattle.vpf_theme.specs.Layouts.{row_bytes, u32_at}
@@ -16,13 +16,6 @@ use Rattle.vpf_theme.specs.Entries.{row_number}
 use Rattle.vpf_theme.specs.Spelling.{HoldsRow, IsNumberAt, StandsAt, row_width}
 
 -- ---- numbers
-
-pub length-u32 : (o : Order) (n : ℕ) → length (number o w32 n) ≡ 4
-length-u32 o n = length-number o Four n
-
-pub length-row : (o : Order) (size : RowSize) (n : ℕ) → length (number o (row_width size) n) ≡ row_bytes size
-length-row o sizes.Short n = length-number16 o n
-length-row o sizes.Long n = length-number o Four n
 
 pub row_again : (o : Order) (size : RowSize) (n : ℕ) (rest : List ℕ) → HoldsRow size n → row_number o size (number o (row_width size) n ++ rest) ≡ n
 row_again o sizes.Short n rest h = number_of-number16 o n rest h
@@ -38,10 +31,6 @@ row_held o sizes.Long bytes fits = number_of_below o Four bytes fits
 
 -- ---- what stands at an offset
 
--- what follows a piece
-pub after : (bytes piece rest : List ℕ) (at n : ℕ) → length piece ≡ n → drop at bytes ≡ piece ++ rest → drop (at + n) bytes ≡ rest
-after bytes piece rest at n len e = sym (drop-drop n at bytes) ∙ ap (drop n) e ∙ drop_at piece rest n len
-
 pub u32_there : (o : Order) (n : ℕ) (bytes : List ℕ) (at : ℕ) → IsNumberAt o bytes at n → u32_at o bytes at ≡ n
 u32_there o n bytes at h = ap (number_of o w32) h.1.1 ∙ number_of-number o Four n h.1.0 h.0
 
@@ -54,10 +43,6 @@ byte_there bytes rest at b e =
 pub letter_there : (bytes piece : List ℕ) (at : ℕ) → length piece ≡ 1 → StandsAt bytes at piece → get_or bytes at 0 ≡ get_or piece 0 0
 letter_there bytes [] at len s = absurd (omega arith)
 letter_there bytes (b ∷ piece) at len s = byte_there bytes (piece ++ s.0) at b s.1
-
--- a piece that has a byte lies in the file
-pub piece_inside : (bytes piece : List ℕ) (at : ℕ) → 0 < length piece → StandsAt bytes at piece → at + length piece ≤ length bytes
-piece_inside bytes piece at some s = omega (arith, length-drop at bytes, ap length s.1, length-append piece s.0)
 
 -- ---- what is read at an offset stands there
 

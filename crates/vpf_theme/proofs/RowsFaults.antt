@@ -10,16 +10,16 @@ use Rattle.vpf_base.proofs.Booleans.{both, not_true}
 use Rattle.vpf_triplet.specs.declared.places.Place.{Place}
 use Rattle.vpf_triplet.specs.declared.places.Code.{Code}
 use Rattle.vpf_triplet.specs.declared.places.Code.TheVariants as codes
-use Rattle.vpf_triplet.specs.Numbers.{number}
+use Rattle.vpf_base.specs.Numbers.{number}
 use Rattle.vpf_triplet.specs.Places.{theme_fault}
-use Rattle.vpf_findings.specs.FirstLaws.{over_silent}
+use Rattle.vpf_findings.specs.Inner.FirstLaws.{over_silent}
 use Rattle.vpf_theme.specs.declared.layout.Form.{Form}
 use Rattle.vpf_theme.specs.declared.layout.Form.TheVariants as forms
 use Rattle.vpf_theme.specs.declared.layout.Layout.{Layout}
 use Rattle.vpf_theme.specs.declared.entries.Extent.{Extent}
 use Rattle.vpf_theme.specs.Entries.{is_marked, number_at, number_start}
-use Rattle.vpf_theme.specs.Faults as faults
-use Rattle.vpf_theme.specs.Faults.{IsRowNumber, RowsFault}
+use Rattle.vpf_theme.specs.Inner.Faults as faults
+use Rattle.vpf_theme.specs.Inner.Faults.{IsRowNumber, RowsFault}
 use Rattle.vpf_theme.specs.Layouts.{entry_start, row_bytes}
 use Rattle.vpf_findings.specs.Firsts.{first_over}
 use Rattle.vpf_theme.specs.Reading.{bitmap_line, fault_where, is_bitmap, is_behind, is_row, list_line, number_line, numbers_line, pad_line, entry_rows_line}

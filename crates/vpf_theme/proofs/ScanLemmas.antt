@@ -9,7 +9,7 @@ use Rattle.vpf_theme.specs.Entries.{Entry, Theme, found_in}
 use Rattle.vpf_theme.specs.Findings.{entry_at}
 use Rattle.vpf_theme.specs.Agreeing.{AgreesWithColumn, listed, scan_from, scan_of}
 use Rattle.vpf_theme.proofs.AgreementLemmas.{tail_rises}
-use Rattle.vpf_theme.specs.KeyLaws.{Decides-same_value, same_yes}
+use Rattle.vpf_theme.specs.Inner.KeyLaws.{Decides-same_value, same_yes}
 
 -- ---- rising lists with the same members are equal
 

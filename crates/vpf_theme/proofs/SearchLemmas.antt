@@ -8,15 +8,15 @@ use Rattle.vpf_theme.proofs.SpellingLemmas.{value-entry}
 use Rattle.vpf_triplet.specs.declared.kinds.Count.TheVariants.{Fixed}
 use Rattle.vpf_value.specs.Values.{Value}
 use Rattle.vpf_value.specs.Reading.{CellAnswer, cell_from}
-use Rattle.vpf_value.specs.Fitting.{FitsCell}
+use Rattle.vpf_value.specs.Inner.Fitting.{FitsCell}
 use Rattle.vpf_theme.specs.declared.layout.Layout.{Layout}
 use Rattle.vpf_theme.specs.Layouts.{HasValues, entry_start}
 use Rattle.vpf_theme.specs.Ordering.{value_cmp}
 use Rattle.vpf_theme.specs.Entries.{Entry, IsWhole, value_of, value_read, entry_of, found_in}
 use Rattle.vpf_theme.specs.Reading.{entries_line}
-use Rattle.vpf_theme.specs.Views.{IsPlace}
+use Rattle.vpf_theme.specs.Inner.Views.{IsPlace}
 use Rattle.vpf_theme.proofs.ValueLemmas.{FixedCells, never_cut}
-use Rattle.vpf_theme.specs.KeyLaws.{same_yes, same_no}
+use Rattle.vpf_theme.specs.Inner.KeyLaws.{same_yes, same_no}
 use Rattle.vpf_theme.proofs.FaultLemmas.{whole_from, rises_from}
 use Rattle.vpf_theme.proofs.OrderLemmas.{IsOf, sort_of, of_fits, of_read, cmp_trans, cmp_back, cmp_apart, cmp_equal}
 

@@ -1,5 +1,5 @@
 -- An index is spelled exactly where it is read.
-use Rattle.std.proofs.Common.{◌≡◌, ℕ, zero, suc, ◌+◌, ◌-◌, ◌<◌, ◌≤◌, Bool, true, false, not, ◌&&◌, List, [], ◌∷◌, ◌++◌, length, map, take, drop, Option, Some, None, Ok, Err, Less, refl, sym, ap, subst, ◌∙◌, arith, inl, inr, add-one}
+use Rattle.std.proofs.Common.{[], ◌≡◌, ℕ, zero, suc, ◌+◌, ◌-◌, ◌<◌, ◌≤◌, Bool, true, false, not, ◌&&◌, List, ◌∷◌, ◌++◌, length, map, take, drop, Option, Some, None, Ok, Err, Less, refl, sym, ap, subst, ◌∙◌, arith, inl, inr, add-one}
 use Rattle.std.specs.Prelude.{nat_lt}
 use Rattle.std.specs.List.{range_with_len}
 use Rattle.std.specs.Int.{w32}
@@ -9,13 +9,13 @@ use Rattle.std.proofs.lemmas.List.{length-drop, length-take-le}
 use Rattle.std.proofs.lemmas.List.FromFn.{length-map-range_with_len}
 use Rattle.vpf_base.proofs.ByteLists.{IsBytes-drop}
 use Rattle.vpf_base.specs.Bytes.{IsBytes}
-use Rattle.vpf_triplet.specs.declared.orders.Order.{Order}
+use Rattle.vpf_base.specs.declared.orders.Order.{Order}
 use Rattle.vpf_triplet.specs.declared.kinds.Kind.{Kind}
 use Rattle.vpf_triplet.specs.declared.kinds.Count.{Count}
 use Rattle.vpf_triplet.specs.declared.kinds.Count.TheVariants.{Fixed}
 use Rattle.vpf_triplet.specs.declared.places.Place.{Place}
 use Rattle.vpf_triplet.specs.declared.places.Code.TheVariants as codes
-use Rattle.vpf_triplet.specs.Numbers.{number}
+use Rattle.vpf_base.specs.Numbers.{number}
 use Rattle.vpf_value.specs.Values.{Value}
 use Rattle.vpf_value.specs.Reading.{CellAnswer, cell_from}
 use Rattle.vpf_value.specs.Spelling.{IsCell}
@@ -26,14 +26,17 @@ use Rattle.vpf_theme.specs.Ordering.{value_cmp}
 use Rattle.vpf_theme.specs.Entries.{Entry, Theme, entry_of, extent_of, rows_by, theme_in, value_of, value_read}
 use Rattle.vpf_findings.specs.Firsts.{first_over}
 use Rattle.vpf_theme.specs.Reading.{cut_line, entries_line, entry_line, rises_at, sort_line, theme_of, unless_fault}
-use Rattle.vpf_theme.specs.Faults.{HasEntry}
+use Rattle.vpf_theme.specs.Inner.Faults.{HasEntry}
 use Rattle.vpf_theme.specs.Spelling.{AreEntriesAt, IsBelow, IsEntryAt, IsThemeHeader, IsThematicIndex, ValuesRise, layout_from}
 use Rattle.vpf_theme.proofs.DataLemmas.{entry_rows_by}
-use Rattle.vpf_theme.proofs.FaultLemmas.{entry_none, entry_rows, rises_by, whole_by}
+use Rattle.vpf_theme.proofs.FaultLemmas.{entry_rows, rises_by, whole_by}
+use Rattle.vpf_theme.specs.Inner.FaultLaws.{entry_none}
 use Rattle.vpf_theme.proofs.HeaderLemmas.{layout_again, layout_read, then_ok}
-use Rattle.vpf_theme.proofs.PieceLemmas.{front_stands, length-u32, piece_inside, u32_stands, u32_there}
+use Rattle.vpf_theme.proofs.PieceLemmas.{front_stands, u32_stands, u32_there}
+use Rattle.vpf_theme.specs.Inner.PieceLaws.{length-u32, piece_inside}
 use Rattle.vpf_theme.proofs.StoredLemmas.{rows_again, rows_silent, rows_stand}
-use Rattle.vpf_theme.proofs.ValueLemmas.{FixedCells, indexed_width}
+use Rattle.vpf_theme.proofs.ValueLemmas.{FixedCells}
+use Rattle.vpf_theme.specs.Inner.ValueLaws.{indexed_width}
 
 -- ---- the laws of cells that are used
 

@@ -1,7 +1,7 @@
 -- The data of an entry are spelled exactly where they are read, and no line says anything of them.
-use Rattle.std.proofs.Common.{◌≡◌, ℕ, zero, suc, ◌+◌, ◌-◌, ◌*◌, ◌/◌, ◌<◌, ◌≤◌, Bool, true, false, List, [], ◌∷◌, ◌++◌, length, map, drop, get_or, append_assoc, None, nat_eq, refl, sym, ap, subst, ◌∙◌, arith, inl, inr, add-one}
-use Rattle.std.specs.Prelude.{◌==◌, All, Contains, filter, if◌then◌else◌}
-use Rattle.std.specs.List.{list_any, range_with_len}
+use Rattle.std.proofs.Common.{[], ◌≡◌, ℕ, zero, suc, ◌+◌, ◌-◌, ◌*◌, ◌/◌, ◌<◌, ◌≤◌, Bool, true, false, List, ◌∷◌, ◌++◌, length, map, drop, get_or, append_assoc, None, nat_eq, refl, sym, ap, subst, ◌∙◌, arith, inl, inr, add-one}
+use Rattle.std.specs.Prelude.{All, Contains, filter, if◌then◌else◌}
+use Rattle.std.specs.List.{range_with_len}
 use Rattle.std.specs.List.Sorted.{IsStrictlyIncreasing}
 use Rattle.std.proofs.lemmas.Bool.{cases_eq, cases_lt, eq-eqb, le-leb, ne_eqb}
 use Rattle.std.proofs.lemmas.Bool.Decides.{nat_tests}
@@ -12,8 +12,8 @@ use Rattle.vpf_base.proofs.ByteLists.{IsBytes-drop}
 use Rattle.vpf_base.specs.Bytes.{IsBytes}
 use Rattle.vpf_base.proofs.Booleans.{or_true, same_bool, refuted}
 use Rattle.vpf_triplet.specs.declared.places.Code.TheVariants as codes
-use Rattle.vpf_triplet.specs.Numbers.{number}
-use Rattle.vpf_findings.specs.FirstLaws.{or-none_both, over_none, over_silent}
+use Rattle.vpf_base.specs.Numbers.{number}
+use Rattle.vpf_findings.specs.Inner.FirstLaws.{or-none_both, over_none, over_silent}
 use Rattle.vpf_theme.specs.declared.layout.Form.{Form}
 use Rattle.vpf_theme.specs.declared.layout.Form.TheVariants as forms
 use Rattle.vpf_theme.specs.declared.layout.Layout.{Layout}
@@ -23,11 +23,13 @@ use Rattle.vpf_theme.specs.Entries.{is_marked, listed_rows, marked_rows, number_
 use Rattle.vpf_findings.specs.Firsts.{first_over}
 use Rattle.vpf_theme.specs.Reading.{bitmap_line, is_bitmap, is_behind, is_row, list_line, number_line, numbers_line, pad_line, entry_rows_line}
 use Rattle.vpf_theme.specs.Spelling.{AreData, AreNumbers, HoldsRow, IsBitmap, IsList, LiesBehind, row_width, row_numbers_text}
-use Rattle.vpf_theme.specs.Views.{AreRows}
+use Rattle.vpf_theme.specs.Inner.Views.{AreRows}
 use Rattle.vpf_theme.proofs.AgreementLemmas.{tail_rises}
 use Rattle.vpf_theme.proofs.DataLemmas.{all_range, bitmap_data, list_many, numbers_data}
 use Rattle.vpf_theme.proofs.FaultLemmas.{no_fault}
-use Rattle.vpf_theme.proofs.PieceLemmas.{after, length-row, row_again, row_held, row_stands}
+use Rattle.vpf_theme.proofs.PieceLemmas.{row_again, row_held, row_stands}
+use Rattle.vpf_theme.specs.Inner.PieceLaws.{after, length-row}
+use Rattle.vpf_theme.specs.Inner.StoredLaws.{holds_row as has}
 
 pub row_yes : (l : Layout) (n : ℕ) → 1 ≤ n → n ≤ l.rows → is_row l n ≡ true
 row_yes l n low high = rw (le-leb 1 n low, le-leb n l.rows high) refl
@@ -109,9 +111,6 @@ Rises a n (r ∷ rs) = (a ≤ r) × ((r ≤ n) × Rises (r + 1) n rs)
 rises_in : (a n : ℕ) (rows : List ℕ) → (0 < length rows → a ≤ get_or rows 0 0) → AreRows n rows → IsStrictlyIncreasing rows → Rises a n rows
 rises_in a n [] f h r = tt
 rises_in a n (x ∷ rows) f h r = (f (omega arith), ((h zero x (omega arith)).1, rises_in (x + 1) n rows (λ m. let k = r zero (omega arith) in omega (arith, k)) (λ j d m. h (suc j) d (omega arith)) (tail_rises x rows r)))
-
-abbrev has : List ℕ → ℕ → Bool
-has rows row = list_any (λ r. r == row) rows
 
 has_none : (a n row : ℕ) (rows : List ℕ) → Rises a n rows → row < a → has rows row ≡ false
 has_none a n row [] r h = refl

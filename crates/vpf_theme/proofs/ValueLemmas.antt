@@ -1,21 +1,16 @@
 -- Values of entries that are whole.
-use Rattle.std.proofs.Common.{◌≡◌, ℕ, ◌≤◌, List, length, drop, Some, Err, refl, arith, length-drop}
-use Rattle.std.specs.Prelude.{IsTrue, unwrap_or}
-use Rattle.vpf_triplet.specs.declared.orders.Order.{Order}
+use Rattle.std.proofs.Common.{◌≡◌, ℕ, ◌≤◌, List, length, drop, Some, Err, arith, length-drop}
+use Rattle.vpf_base.specs.declared.orders.Order.{Order}
 use Rattle.vpf_triplet.specs.declared.kinds.Kind.{Kind}
-use Rattle.vpf_triplet.specs.declared.kinds.Kind.TheVariants as kinds
 use Rattle.vpf_triplet.specs.declared.kinds.Count.{Count}
 use Rattle.vpf_triplet.specs.declared.kinds.Count.TheVariants.{Fixed}
 use Rattle.vpf_triplet.specs.declared.places.Code.{Code}
 use Rattle.vpf_value.specs.Widths.{cell_width, TakesWidth}
 use Rattle.vpf_value.specs.Reading.{cell_from}
 use Rattle.vpf_theme.specs.declared.layout.Layout.{Layout}
-use Rattle.vpf_theme.specs.Layouts.{HasValues, entry_start, is_indexed, value_bytes}
+use Rattle.vpf_theme.specs.Layouts.{HasValues, entry_start, value_bytes}
 use Rattle.vpf_theme.specs.Entries.{IsWhole}
-
-pub indexed_width : (kind : Kind) (n : ℕ) → IsTrue (is_indexed kind) → cell_width kind (Fixed n) ≡ Some (unwrap_or (cell_width kind (Fixed n)) 0)
-indexed_width kinds.K n h = absurd cc
-indexed_width kind n h = refl
+use Rattle.vpf_theme.specs.Inner.ValueLaws.{indexed_width}
 
 -- the law of cells of one width
 abbrev pub FixedCells : Type 0

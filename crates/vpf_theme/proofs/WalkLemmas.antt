@@ -1,10 +1,9 @@
 -- Walks over rows and entries, one after another.
-use Rattle.std.proofs.Common.{◌≡◌, ℕ, zero, suc, ◌+◌, ◌-◌, ◌<◌, ◌≤◌, Bool, true, false, ◌||◌, ◌==◌, cond, List, [], ◌∷◌, ◌++◌, length, take, map, set, get_or, Option, Some, None, append_assoc, refl, sym, ap, subst, ◌∙◌, arith, inl, inr}
+use Rattle.std.proofs.Common.{[], ◌≡◌, ℕ, zero, suc, ◌+◌, ◌-◌, ◌<◌, ◌≤◌, Bool, true, false, ◌||◌, ◌==◌, cond, List, ◌∷◌, ◌++◌, length, take, map, set, get_or, Option, Some, None, append_assoc, refl, sym, ap, ◌∙◌, arith, inl, inr}
 use Rattle.std.specs.Prelude.{find, slice_get, slice_index_or, nat_eq, option_map, position}
 use Rattle.std.specs.List.{list_any, position_from, range_with_len}
 use Rattle.std.proofs.lemmas.Bool.{cases_eq, eq-eqb, ne_eqb}
 use Rattle.std.proofs.lemmas.List.{map-append, get_or-map, get_or-set_same, get_or-set_other, take_more}
-use Rattle.std.proofs.lemmas.List.Elements.{All-rest}
 use Rattle.std.proofs.lemmas.Bool.Decides.{Decides-like, same_from_decides}
 use Rattle.std.proofs.lemmas.Iterator.Adapters.{position_from-zero}
 use Rattle.std.proofs.lemmas.List.Folds.{list_any-append}
@@ -17,10 +16,9 @@ use Rattle.vpf_theme.specs.declared.keys.ValueKey.{ValueKey}
 use Rattle.vpf_theme.specs.Ordering.{same_value}
 use Rattle.vpf_theme.specs.Entries.{Entry}
 use Rattle.vpf_theme.specs.Findings.{entry_at, no_entry, entry_place}
-use Rattle.vpf_theme.specs.Keeping.{HoldMarks, HoldKeys}
-use Rattle.vpf_theme.specs.KeyLaws.{Decides-same_value}
-use Rattle.vpf_theme.specs.Keys.{same_value_key, value_key}
-use Rattle.vpf_theme.specs.Views.{AreRows}
+use Rattle.vpf_theme.specs.Inner.Keeping.{HoldMarks, HoldKeys}
+use Rattle.vpf_theme.specs.Inner.KeyLaws.{Decides-same_value}
+use Rattle.vpf_theme.specs.Inner.Keys.{same_value_key, value_key}
 
 -- ---- the cells of a column
 
@@ -34,12 +32,6 @@ pub cell_there : (cells : List Cell) (k : ℕ) (cell : Cell) → k < length cell
 cell_there cells k cell h e = get_or-map view cells k cell Nothing h ∙ ap view (sym e)
 
 -- ---- rows one after another
-
-pub row_first : (n row : ℕ) (rows rest : List ℕ) → rows ≡ row ∷ rest → AreRows n rows → (1 ≤ row) × (row ≤ n)
-row_first n row rows rest e h = (subst (AreRows n) e h) zero 0 (omega arith)
-
-pub rows_rest : (n row : ℕ) (rows rest : List ℕ) → rows ≡ row ∷ rest → AreRows n rows → AreRows n rest
-rows_rest n row rows rest e h = All-rest (λ r. (1 ≤ r) × (r ≤ n)) row rest rows e h
 
 -- ---- marks
 

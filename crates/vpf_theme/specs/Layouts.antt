@@ -4,7 +4,7 @@ use Rattle.std.specs.Prelude.{codes as text}
 use Rattle.std.specs.Int.{w32}
 use Rattle.vpf_base.specs.Limits.{most_values}
 use Rattle.vpf_base.specs.Results.{◌>>=◌}
-use Rattle.vpf_triplet.specs.declared.orders.Order.{Order}
+use Rattle.vpf_base.specs.declared.orders.Order.{Order}
 use Rattle.vpf_triplet.specs.declared.kinds.Kind.{Kind}
 use Rattle.vpf_triplet.specs.declared.kinds.Kind.TheVariants as kinds
 use Rattle.vpf_triplet.specs.declared.kinds.Count.TheVariants.{Fixed}
@@ -12,7 +12,7 @@ use Rattle.vpf_triplet.specs.declared.places.Place.{Place}
 use Rattle.vpf_triplet.specs.declared.places.Code.{Code}
 use Rattle.vpf_triplet.specs.declared.places.Code.TheVariants as codes
 use Rattle.vpf_triplet.specs.Kinds.{allows, kind_text}
-use Rattle.vpf_triplet.specs.Numbers.{number_of}
+use Rattle.vpf_base.specs.Numbers.{number_of}
 use Rattle.vpf_triplet.specs.Places.{theme_fault}
 use Rattle.vpf_value.specs.Widths.{cell_width}
 use Rattle.vpf_theme.specs.declared.layout.Form.{Form}

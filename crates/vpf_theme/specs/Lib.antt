@@ -2,13 +2,7 @@ pub mod Layouts
 pub mod Ordering
 pub mod Entries
 pub mod Reading
-pub mod Views
 pub mod Spelling
-pub mod Faults
-pub mod Deciding
 pub mod Findings
-pub mod Searching
 pub mod Agreeing
-pub mod Keys
-pub mod KeyLaws
-pub mod Keeping
+pub mod Inner

@@ -4,10 +4,10 @@ use Rattle.std.specs.Prelude.{codes as text}
 use Rattle.std.specs.List.Sorted.{IsStrictlyIncreasing}
 use Rattle.std.specs.Int.{Width, w16, w32}
 use Rattle.std.specs.declared.cmp.Ordering.TheVariants.{Less}
-use Rattle.vpf_triplet.specs.declared.orders.Order.{Order}
+use Rattle.vpf_base.specs.declared.orders.Order.{Order}
 use Rattle.vpf_triplet.specs.declared.kinds.Count.TheVariants.{Fixed}
 use Rattle.vpf_triplet.specs.Kinds.{kind_text}
-use Rattle.vpf_triplet.specs.Numbers.{number}
+use Rattle.vpf_base.specs.Numbers.{number}
 use Rattle.vpf_value.specs.Values.{Value}
 use Rattle.vpf_value.specs.Spelling.{IsCell}
 use Rattle.vpf_theme.specs.declared.layout.Form.{Form}
@@ -19,7 +19,7 @@ use Rattle.vpf_theme.specs.declared.entries.Extent.{Extent}
 use Rattle.vpf_theme.specs.Layouts.{HasValues, directory_end, entry_start, form_text, header_bytes, row_bytes, row_size_text}
 use Rattle.vpf_theme.specs.Ordering.{value_cmp}
 use Rattle.vpf_theme.specs.Entries.{Entry, Theme, is_marked}
-use Rattle.vpf_theme.specs.Views.{AreRows}
+use Rattle.vpf_theme.specs.Inner.Views.{AreRows}
 
 -- the bytes stand in the file at an offset
 abbrev pub StandsAt : List ℕ → ℕ → List ℕ → Type 0

@@ -2,12 +2,12 @@
 
 ghost use Rattle.std.specs.Prelude.{◌≡◌, ◌<◌, ◌+◌, ◌^◌, length, map, IfOk, OnOk};
 ghost use Rattle.vpf_value.specs.Values.{view};
-ghost use Rattle.vpf_head.specs.Views.{col};
+ghost use Rattle.vpf_head.specs.Inner.Views.{col};
 ghost use Rattle.vpf_findings.specs.Firsts.{Finds, Tells};
 ghost use Rattle.vpf_theme.specs.Findings.{cells_of, entries_finding, fall_line, first_finding, lines_at, of_column, other_line, repeated_line};
 ghost use Rattle.vpf_theme.specs.Agreeing.{AgreesAt};
-ghost use Rattle.vpf_theme.specs.Keeping.{HoldKeys};
-ghost use Rattle.vpf_theme.specs.Views.{AreRows};
+ghost use Rattle.vpf_theme.specs.Inner.Keeping.{HoldKeys};
+ghost use Rattle.vpf_theme.specs.Inner.Views.{AreRows};
 
 use crate::fitting::fits_table;
 use crate::hits::Hits;

@@ -2,7 +2,7 @@
 
 ghost use Rattle.std.specs.Prelude.{◌≡◌, ◌<◌, length, option_map};
 ghost use Rattle.vpf_triplet.specs.Kinds.{is_fixed, same_kind};
-ghost use Rattle.vpf_head.specs.Views.{col};
+ghost use Rattle.vpf_head.specs.Inner.Views.{col};
 ghost use Rattle.vpf_findings.specs.Findings.{disagreement_of};
 ghost use Rattle.vpf_theme.specs.Findings.{fits_line, kind_line, of_column, row_count_line};
 

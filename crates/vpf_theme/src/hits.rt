@@ -3,7 +3,7 @@
 ghost use Rattle.std.specs.Prelude.{◌≡◌, ◌<◌, ◌≤◌, ◌+◌, ◌/◌, ◌*◌, length};
 ghost use Rattle.vpf_theme.specs.declared.layout.Form.{Form};
 ghost use Rattle.vpf_theme.specs.Entries.{marked_rows, rows_by};
-ghost use Rattle.vpf_theme.specs.Views.{HasData, StepsRow};
+ghost use Rattle.vpf_theme.specs.Inner.Views.{HasData, StepsRow};
 
 use crate::entries::{Extent, is_marked, number_at};
 use crate::layout::{Form, Layout};
@@ -20,11 +20,11 @@ pub struct Hits<'a> {
 }
 
 impl<'a> Model for Hits<'a> {
-    ghost use Rattle.vpf_theme.specs.Views.{Rows};
+    ghost use Rattle.vpf_theme.specs.Inner.Views.{Rows};
 
     ghost Value = { Rows };
 
-    ghost use Rattle.vpf_theme.specs.Views.{HasHits, hits_view};
+    ghost use Rattle.vpf_theme.specs.Inner.Views.{HasHits, hits_view};
 
     ghost view = { hits_view };
 
@@ -96,7 +96,7 @@ fn count_listed(layout: &Layout, bytes: &[u8], extent: Extent) -> u32
 impl<'a> Hits<'a> {
     ghost use Rattle.std.specs.Prelude.{◌≡◌};
     ghost use Rattle.vpf_theme.specs.Entries.{rows_by};
-    ghost use Rattle.vpf_theme.specs.Views.{HasData, all_rows};
+    ghost use Rattle.vpf_theme.specs.Inner.Views.{HasData, all_rows};
 
     /// All rows of an entry whose data lie in the file.
     pub(crate) fn new(layout: Layout, bytes: &'a [u8], extent: Extent) -> Hits<'a>
@@ -121,7 +121,7 @@ impl<'a> Hits<'a> {
 
 impl<'a> Iterator for Hits<'a> {
     ghost use Rattle.std.specs.Iterator.{item_count};
-    ghost use Rattle.vpf_theme.specs.Views.{GivesRow, Rows};
+    ghost use Rattle.vpf_theme.specs.Inner.Views.{GivesRow, Rows};
 
     type Item = u32;
 

@@ -1,8 +1,8 @@
 //! Values as the keys of a map.
 
 ghost use Rattle.std.specs.Prelude.{◌≡◌, fold};
-ghost use Rattle.vpf_theme.specs.KeyLaws.{same_key_equiv, same_key_fed, same_key_partial};
-ghost use Rattle.vpf_theme.specs.Keys.{fed_value, same_value_key, value_key};
+ghost use Rattle.vpf_theme.specs.Inner.KeyLaws.{same_key_equiv, same_key_fed, same_key_partial};
+ghost use Rattle.vpf_theme.specs.Inner.Keys.{fed_value, same_value_key, value_key};
 ghost use Rattle.vpf_value.specs.Values.{view};
 
 use std::hash::{Hash, Hasher};

@@ -4,12 +4,12 @@ ghost use Rattle.std.specs.Prelude.{◌≡◌, ◌↔◌, ℕ, List, IsTrue, Non
 ghost use Rattle.std.specs.Cmp.{IsTotalOrder};
 ghost use Rattle.std.specs.declared.cmp.Ordering.TheVariants.{Equal};
 ghost use Rattle.vpf_base.specs.Bytes.{IsBytes};
-ghost use Rattle.vpf_triplet.specs.declared.orders.Order.{Order};
+ghost use Rattle.vpf_base.specs.declared.orders.Order.{Order};
 ghost use Rattle.vpf_triplet.specs.declared.kinds.Kind.{Kind};
 ghost use Rattle.vpf_triplet.specs.declared.places.Place.{Place};
 ghost use Rattle.vpf_triplet.specs.declared.kinds.Count.{Count};
 ghost use Rattle.vpf_value.specs.Values.{Value};
-ghost use Rattle.vpf_value.specs.Fitting.{FitsCell};
+ghost use Rattle.vpf_value.specs.Inner.Fitting.{FitsCell};
 ghost use Rattle.vpf_head.specs.Head.{Col};
 ghost use Rattle.vpf_theme.specs.Layouts.{is_indexed};
 ghost use Rattle.vpf_theme.specs.Ordering.{same_value, value_cmp};
@@ -18,8 +18,8 @@ ghost use Rattle.vpf_theme.specs.Findings.{first_finding};
 ghost use Rattle.vpf_theme.specs.Agreeing.{AgreesWithColumn, HaveRows, listed, scan_of};
 ghost use Rattle.vpf_theme.specs.Reading.{theme_of};
 ghost use Rattle.vpf_theme.specs.Spelling.{IsThematicIndex};
-ghost use Rattle.vpf_theme.specs.Deciding.{DecidesTheme};
-ghost use Rattle.vpf_theme.specs.Faults.{FirstThemeFault};
+ghost use Rattle.vpf_theme.specs.Inner.Deciding.{DecidesTheme};
+ghost use Rattle.vpf_theme.specs.Inner.Faults.{FirstThemeFault};
 
 use vpf_value::laws;
 

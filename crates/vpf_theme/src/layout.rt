@@ -169,7 +169,7 @@ fn fields_of(order: Order, bytes: &[u8]) -> Result<Layout, Place>
 
 impl Layout {
     ghost use Rattle.std.specs.Prelude.{◌≡◌, ◌+◌, ◌≤◌, ◌<◌, ◌^◌, length, IfOk};
-    ghost use Rattle.vpf_triplet.specs.declared.orders.Order.{Order};
+    ghost use Rattle.vpf_base.specs.declared.orders.Order.{Order};
     ghost use Rattle.vpf_theme.specs.Layouts.{HasValues, directory_end, entry_bytes, entry_start, layout_of, value_bytes};
 
     /// The header of an index, or the first fault in it.

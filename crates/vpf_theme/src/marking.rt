@@ -2,11 +2,11 @@
 
 ghost use Rattle.std.specs.Prelude.{◌≡◌, ◌<◌, ◌+◌, ◌||◌, ◌==◌, ℕ, false, length, slice_index_or, IfOk};
 ghost use Rattle.std.specs.List.{list_any};
-ghost use Rattle.vpf_head.specs.Views.{col};
+ghost use Rattle.vpf_head.specs.Inner.Views.{col};
 ghost use Rattle.vpf_theme.specs.Findings.{missing_line};
 ghost use Rattle.vpf_findings.specs.Firsts.{Tells};
-ghost use Rattle.vpf_theme.specs.Keeping.{HoldMarks};
-ghost use Rattle.vpf_theme.specs.Views.{AreRows};
+ghost use Rattle.vpf_theme.specs.Inner.Keeping.{HoldMarks};
+ghost use Rattle.vpf_theme.specs.Inner.Views.{AreRows};
 
 use crate::hits::Hits;
 use crate::reporting::finding;

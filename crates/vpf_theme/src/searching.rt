@@ -3,12 +3,12 @@
 ghost use Rattle.std.specs.Prelude.{◌≡◌, ◌<◌, ◌≤◌, ◌+◌, ◌-◌, ◌*◌, ◌^◌, true, false, None};
 ghost use Rattle.vpf_triplet.specs.declared.kinds.Count.{Count};
 ghost use Rattle.vpf_value.specs.Values.{view};
-ghost use Rattle.vpf_value.specs.Fitting.{FitsCell};
+ghost use Rattle.vpf_value.specs.Inner.Fitting.{FitsCell};
 ghost use Rattle.vpf_theme.specs.Layouts.{HasValues};
 ghost use Rattle.vpf_theme.specs.Entries.{theme_in, value_of};
 ghost use Rattle.vpf_theme.specs.Reading.{entries_line};
-ghost use Rattle.vpf_theme.specs.Searching.{compared_by_halves, compared_for, compared_in_turn};
-ghost use Rattle.vpf_theme.specs.Views.{IsPlace};
+ghost use Rattle.vpf_theme.specs.Inner.Searching.{compared_by_halves, compared_for, compared_in_turn};
+ghost use Rattle.vpf_theme.specs.Inner.Views.{IsPlace};
 
 use crate::comparing::compare;
 use crate::entries::value_at;

@@ -4,7 +4,7 @@ ghost use Rattle.std.specs.Prelude.{◌≡◌, ◌<◌, None};
 ghost use Rattle.vpf_theme.specs.Layouts.{HasValues};
 ghost use Rattle.vpf_theme.specs.Entries.{entry_of};
 ghost use Rattle.vpf_theme.specs.Reading.{entries_line};
-ghost use Rattle.vpf_theme.specs.Views.{AreRows, all_rows};
+ghost use Rattle.vpf_theme.specs.Inner.Views.{AreRows, all_rows};
 
 use crate::checking::check_entries;
 use crate::entries::extent_at;
@@ -30,7 +30,7 @@ impl<'a> Model for ThemeView<'a> {
 
     ghost Value = { Theme };
 
-    ghost use Rattle.vpf_theme.specs.Views.{IsOpenedTheme, theme_view};
+    ghost use Rattle.vpf_theme.specs.Inner.Views.{IsOpenedTheme, theme_view};
 
     ghost view = { theme_view };
 
@@ -52,13 +52,13 @@ impl<'a> ThemeView<'a> {
     ghost use Rattle.std.specs.Prelude.{◌≡◌, ◌≤◌, ◌+◌, ◌-◌, ◌*◌, ◌^◌, ◌<◌, true, false, IfOk, IfErr, IfSome, Ok, length, option_map};
     ghost use Rattle.vpf_triplet.specs.declared.kinds.Count.{Count};
     ghost use Rattle.vpf_value.specs.Values.{view};
-    ghost use Rattle.vpf_value.specs.Fitting.{FitsCell};
+    ghost use Rattle.vpf_value.specs.Inner.Fitting.{FitsCell};
     ghost use Rattle.vpf_theme.specs.Entries.{Theme, found_in};
-    ghost use Rattle.vpf_theme.specs.Faults.{FirstThemeFault};
+    ghost use Rattle.vpf_theme.specs.Inner.Faults.{FirstThemeFault};
     ghost use Rattle.vpf_theme.specs.Findings.{entry_at};
     ghost use Rattle.vpf_theme.specs.Agreeing.{HaveRows};
-    ghost use Rattle.vpf_theme.specs.Searching.{compared_for};
-    ghost use Rattle.vpf_theme.specs.Views.{AreRows, all_rows};
+    ghost use Rattle.vpf_theme.specs.Inner.Searching.{compared_for};
+    ghost use Rattle.vpf_theme.specs.Inner.Views.{AreRows, all_rows};
     ghost use Rattle.vpf_triplet.specs.Places.{Gives};
     ghost use Rattle.vpf_theme.specs.Reading.{theme_of};
     ghost use Rattle.vpf_theme.specs.Spelling.{IsThematicIndex};

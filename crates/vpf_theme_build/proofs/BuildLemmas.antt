@@ -1,21 +1,18 @@
 -- What is built, put together.
-use Rattle.std.proofs.Common.{◌≡◌, ℕ, zero, suc, ◌<◌, ◌≤◌, Bool, true, false, List, [], ◌∷◌, length, get_or, Some, Result, Ok, Err, refl, sym, ap, subst, ◌∙◌, arith}
-use Rattle.std.specs.Prelude.{All, IfOk, nat_le, slice_get, slice_index_or, if◌then◌else◌}
+use Rattle.std.proofs.Common.{◌≡◌, ℕ, ◌≤◌, Bool, true, false, List, length, Some, Result, Ok, Err, refl, sym, ap, subst, ◌∙◌}
+use Rattle.std.specs.Prelude.{IfOk, nat_le, slice_get, if◌then◌else◌}
 use Rattle.std.proofs.lemmas.Bool.{leb-true}
-use Rattle.std.proofs.lemmas.List.{get_or-map, length-map}
-use Rattle.std.proofs.lemmas.Option.{get_or_from_slice_get, slice_get_within, same_Some}
+use Rattle.std.proofs.lemmas.Option.{get_or_from_slice_get, slice_get_within}
 use Rattle.vpf_base.specs.Limits.{most_bytes}
 use Rattle.vpf_base.proofs.Results.{ok_is}
-use Rattle.vpf_triplet.specs.declared.orders.Order.{Order}
+use Rattle.vpf_base.specs.declared.orders.Order.{Order}
 use Rattle.vpf_triplet.specs.declared.kinds.Kind.{Kind}
 use Rattle.vpf_triplet.specs.declared.places.Place.{Place}
 use Rattle.vpf_triplet.specs.declared.kinds.Count.TheVariants.{Fixed}
-use Rattle.vpf_value.specs.Values.{Value, Nothing}
-use Rattle.vpf_value.specs.Fitting.{FitsCell}
+use Rattle.vpf_value.specs.Values.{Value}
 use Rattle.vpf_head.specs.Head.{Col, Head}
-use Rattle.vpf_head.specs.Soundness.{IsCounted, IsSound}
-use Rattle.vpf_table.specs.Grid.{Row, Grid}
-use Rattle.vpf_table.specs.Canonical.{FitsRow}
+use Rattle.vpf_head.specs.Inner.Soundness.{IsCounted, IsSound}
+use Rattle.vpf_table.specs.Grid.{Grid}
 use Rattle.vpf_theme.specs.declared.layout.Form.{Form}
 use Rattle.vpf_theme.specs.declared.layout.RowSize.{RowSize}
 use Rattle.vpf_theme.specs.declared.layout.Layout.{Layout}
@@ -30,6 +27,7 @@ use Rattle.vpf_theme_build.specs.Building.{AgreeAt, AreRead, Builds, built_by, i
 use Rattle.vpf_theme_build.specs.Grouping.{entries_for, values_of}
 use Rattle.vpf_theme_build.specs.Text.{index_len, index_text, row_size_for}
 use Rattle.vpf_theme_build.proofs.FieldLemmas.{counted}
+use Rattle.vpf_theme_build.specs.Inner.BuildLaws.{one_column}
 
 column_counted : (head : Head) (c : ℕ) (column : Col) → IsSound head → slice_get head.columns c ≡ Some column → IsCounted column
 column_counted head c column sound is = subst IsCounted (get_or_from_slice_get head.columns c column column is) (sound.counts c column (slice_get_within head.columns c column is))
@@ -55,22 +53,7 @@ built_is o name form column cells count l es indexed e f =
     rw indexed (ap (λ (x : Layout). within_limit (index_len x (entries_for cells)) (index_text x name column.name (entries_for cells))) e
     ∙ ap (λ (x : List Entry). within_limit (index_len l x) (index_text l name column.name x)) (sym f))
 
-pub one_column : (columns : List Col) (c : ℕ) (a b : Col) → slice_get columns c ≡ Some a → slice_get columns c ≡ Some b → a ≡ b
-one_column columns c a b x y = same_Some a b (sym x ∙ y)
-
 -- ---- what is built is read
-
-row_fits : (columns : List Col) (row : Row) (c : ℕ) (column : Col) → FitsRow columns row → slice_get columns c ≡ Some column → FitsCell column.kind column.count (slice_index_or row c Nothing)
-row_fits [] row c column f a = absurd (cc a)
-row_fits (k ∷ columns) [] c column f a = absurd f
-row_fits (k ∷ columns) (v ∷ row) zero column f a = let e = same_Some k column a in subst (λ (x : Col). FitsCell x.kind x.count v) e f.0
-row_fits (k ∷ columns) (v ∷ row) (suc c) column f a = row_fits columns row c column f.1 a
-
-pub cells_fit : (grid : Grid) (c : ℕ) (column : Col) → All (FitsRow grid.head.columns) grid.rows → slice_get grid.head.columns c ≡ Some column → All (FitsCell column.kind column.count) (cells_of grid c)
-cells_fit grid c column fits is k d h =
-    let f = λ (row : Row). slice_index_or row c Nothing in
-    let m : k < length grid.rows = omega (arith, h, length-map grid.rows f) in
-    rw (get_or-map f grid.rows k [] d m) (row_fits grid.head.columns (get_or grid.rows k []) c column (fits k [] m) is)
 
 -- bytes that are not too many
 pub limited_ok : (b : Bool) (size : ℕ) (text out : List ℕ) → nat_le size most_bytes ≡ b → (if b then Ok text else Err (errors.Limit size)) ≡ Ok out → (size ≤ most_bytes) × (text ≡ out)

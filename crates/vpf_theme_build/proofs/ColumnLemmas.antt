@@ -5,11 +5,11 @@ use Rattle.std.specs.Cmp.{IsTotalOrder}
 use Rattle.std.proofs.lemmas.Bool.Decides.{nat_tests}
 use Rattle.std.proofs.lemmas.List.{length-map}
 use Rattle.vpf_base.specs.Limits.{most_values, most_bytes}
-use Rattle.vpf_triplet.specs.declared.orders.Order.{Order}
+use Rattle.vpf_base.specs.declared.orders.Order.{Order}
 use Rattle.vpf_triplet.specs.declared.kinds.Kind.{Kind}
 use Rattle.vpf_triplet.specs.declared.kinds.Count.TheVariants.{Fixed}
 use Rattle.vpf_value.specs.Values.{Value}
-use Rattle.vpf_value.specs.Fitting.{FitsCell}
+use Rattle.vpf_value.specs.Inner.Fitting.{FitsCell}
 use Rattle.vpf_head.specs.Head.{Col}
 use Rattle.vpf_theme.specs.declared.layout.Form.{Form}
 use Rattle.vpf_theme.specs.declared.layout.Layout.{Layout}

@@ -10,9 +10,9 @@ use Rattle.vpf_triplet.specs.declared.kinds.Count.{Count}
 use Rattle.vpf_triplet.specs.declared.kinds.Count.TheVariants.{Fixed}
 use Rattle.vpf_triplet.specs.Kinds.{allows}
 use Rattle.vpf_value.specs.Values.{Value, Nothing, view}
-use Rattle.vpf_value.specs.Fitting.{FitsCell}
+use Rattle.vpf_value.specs.Inner.Fitting.{FitsCell}
 use Rattle.vpf_head.specs.Head.{Col}
-use Rattle.vpf_head.specs.Soundness.{IsInBounds}
+use Rattle.vpf_head.specs.Inner.Soundness.{IsInBounds}
 use Rattle.vpf_table.specs.Grid.{Row, Grid}
 use Rattle.vpf_theme.specs.Layouts.{is_count, is_indexed}
 use Rattle.vpf_theme.specs.Ordering.{same_value, value_cmp}
@@ -23,7 +23,7 @@ use Rattle.vpf_theme_build.specs.declared.grouping.Spot.{Spot}
 use Rattle.vpf_theme_build.specs.declared.grouping.Group.{Group}
 use Rattle.vpf_theme_build.specs.Grouping.{AreOfOneField, FitColumn, IsIndexable, cells_in, entries_for, entry_for, entry_in, numbered_cells, placed_value, spot_row, seen, values_of, with_value}
 use Rattle.vpf_theme_build.specs.Text.{row_size_for}
-use Rattle.vpf_theme_build.specs.Writing.{AreEntries}
+use Rattle.vpf_theme_build.specs.Inner.Writing.{AreEntries}
 use Rattle.vpf_theme.specs.declared.layout.Layout.{Layout}
 
 -- ---- what is at a position

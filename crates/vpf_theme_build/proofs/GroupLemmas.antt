@@ -7,7 +7,7 @@ use Rattle.vpf_value.specs.Values.{Value}
 use Rattle.vpf_theme.specs.Ordering.{same_value, value_cmp}
 use Rattle.vpf_theme.specs.Entries.{Entry, found_in}
 use Rattle.vpf_theme.specs.Agreeing.{listed}
-use Rattle.vpf_theme.specs.KeyLaws.{Decides-same_value, same_yes}
+use Rattle.vpf_theme.specs.Inner.KeyLaws.{Decides-same_value, same_yes}
 use Rattle.vpf_theme_build.specs.Grouping.{Spotted, joined_spot, grouped}
 use Rattle.vpf_theme_build.proofs.EntryLists.{AllAbove, Rising, Filled, EachValue, Told, back, above_trans, not_found}
 

@@ -1,30 +1,19 @@
 -- The header that is written is one of its layout.
-use Rattle.std.proofs.Common.{◌≡◌, ℕ, ◌^◌, ◌<◌, true, List, [], ◌∷◌, ◌++◌, length, drop, append_assoc, refl, ◌∙◌, inr, arith}
+use Rattle.std.proofs.Common.{[], ◌≡◌, ℕ, ◌^◌, ◌<◌, true, List, ◌∷◌, ◌++◌, length, drop, append_assoc, refl, ◌∙◌, inr, arith}
 use Rattle.std.specs.Int.{w32}
 use Rattle.std.proofs.lemmas.List.{length-append, length-take-le}
-use Rattle.vpf_triplet.proofs.KindLemmas.{length-kind}
+use Rattle.vpf_triplet.specs.Inner.KindLaws.{length-kind}
 use Rattle.vpf_triplet.specs.Kinds.{kind_text}
-use Rattle.vpf_triplet.specs.Numbers.{number}
-use Rattle.vpf_theme.specs.declared.layout.Form.{Form}
-use Rattle.vpf_theme.specs.declared.layout.Form.TheVariants as forms
-use Rattle.vpf_theme.specs.declared.layout.RowSize.{RowSize}
-use Rattle.vpf_theme.specs.declared.layout.RowSize.TheVariants as sizes
+use Rattle.vpf_base.specs.Numbers.{number}
 use Rattle.vpf_theme.specs.declared.layout.Layout.{Layout}
 use Rattle.vpf_theme.specs.Layouts.{directory_end, form_text, row_size_text}
 use Rattle.vpf_theme.specs.Spelling.{IsThemeHeader}
-use Rattle.vpf_theme.proofs.PieceLemmas.{after, length-u32, piece_inside}
+use Rattle.vpf_theme.specs.Inner.PieceLaws.{after, length-u32, piece_inside}
 use Rattle.vpf_theme_build.specs.Text.{header_text, spaced}
 use Rattle.vpf_theme_build.proofs.TextLemmas.{length-spaces, spaces}
+use Rattle.vpf_theme.specs.Inner.HeaderLaws.{length-form, length-size}
 
 -- ---- lengths
-
-length-form : (form : Form) → length (form_text form) ≡ 1
-length-form forms.List = refl
-length-form forms.Bitmap = refl
-
-length-size : (size : RowSize) → length (row_size_text size) ≡ 1
-length-size sizes.Short = refl
-length-size sizes.Long = refl
 
 length-spaced : (n : ℕ) (name : List ℕ) → length (spaced n name) ≡ n
 length-spaced n name = length-take-le n (name ++ spaces n) (omega (arith, length-append name (spaces n), length-spaces n))

@@ -1,5 +1,5 @@
 -- The data of an entry that are written list its rows.
-use Rattle.std.proofs.Common.{◌≡◌, ℕ, zero, suc, ◌+◌, ◌*◌, ◌^◌, ◌<◌, ◌≤◌, Bool, true, false, List, [], ◌∷◌, ◌++◌, length, drop, get_or, refl, arith, inl, inr}
+use Rattle.std.proofs.Common.{[], ◌≡◌, ℕ, zero, suc, ◌+◌, ◌*◌, ◌^◌, ◌<◌, ◌≤◌, Bool, true, false, List, ◌∷◌, ◌++◌, length, drop, get_or, refl, arith, inl, inr}
 use Rattle.std.specs.Prelude.{◌==◌, All, nat_le, if◌then◌else◌}
 use Rattle.std.proofs.lemmas.Bool.{leb-true, ne_eqb}
 use Rattle.vpf_theme.specs.declared.layout.Form.{Form}
@@ -10,9 +10,9 @@ use Rattle.vpf_theme.specs.declared.layout.Layout.{Layout}
 use Rattle.vpf_theme.specs.declared.entries.Extent.{Extent}
 use Rattle.vpf_theme.specs.Layouts.{directory_end, row_bytes}
 use Rattle.vpf_theme.specs.Spelling.{AreData, HoldsRow, IsBitmap, IsList, row_numbers_text}
-use Rattle.vpf_theme.proofs.PieceLemmas.{piece_inside}
+use Rattle.vpf_theme.specs.Inner.PieceLaws.{piece_inside}
 use Rattle.vpf_theme_build.specs.Text.{bitmap_text, count_by, data_by, offset_by}
-use Rattle.vpf_theme_build.specs.Writing.{AreEntryRows}
+use Rattle.vpf_theme_build.specs.Inner.Writing.{AreEntryRows}
 use Rattle.vpf_theme_build.proofs.MarkLemmas.{length-bitmap, marks_there}
 use Rattle.vpf_theme_build.proofs.TextLemmas.{length-rows}
 

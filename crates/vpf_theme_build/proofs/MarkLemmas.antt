@@ -1,7 +1,6 @@
 -- The bits of a bitmap that is written mark its rows.
-use Rattle.std.proofs.Common.{◌≡◌, ℕ, zero, suc, ◌+◌, ◌-◌, ◌*◌, ◌/◌, ◌%◌, ◌^◌, ◌<◌, Bool, true, false, ◌==◌, List, [], ◌∷◌, ◌++◌, length, drop, get_or, refl, sym, ap, subst, ◌∙◌, arith, inl, inr}
+use Rattle.std.proofs.Common.{[], ◌≡◌, ℕ, zero, suc, ◌+◌, ◌-◌, ◌*◌, ◌/◌, ◌%◌, ◌^◌, ◌<◌, Bool, true, false, ◌==◌, List, ◌∷◌, ◌++◌, length, drop, get_or, refl, sym, ap, subst, ◌∙◌, arith, inl, inr}
 use Rattle.std.specs.Prelude.{◌↔◌, Contains, if◌then◌else◌}
-use Rattle.std.specs.List.{list_any}
 use Rattle.std.specs.Int.{bit_at}
 use Rattle.std.proofs.lemmas.Bool.{cases_lt, cases_eq, eq-eqb, ne_eqb}
 use Rattle.std.proofs.lemmas.List.{get_or-drop}
@@ -11,11 +10,9 @@ use Rattle.vpf_base.proofs.Booleans.{or_true}
 use Rattle.vpf_theme.specs.Entries.{is_marked}
 use Rattle.vpf_theme_build.specs.Text.{row_bits, bitmap_byte, bitmap_text}
 use Rattle.vpf_theme_build.proofs.BitLemmas.{bits_more, below_more, still_small}
+use Rattle.vpf_theme.specs.Inner.StoredLaws.{holds_row as has}
 
 -- ---- members
-
-abbrev has : List ℕ → ℕ → Bool
-has rows row = list_any (λ r. r == row) rows
 
 has_member : (rows : List ℕ) (row k : ℕ) → k < length rows → get_or rows k row ≡ row → has rows row ≡ true
 has_member [] row k h e = absurd (omega arith)

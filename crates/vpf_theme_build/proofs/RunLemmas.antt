@@ -4,7 +4,7 @@ use Rattle.std.proofs.lemmas.List.{get_or-drop, length-drop, drop-drop, map-appe
 use Rattle.vpf_value.specs.Values.{view}
 use Rattle.vpf_theme.specs.Ordering.{same_value}
 use Rattle.vpf_theme.specs.Entries.{Entry}
-use Rattle.vpf_theme.specs.KeyLaws.{same_yes, same_no}
+use Rattle.vpf_theme.specs.Inner.KeyLaws.{same_yes, same_no}
 use Rattle.vpf_theme_build.specs.declared.grouping.Spot.{Spot}
 use Rattle.vpf_theme_build.specs.declared.grouping.Group.{Group}
 use Rattle.vpf_theme_build.specs.Grouping.{EndsAt, Spotted, entry_in, group_entry, grouped, joined_spot, seen, value_at}

@@ -7,7 +7,7 @@ use Rattle.vpf_triplet.specs.declared.kinds.Kind.{Kind}
 use Rattle.vpf_triplet.specs.declared.kinds.Count.{Count}
 use Rattle.vpf_triplet.specs.declared.kinds.Count.TheVariants.{Fixed}
 use Rattle.vpf_value.specs.Values.{Value, Nothing}
-use Rattle.vpf_value.specs.Fitting.{FitsCell}
+use Rattle.vpf_value.specs.Inner.Fitting.{FitsCell}
 use Rattle.vpf_head.specs.Head.{Col}
 use Rattle.vpf_theme.specs.declared.layout.Form.{Form}
 use Rattle.vpf_theme.specs.Layouts.{is_indexed}
@@ -15,7 +15,7 @@ use Rattle.vpf_theme.specs.Ordering.{same_value, value_cmp}
 use Rattle.vpf_theme.specs.Entries.{Entry}
 use Rattle.vpf_theme.specs.Findings.{no_entry}
 use Rattle.vpf_theme.specs.Agreeing.{AgreesWithColumn, scan_from}
-use Rattle.vpf_theme.specs.KeyLaws.{Decides-same_value, same_yes}
+use Rattle.vpf_theme.specs.Inner.KeyLaws.{Decides-same_value, same_yes}
 use Rattle.vpf_theme_build.specs.Building.{index_for}
 use Rattle.vpf_theme_build.specs.Grouping.{AreOfOneField, entries_for, entry_for, values_of}
 use Rattle.vpf_theme_build.proofs.EntryLists.{AllAbove, Rising, apart}

@@ -5,11 +5,11 @@ use Rattle.std.specs.Cmp.{IsTotalOrder}
 use Rattle.std.proofs.lemmas.List.{length-map}
 use Rattle.vpf_base.specs.Limits.{most_rows, most_bytes}
 use Rattle.vpf_base.specs.Bytes.{IsBytes}
-use Rattle.vpf_triplet.specs.declared.orders.Order.{Order}
+use Rattle.vpf_base.specs.declared.orders.Order.{Order}
 use Rattle.vpf_triplet.specs.declared.kinds.Count.{Count}
 use Rattle.vpf_triplet.specs.declared.kinds.Count.TheVariants.{Fixed, Star}
 use Rattle.vpf_value.specs.Values.{Value, Nothing}
-use Rattle.vpf_value.specs.Fitting.{FitsCell}
+use Rattle.vpf_value.specs.Inner.Fitting.{FitsCell}
 use Rattle.vpf_head.specs.Head.{Col}
 use Rattle.vpf_table.specs.Canonical.{IsWritable, in_order}
 use Rattle.vpf_table.specs.Grid.{Grid, Row}
@@ -24,7 +24,8 @@ use Rattle.vpf_theme.specs.Reading.{theme_of}
 use Rattle.vpf_theme_build.specs.Building.{BuiltIndexesServe, CanIndex, built_by, index_for, layout_for}
 use Rattle.vpf_theme_build.specs.Grouping.{entries_for}
 use Rattle.vpf_theme_build.specs.Text.{index_len, index_text}
-use Rattle.vpf_theme_build.proofs.BuildLemmas.{cells_fit, has_values, limited_ok, one_column}
+use Rattle.vpf_theme_build.proofs.BuildLemmas.{has_values, limited_ok}
+use Rattle.vpf_theme_build.specs.Inner.BuildLaws.{cells_fit, one_column}
 use Rattle.vpf_theme_build.proofs.ColumnLemmas.{built_long}
 use Rattle.vpf_theme_build.proofs.SpelledLemmas.{HaveWidths}
 

@@ -10,7 +10,7 @@ use Rattle.std.proofs.lemmas.List.Sorted.{All-permutation}
 use Rattle.vpf_value.specs.Values.{Value, Nothing, view}
 use Rattle.vpf_theme.specs.Ordering.{same_value, value_cmp}
 use Rattle.vpf_theme.specs.Agreeing.{scan_from}
-use Rattle.vpf_theme.specs.KeyLaws.{Decides-same_value, same_yes, same_no}
+use Rattle.vpf_theme.specs.Inner.KeyLaws.{Decides-same_value, same_yes, same_no}
 use Rattle.vpf_theme_build.specs.declared.grouping.Spot.{Spot}
 use Rattle.vpf_theme_build.specs.Grouping.{AreOfOneField, Sorts, Spotted, entries_for, grouped, is_below, numbered_cells, seen}
 use Rattle.vpf_theme_build.proofs.EntryLists.{Told, same_entries}

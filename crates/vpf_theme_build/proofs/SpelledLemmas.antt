@@ -1,15 +1,15 @@
 -- The bytes that are written of a layout and entries are a file of that index.
-use Rattle.std.proofs.Common.{◌≡◌, ℕ, ◌+◌, ◌*◌, ◌^◌, ◌<◌, ◌≤◌, List, [], ◌∷◌, ◌++◌, length, drop, append_assoc, Some, refl, ap, ◌∙◌, arith}
+use Rattle.std.proofs.Common.{[], ◌≡◌, ℕ, ◌+◌, ◌*◌, ◌^◌, ◌<◌, ◌≤◌, List, ◌∷◌, ◌++◌, length, drop, append_assoc, Some, refl, ap, ◌∙◌, arith}
 use Rattle.std.specs.Int.{w32}
 use Rattle.std.proofs.lemmas.List.{length-append, length-drop}
-use Rattle.vpf_triplet.specs.declared.orders.Order.{Order}
+use Rattle.vpf_base.specs.declared.orders.Order.{Order}
 use Rattle.vpf_triplet.specs.declared.kinds.Kind.{Kind}
 use Rattle.vpf_triplet.specs.declared.kinds.Count.{Count}
 use Rattle.vpf_triplet.specs.declared.kinds.Count.TheVariants.{Fixed}
-use Rattle.vpf_triplet.specs.Numbers.{number}
+use Rattle.vpf_base.specs.Numbers.{number}
 use Rattle.vpf_value.specs.Values.{Value}
 use Rattle.vpf_value.specs.Canonical.{spelled}
-use Rattle.vpf_value.specs.Fitting.{FitsCell}
+use Rattle.vpf_value.specs.Inner.Fitting.{FitsCell}
 use Rattle.vpf_value.specs.Spelling.{IsCell}
 use Rattle.vpf_value.specs.Widths.{cell_width}
 use Rattle.vpf_theme.specs.declared.layout.RowSize.{RowSize}
@@ -17,10 +17,10 @@ use Rattle.vpf_theme.specs.declared.layout.Layout.{Layout}
 use Rattle.vpf_theme.specs.Layouts.{HasValues, directory_end, entry_bytes, entry_start, value_bytes}
 use Rattle.vpf_theme.specs.Entries.{Entry, Theme}
 use Rattle.vpf_theme.specs.Spelling.{AreEntriesAt, IsBelow, IsEntryAt, IsThematicIndex, ValuesRise, layout_from}
-use Rattle.vpf_theme.proofs.PieceLemmas.{after, length-u32}
-use Rattle.vpf_theme.proofs.ValueLemmas.{indexed_width}
+use Rattle.vpf_theme.specs.Inner.PieceLaws.{after, length-u32}
+use Rattle.vpf_theme.specs.Inner.ValueLaws.{indexed_width}
 use Rattle.vpf_theme_build.specs.Text.{all_data, count_by, data_text, directory_text, entry_text, header_text, index_text, offset_by}
-use Rattle.vpf_theme_build.specs.Writing.{AreEntryRows}
+use Rattle.vpf_theme_build.specs.Inner.Writing.{AreEntryRows}
 use Rattle.vpf_theme_build.proofs.EntryLists.{AllAbove, Rising}
 use Rattle.vpf_theme_build.proofs.HeaderLemmas.{IsStored, front_stands}
 use Rattle.vpf_theme_build.proofs.ListedLemmas.{count_small, data_stand, extent_for, offset_small}

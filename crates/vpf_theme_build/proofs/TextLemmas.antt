@@ -1,10 +1,10 @@
 -- The pieces of an index, one after another.
-use Rattle.std.proofs.Common.{◌≡◌, ℕ, zero, suc, ◌+◌, ◌-◌, ◌*◌, ◌/◌, ◌^◌, ◌<◌, ◌≤◌, Bool, true, false, nat_eq, List, [], ◌∷◌, ◌++◌, length, map, take, drop, get_or, append_assoc, refl, sym, ap, subst, ◌∙◌, arith}
+use Rattle.std.proofs.Common.{[], ◌≡◌, ℕ, zero, suc, ◌+◌, ◌-◌, ◌*◌, ◌/◌, ◌^◌, ◌<◌, ◌≤◌, Bool, true, false, nat_eq, List, ◌∷◌, ◌++◌, length, map, take, drop, get_or, append_assoc, refl, sym, ap, subst, ◌∙◌, arith}
 use Rattle.std.specs.Prelude.{All, replicate, if◌then◌else◌}
 use Rattle.std.proofs.lemmas.List.{get_or-map, length-map, length-append, length-drop, length-take, drop_more, take_more}
 use Rattle.std.proofs.lemmas.List.FromFn.{length-map-range_with_len}
-use Rattle.vpf_triplet.specs.declared.orders.Order.{Order}
-use Rattle.vpf_triplet.specs.Numbers.{number}
+use Rattle.vpf_base.specs.declared.orders.Order.{Order}
+use Rattle.vpf_base.specs.Numbers.{number}
 use Rattle.vpf_theme.specs.declared.layout.Form.{Form}
 use Rattle.vpf_theme.specs.declared.layout.Form.TheVariants as forms
 use Rattle.vpf_theme.specs.declared.layout.RowSize.{RowSize}
@@ -12,12 +12,12 @@ use Rattle.vpf_theme.specs.declared.layout.RowSize.TheVariants as sizes
 use Rattle.vpf_theme.specs.declared.layout.Layout.{Layout}
 use Rattle.vpf_theme.specs.Layouts.{row_bytes}
 use Rattle.vpf_theme.specs.Spelling.{row_width, row_numbers_text}
-use Rattle.vpf_theme.proofs.PieceLemmas.{length-row}
+use Rattle.vpf_theme.specs.Inner.PieceLaws.{length-row}
 use Rattle.vpf_theme_build.specs.declared.grouping.Spot.{Spot}
 use Rattle.vpf_theme_build.specs.declared.grouping.Group.{Group}
 use Rattle.vpf_theme_build.specs.Grouping.{IsGroup, cells_in, entry_in, spot_row}
 use Rattle.vpf_theme_build.specs.Text.{all_data, bitmap_byte, data_by, data_text, directory_text, entry_text}
-use Rattle.vpf_theme_build.specs.Writing.{data_len, data_len_by}
+use Rattle.vpf_theme_build.specs.Inner.Writing.{data_len, data_len_by}
 
 pub rows_inside : (n : ℕ) (spots : List Spot) → All (λ row. (1 ≤ row) × (row ≤ n)) (map spot_row spots) → (k : ℕ) (d : Spot) → k < length spots → (1 ≤ (get_or spots k d).row) × ((get_or spots k d).row ≤ n)
 rows_inside n spots h k d m = subst (λ (r : ℕ). (1 ≤ r) × (r ≤ n)) (get_or-map spot_row spots k d 0 m) (h k 0 (omega (arith, length-map spots spot_row)))

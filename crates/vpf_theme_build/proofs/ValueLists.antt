@@ -8,7 +8,7 @@ use Rattle.vpf_value.specs.Values.{Value, Nothing}
 use Rattle.vpf_theme.specs.Ordering.{same_value, value_cmp}
 use Rattle.vpf_theme.specs.Entries.{found_in}
 use Rattle.vpf_theme.specs.Agreeing.{listed, scan_from, scan_of}
-use Rattle.vpf_theme.specs.KeyLaws.{Decides-same_value, same_yes}
+use Rattle.vpf_theme.specs.Inner.KeyLaws.{Decides-same_value, same_yes}
 use Rattle.vpf_theme_build.specs.Grouping.{placed_value, with_value, values_of, entry_for, entries_for}
 use Rattle.vpf_theme_build.proofs.EntryLists.{AllAbove, Rising, Filled, EachValue, Told, back}
 

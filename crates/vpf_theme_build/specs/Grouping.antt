@@ -2,7 +2,7 @@
 use Rattle.std.specs.Prelude.{◌≡◌, ◌⊎◌, ℕ, ◌+◌, ◌<◌, ◌≤◌, List, [], ◌∷◌, length, map, slice_index, slice_index_or, slice_range, if◌then◌else◌, slice_get, Some, All, Bool, true}
 use Rattle.std.specs.List.Sorted.{IsPermutation, IsSortedBy, IsStableBy}
 use Rattle.std.specs.Ordering.{is_lt}
-use Rattle.vpf_value.specs.Fitting.{FitsCell}
+use Rattle.vpf_value.specs.Inner.Fitting.{FitsCell}
 use Rattle.vpf_head.specs.Head.{Col}
 use Rattle.vpf_table.specs.Grid.{Grid}
 use Rattle.std.specs.declared.cmp.Ordering.{Ordering}

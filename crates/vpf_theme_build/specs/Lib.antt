@@ -1,4 +1,4 @@
 pub mod Grouping
 pub mod Text
 pub mod Building
-pub mod Writing
+pub mod Inner

@@ -5,7 +5,7 @@ use Rattle.std.specs.List.{list_any, range_with_len}
 use Rattle.std.specs.Int.{w32}
 use Rattle.vpf_triplet.specs.declared.kinds.Count.TheVariants.{Fixed}
 use Rattle.vpf_triplet.specs.Kinds.{kind_text}
-use Rattle.vpf_triplet.specs.Numbers.{number}
+use Rattle.vpf_base.specs.Numbers.{number}
 use Rattle.vpf_value.specs.Canonical.{spelled}
 use Rattle.vpf_theme.specs.declared.layout.Form.{Form}
 use Rattle.vpf_theme.specs.declared.layout.Form.TheVariants as forms

@@ -8,7 +8,7 @@ ghost use Rattle.vpf_theme.specs.Layouts.{HasValues, directory_end, is_indexed};
 ghost use Rattle.vpf_theme.specs.Findings.{cells_of};
 ghost use Rattle.vpf_theme_build.specs.Grouping.{IsGroup, entry_in};
 ghost use Rattle.vpf_theme_build.specs.Text.{all_data, directory_text, index_len, index_text};
-ghost use Rattle.vpf_theme_build.specs.Writing.{AreEntries, FitsSpot};
+ghost use Rattle.vpf_theme_build.specs.Inner.Writing.{AreEntries, FitsSpot};
 ghost use Rattle.vpf_theme_build.specs.Building.{AgreeAt, AreRead, Builds, CanBuild, built_by, within_limit};
 
 use crate::errors::BuildError;

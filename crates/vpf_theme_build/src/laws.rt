@@ -1,10 +1,10 @@
 //! Laws about the indexes that are built.
 
 ghost use Rattle.std.specs.Prelude.{◌≡◌, ℕ, All, List, Ok, true};
-ghost use Rattle.vpf_triplet.specs.declared.orders.Order.{Order};
+ghost use Rattle.vpf_base.specs.declared.orders.Order.{Order};
 ghost use Rattle.vpf_triplet.specs.declared.kinds.Count.{Count};
 ghost use Rattle.vpf_value.specs.Values.{Value};
-ghost use Rattle.vpf_value.specs.Fitting.{FitsCell};
+ghost use Rattle.vpf_value.specs.Inner.Fitting.{FitsCell};
 ghost use Rattle.vpf_head.specs.Head.{Col};
 ghost use Rattle.vpf_theme.specs.declared.layout.Form.{Form};
 ghost use Rattle.vpf_theme.specs.Layouts.{is_indexed};

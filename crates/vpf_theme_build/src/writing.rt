@@ -3,11 +3,11 @@
 ghost use Rattle.std.specs.Prelude.{◌≡◌, ◌<◌, ◌≤◌, ◌+◌, ◌/◌, ◌++◌, ◌^◌, ◌==◌, All, MatchBool, OnOk, length, map};
 ghost use Rattle.std.specs.List.{list_any};
 ghost use Rattle.std.specs.List.Sorted.{IsStrictlyIncreasing};
-ghost use Rattle.vpf_triplet.specs.Numbers.{number};
+ghost use Rattle.vpf_base.specs.Numbers.{number};
 ghost use Rattle.vpf_theme.specs.Spelling.{row_width, row_numbers_text};
 ghost use Rattle.vpf_theme_build.specs.Grouping.{IsNext, group_entry, spot_row};
 ghost use Rattle.vpf_theme_build.specs.Text.{bitmap_text, row_bits, count_by, data_text, entry_text, offset_by, row_size_for};
-ghost use Rattle.vpf_theme_build.specs.Writing.{AreEntryRows, FitsSpot, data_len, is_alone};
+ghost use Rattle.vpf_theme_build.specs.Inner.Writing.{AreEntryRows, FitsSpot, data_len, is_alone};
 
 use crate::grouping::Spot;
 use std::alloc::AllocError;

@@ -15,14 +15,14 @@ use Rattle.vpf_prims.specs.Tables.{TileTables}
 use Rattle.vpf_wing.specs.WellFormed.{IsWellFormed}
 use Rattle.vpf_tiling.specs.Plans.{HasPlaces, IsPlan}
 use Rattle.vpf_tiling.specs.Plan.Named.{named_tile, tiles_named}
-use Rattle.vpf_tiling.specs.Tileable.Laws.{RefusalsDecide}
+use Rattle.vpf_tiling.specs.Inner.Tileable.Laws.{RefusalsDecide}
 use Rattle.vpf_tiling.specs.Tileable.Planning.{plan_of}
 use Rattle.vpf_tiling.specs.Tileable.Refusals.{first_refusal}
-use Rattle.vpf_cutting.specs.Cuts.{Cutting, IsPlanned, cutting_of, plan_by}
-use Rattle.vpf_table_files.specs.declared.errors.AddError.{AddError}
-use Rattle.vpf_table_files.specs.declared.errors.AddError.TheVariants as adds
-use Rattle.vpf_table_files.specs.Adding.{NamedTable, error_seen, first_limit_of, made_of_tables, unless_limited}
-use Rattle.vpf_tiler.specs.Errors.{tile_error}
+use Rattle.vpf_cutting.specs.Inner.Cuts.{Cutting, IsPlanned, cutting_of, plan_by}
+use Rattle.vpf_library_files.specs.declared.table_files.errors.AddError.{AddError}
+use Rattle.vpf_library_files.specs.declared.table_files.errors.AddError.TheVariants as adds
+use Rattle.vpf_library_files.specs.TableFiles.Adding.{NamedTable, error_seen, first_limit_of, made_of_tables, unless_limited}
+use Rattle.vpf_tiler.specs.Inner.Errors.{tile_error}
 use Rattle.vpf_tiler.specs.declared.errors.TileError.{TileError}
 use Rattle.vpf_tiler.specs.declared.errors.TileError.TheVariants as errors
 use Rattle.vpf_tiler.specs.CutBy.{IsCause, IsCutBy, names_of_faces, plan_refusal}

@@ -15,25 +15,25 @@ use Rattle.vpf_prims.specs.Tables.{TileTables}
 use Rattle.vpf_library_files.specs.Tileref.Numbered.{most_tiles}
 use Rattle.vpf_library_files.specs.Tileref.Stops.{path_texts}
 use Rattle.vpf_library_files.specs.Loading.Holding.{HoldsCoverage, bytes_in}
-use Rattle.vpf_library_files.specs.Loading.Laws.{HeldIsRead}
+use Rattle.vpf_library_files.specs.Inner.Loading.Laws.{HeldIsRead}
 use Rattle.vpf_library_files.specs.Loading.Loading.{LoadedCoverage, Read, most_loaded, read_coverage}
 use Rattle.vpf_tiling.specs.Plans.{IsTileable}
 use Rattle.vpf_tiling.specs.Tiles.{tiled_library}
 use Rattle.vpf_tiling.specs.declared.tileable.refusals.Refusal.{Refusal}
-use Rattle.vpf_tiling.specs.Tileable.Laws.{RefusalsDecide}
+use Rattle.vpf_tiling.specs.Inner.Tileable.Laws.{RefusalsDecide}
 use Rattle.vpf_cross.specs.Agreeing.{LibraryAgrees}
-use Rattle.vpf_tiling_laws.specs.Tiled.Laws.{FollowingIsNext, ListingIsNamed, MapIsNamed, TiledAgrees}
-use Rattle.vpf_tiling_laws.specs.Gluing.Gluing.{GluingGivesRenumbered}
-use Rattle.vpf_primitive_tables.specs.TileReading.Laws.{CutsAreRead, CutsHaveColumns}
-use Rattle.vpf_primitive_tables.specs.TileWriting.Laws.{TilerefIsRead, TilerefIsWritable, TilesAreWritable}
+use Rattle.vpf_tiling_laws.specs.Inner.Tiled.Laws.{FollowingIsNext, ListingIsNamed, MapIsNamed, TiledAgrees}
+use Rattle.vpf_tiling_laws.specs.Inner.Gluing.Gluing.{GluingGivesRenumbered}
+use Rattle.vpf_primitive_tables.specs.Inner.TileReading.Laws.{CutsAreRead, CutsHaveColumns}
+use Rattle.vpf_primitive_tables.specs.Inner.TileWriting.Laws.{TilerefIsRead, TilerefIsWritable, TilesAreWritable}
 use Rattle.vpf_tiler.specs.declared.errors.TileError.{TileError}
-use Rattle.vpf_table_files.specs.Adding.{NamedTable, files_made, first_limit_of}
+use Rattle.vpf_library_files.specs.TableFiles.Adding.{NamedTable, files_made, first_limit_of}
 use Rattle.vpf_tiler.specs.Making.{tile_error_seen, tiles_of_tables, unless_tile_limited}
 use Rattle.vpf_tiler.specs.TileFiles.Tables.{all_tile_tables, library_tables, tileref_table}
-use Rattle.vpf_tiler.specs.TiledFiles.Folders.{CanBeMade, HoldsExactly}
-use Rattle.vpf_tiler.specs.TiledFiles.Laws.{HoldsCut, MadeIsHeld}
+use Rattle.vpf_tiler.specs.Inner.TiledFiles.Folders.{CanBeMade, HoldsExactly}
+use Rattle.vpf_tiler.specs.Inner.TiledFiles.Laws.{HoldsCut, MadeIsHeld}
 use Rattle.vpf_tiler.specs.CutBy.{names_of_faces, plan_refusal}
-use Rattle.vpf_tiler.specs.Laws.{AreTilesGiven, MadeAgrees, MadeGoesOn, MadeHasCycles, MadeIsGlued, MadeIsTileable, OfFilesMade}
+use Rattle.vpf_tiler.specs.Inner.Laws.{AreTilesGiven, MadeAgrees, MadeGoesOn, MadeHasCycles, MadeIsGlued, MadeIsTileable, OfFilesMade}
 use Rattle.vpf_tiler.specs.Making.{tiled, unless_refused}
 use Rattle.vpf_tiler.specs.Tilings.{AreInFolder, GoesOnAs, HasCyclesOf, IsGluedTo, IsHeldInTiles, OfEachCoverage, Tiling, tiling_of}
 use Rattle.vpf_tiler.proofs.ReadableLemmas.{are_apart, are_filled}

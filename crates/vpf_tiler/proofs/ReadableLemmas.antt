@@ -6,11 +6,11 @@ use Rattle.std.proofs.lemmas.List.Elements.{recursion_from_All}
 use Rattle.vpf_head.specs.Head.{Col}
 use Rattle.vpf_table.specs.Canonical.{FitsRow, IsWritable}
 use Rattle.vpf_table.specs.Grid.{Grid, Row}
-use Rattle.vpf_prims.specs.Laws.{AreFilled, IsFilled}
+use Rattle.vpf_prims.specs.Inner.Laws.{AreFilled, IsFilled}
 use Rattle.vpf_prims.specs.Reading.{PrimitiveTables}
-use Rattle.vpf_library_files.specs.Loading.Laws.{AreNamedApart}
-use Rattle.vpf_primitive_tables.specs.TileWriting.Writable.{AreWritable, HaveFewRows}
-use Rattle.vpf_tiler.specs.Laws.{IsReadable}
+use Rattle.vpf_library_files.specs.Inner.Loading.Laws.{AreNamedApart}
+use Rattle.vpf_primitive_tables.specs.Inner.TileWriting.Writable.{AreWritable, HaveFewRows}
+use Rattle.vpf_tiler.specs.Inner.Laws.{IsReadable}
 
 -- a row that fits its columns has a cell for each
 row_filled : (columns : List Col) (row : Row) → FitsRow columns row → length row ≡ length columns

@@ -4,7 +4,7 @@ use Rattle.std.proofs.Math.Dec.{eqb-suc-zero}
 use Rattle.std.proofs.lemmas.List.{length-map}
 use mathlib.Core.Path.{fun_ext}
 use Rattle.vpf_findings.specs.Findings.{Disagreement}
-use Rattle.vpf_findings.specs.FirstLaws.{or-none_both, over_none}
+use Rattle.vpf_findings.specs.Inner.FirstLaws.{or-none_both, over_none}
 use Rattle.vpf_prims.specs.Coverages.{CoverageTables, last_tile, tile_at}
 use Rattle.vpf_prims.specs.Libraries.{IsLibrary, in_tile, in_tiles, library_of, primitives_in}
 use Rattle.vpf_prims.specs.Numbering.{IsNumbered}
@@ -12,11 +12,11 @@ use Rattle.vpf_prims.specs.Primitives.{Library, Primitives, edge_count, has_tabl
 use Rattle.vpf_prims.specs.Reading.{edge_in_row, primitives_of}
 use Rattle.vpf_prims.specs.Suiting.{HasColumns}
 use Rattle.vpf_prims.specs.Tables.{TileTables}
-use Rattle.vpf_numbers.specs.Laws.{CoverageNumbersDecide}
+use Rattle.vpf_numbers.specs.Inner.Laws.{CoverageNumbersDecide}
 use Rattle.vpf_numbers.specs.TableLines.{coverage_numbers}
 use Rattle.vpf_wing.specs.CycleLines.{cycles_finding, loops_finding}
-use Rattle.vpf_wing.specs.DartLaws.{never_both}
-use Rattle.vpf_wing.specs.Laws.{CyclesDecide, LoopsDecide}
+use Rattle.vpf_wing.specs.Inner.DartLaws.{never_both}
+use Rattle.vpf_wing.specs.Inner.Laws.{CyclesDecide, LoopsDecide}
 use Rattle.vpf_wing.specs.WellFormed.{IsWellFormed}
 use Rattle.vpf_cross.specs.CrossFinding.{topology_finding, topology_finding_of}
 

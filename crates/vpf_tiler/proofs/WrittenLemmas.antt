@@ -12,7 +12,7 @@ use Rattle.vpf_head.specs.Head.{varies_in}
 use Rattle.vpf_table.specs.Canonical.{IsWritable, canonical_table}
 use Rattle.vpf_table.specs.Grid.{Grid}
 use Rattle.vpf_table.specs.declared.limit.Limit.{Limit as Passed}
-use Rattle.vpf_findings.specs.FirstLaws.{or-assoc, or-none_both}
+use Rattle.vpf_findings.specs.Inner.FirstLaws.{or-assoc, or-none_both}
 use Rattle.vpf_findings.specs.Firsts.{◌or◌}
 use Rattle.vpf_write.specs.Writing.{first_limit, limit_by}
 use Rattle.vpf_prims.specs.Lists.{kth}
@@ -21,10 +21,10 @@ use Rattle.vpf_prims.specs.Reading.{PrimitiveTables, primitives_of}
 use Rattle.vpf_library_files.specs.Loading.Loading.{within}
 use Rattle.vpf_tiling.specs.Tiles.{is_made}
 use Rattle.vpf_primitive_tables.specs.TileTables.Grids.{edges_made, entities_made, faces_made, nodes_made, rings_made}
-use Rattle.vpf_table_files.specs.Adding.{NamedTable, first_limit_of, named_limit, table_within}
+use Rattle.vpf_library_files.specs.TableFiles.Adding.{NamedTable, first_limit_of, named_limit, table_within}
 use Rattle.vpf_tiler.specs.TileFiles.Tables.{all_tile_tables, tile_edge_table, entity_tables, face_table, node_table, tile_ring_table, tables_if_made, tile_tables}
-use Rattle.vpf_primitive_tables.specs.TileReading.Cuts.{tables_of_tile}
-use Rattle.vpf_primitive_tables.specs.TileWriting.Writable.{AreWritable, HaveFewRows}
+use Rattle.vpf_primitive_tables.specs.Inner.TileReading.Cuts.{tables_of_tile}
+use Rattle.vpf_primitive_tables.specs.Inner.TileWriting.Writable.{AreWritable, HaveFewRows}
 
 -- a table that can be written
 abbrev pub CanWrite : NamedTable → Type 0

@@ -6,7 +6,7 @@ use Rattle.vpf_tiling.specs.Plan.Named.{tiles_named}
 use Rattle.vpf_tiling.specs.declared.tileable.refusals.Refusal.{Refusal}
 use Rattle.vpf_tiling.specs.Tileable.Planning.{plan_of}
 use Rattle.vpf_tiling.specs.Tileable.Refusals.{first_refusal}
-use Rattle.vpf_cutting.specs.Cuts.{Cutting, plan_by}
+use Rattle.vpf_cutting.specs.Inner.Cuts.{Cutting, plan_by}
 use Rattle.vpf_tiler.specs.declared.errors.TileError.{TileError}
 use Rattle.vpf_tiler.specs.declared.errors.TileError.TheVariants as errors
 

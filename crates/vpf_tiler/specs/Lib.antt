@@ -1,7 +1,6 @@
-pub mod Errors
 pub mod CutBy
 pub mod Making
 pub mod Tilings
-pub mod Laws
 pub mod TileFiles
-pub mod TiledFiles
+pub mod Inner
+pub use Rattle.vpf_primitive_tables.specs.Inner.TileWriting.Writable

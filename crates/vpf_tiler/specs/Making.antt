@@ -8,7 +8,7 @@ use Rattle.vpf_tiling.specs.declared.tileable.refusals.Refusal.{Refusal}
 use Rattle.vpf_tiling.specs.Tileable.Planning.{plan_of}
 use Rattle.vpf_tiler.specs.declared.errors.TileError.{TileError}
 use Rattle.vpf_tiler.specs.declared.errors.TileError.TheVariants as errors
-use Rattle.vpf_table_files.specs.Adding.{NamedTable, files_made, first_limit_of}
+use Rattle.vpf_library_files.specs.TableFiles.Adding.{NamedTable, files_made, first_limit_of}
 use Rattle.vpf_tiler.specs.TileFiles.Tables.{library_tables}
 use Rattle.vpf_tiler.specs.CutBy.{names_of_faces, plan_refusal}
 

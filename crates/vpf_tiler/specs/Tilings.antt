@@ -22,7 +22,7 @@ use Rattle.vpf_tiling_laws.specs.Tiled.Names.{named_map}
 use Rattle.vpf_tiling_laws.specs.Gluing.Glued.{glued, renumbered, tiles_of_faces}
 use Rattle.vpf_tiling_laws.specs.Gluing.Whole.{whole_named, whole_of}
 use Rattle.vpf_tiling.specs.Tileable.Planning.{plan_of}
-use Rattle.vpf_tiler.specs.TiledFiles.Folders.{HoldsExactly}
+use Rattle.vpf_tiler.specs.Inner.TiledFiles.Folders.{HoldsExactly}
 use Rattle.vpf_tiler.specs.CutBy.{names_of_faces}
 
 -- what is cut into tiles: an untiled coverage, the tile that its plan names for each face, and how many tiles there are

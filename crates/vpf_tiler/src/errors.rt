@@ -1,9 +1,9 @@
 //! Why a coverage isn't tiled.
 
 use std::alloc::{AllocError, AllocFailed};
+use vpf_library_files::table_files::AddError;
 use vpf_source::Name;
 use vpf_table::Limit;
-use vpf_table_files::AddError;
 use vpf_tiling::tileable::Refusal;
 
 /// Why a coverage isn't tiled.
@@ -52,7 +52,7 @@ impl From<Refusal> for TileError {
 
 impl From<AddError> for TileError {
     ghost use Rattle.std.specs.Prelude.{◌≡◌};
-    ghost use Rattle.vpf_tiler.specs.Errors.{tile_error};
+    ghost use Rattle.vpf_tiler.specs.Inner.Errors.{tile_error};
 
     ghost from_gives = { λ error e. e ≡ tile_error error };
 

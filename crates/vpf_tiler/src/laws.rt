@@ -1,6 +1,6 @@
 //! What is so of the files that tiling comes to.
 
-ghost use Rattle.vpf_tiler.specs.Laws.{MadeAgrees, MadeGoesOn, MadeHasCycles, MadeIsGlued, MadeIsTileable};
+ghost use Rattle.vpf_tiler.specs.Inner.Laws.{MadeAgrees, MadeGoesOn, MadeHasCycles, MadeIsGlued, MadeIsTileable};
 
 use crate::tiled_files::laws::made_is_held;
 use vpf_library_files::loading::laws::coverages_are_held;

@@ -9,9 +9,9 @@ ghost use Rattle.vpf_wing.specs.WellFormed.{IsWellFormed};
 ghost use Rattle.vpf_tiling.specs.Plan.Plans.{IsPlanTable};
 ghost use Rattle.vpf_library_files.specs.Tileref.Stops.{IsBounded, path_texts};
 ghost use Rattle.vpf_library_files.specs.Tileref.Tileref.{IsTileref};
-ghost use Rattle.vpf_primitive_tables.specs.TileWriting.Writable.{AreWritable, HaveFewRows};
+ghost use Rattle.vpf_primitive_tables.specs.Inner.TileWriting.Writable.{AreWritable, HaveFewRows};
 ghost use Rattle.vpf_tiler.specs.CutBy.{IsCutBy, RefusesCut, plan_refusal};
-ghost use Rattle.vpf_tiler.specs.Laws.{IsReadable};
+ghost use Rattle.vpf_tiler.specs.Inner.Laws.{IsReadable};
 
 use crate::errors::TileError;
 use std::alloc::{AllocError, Global};

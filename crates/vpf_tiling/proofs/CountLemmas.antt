@@ -5,9 +5,9 @@ use Rattle.std.specs.List.{range_with_len}
 use Rattle.std.proofs.lemmas.List.Sums.{length-filter}
 use Rattle.vpf_tiling.specs.Ranks.{rank}
 use Rattle.vpf_tiling.specs.Presence.{has_edge, has_node, holds_face}
-use Rattle.vpf_tiling.specs.Laws.{EdgesAreCounted, NodesAreCounted, FacesAreCounted}
-use Rattle.vpf_tiling.specs.PresenceLaws.{no_edge_zero, no_node_zero}
-use Rattle.vpf_tiling.specs.RankLaws.{count_is, rank-step, weight}
+use Rattle.vpf_tiling.specs.Inner.Laws.{EdgesAreCounted, NodesAreCounted, FacesAreCounted}
+use Rattle.vpf_tiling.specs.Inner.PresenceLaws.{no_edge_zero, no_node_zero}
+use Rattle.vpf_tiling.specs.Inner.RankLaws.{count_is, rank-step, weight}
 
 -- a number that passes is one more than those that pass below it
 counted : (p : ℕ → Bool) → p 0 ≡ false → (k : ℕ) → p k ≡ true → rank p k + 1 ≡ count_by p (range_with_len 1 k)

@@ -2,8 +2,6 @@ pub mod Ranks
 pub mod Presence
 pub mod Tiles
 pub mod Plans
-pub mod RankLaws
-pub mod PresenceLaws
-pub mod Laws
 pub mod Plan
 pub mod Tileable
+pub mod Inner

@@ -2,4 +2,3 @@ pub mod Plans
 pub mod Named
 pub mod Untiled
 pub mod PlanLoads
-pub mod Laws

@@ -1,3 +1,2 @@
 pub mod Planning
 pub mod Refusals
-pub mod Laws

@@ -1,4 +1,2 @@
 pub mod Whole
 pub mod Glued
-pub mod Gluing
-pub mod Renumbering

@@ -1,27 +1,23 @@
 -- The home darts of the edges that are no lines, as they are gathered.
-use Rattle.std.proofs.Common.{◌≡◌, ℕ, zero, suc, ◌+◌, ◌^◌, ◌<◌, Bool, true, false, not, eqb, ◌&&◌, refl, sym, ap, ◌∙◌, subst, inl, inr, arith}
-use Rattle.std.proofs.Common.{◌*◌, List, [], ◌∷◌, ◌++◌, length, get_or, length-append}
-use Rattle.std.specs.List.{All, filter}
+use Rattle.std.proofs.Common.{[], ◌≡◌, ℕ, Bool, true, false, not, ◌&&◌, refl, sym, ap, ◌∙◌, subst, inl, inr, arith, List}
+use Rattle.std.specs.List.{filter}
 use Rattle.std.specs.List.Sorted.{IsStrictlyIncreasing}
-use Rattle.std.proofs.lemmas.Bool.{cases_Bool, cases_eq, and_parts, eqb-true}
-use Rattle.std.proofs.lemmas.List.{get_or_append_left, get_or-append-add}
-use Rattle.std.proofs.lemmas.List.Elements.{All-push}
+use Rattle.std.proofs.lemmas.Bool.{cases_Bool, and_parts}
 use Rattle.std.proofs.lemmas.List.Kept.{IsStrictlyIncreasing-filter}
 use Rattle.vpf_darts.specs.declared.darts.TileDart.{TileDart}
-use Rattle.vpf_darts.specs.Darts.{code}
-use Rattle.vpf_darts.specs.Laws.{RemovalLeavesAMap}
-use Rattle.vpf_prims.specs.Primitives.{Library, edge_count}
+use Rattle.vpf_darts.specs.Inner.Laws.{RemovalLeavesAMap}
+use Rattle.vpf_prims.specs.Primitives.{Library}
 use Rattle.vpf_wing.specs.Links.{links_of}
-use Rattle.vpf_wing.specs.DartLaws.{darts-stand, stands_in}
+use Rattle.vpf_wing.specs.Inner.DartLaws.{darts-stand, stands_in}
 use Rattle.vpf_cross.specs.FollowLaws.{home_has}
 use Rattle.vpf_cross.specs.Following.{is_home}
-use Rattle.vpf_cross.specs.FollowHomes.{darts_to}
 use Rattle.vpf_cross.specs.VpfFollowLaws.{HomesExist}
-use Rattle.vpf_cross.proofs.ListLemmas.{to_below, to_end, to_next, to_tile}
-use Rattle.vpf_trace.specs.Gathering.{AreKeptAmong}
-use Rattle.vpf_wing.specs.Kept.Kept.{AreKept}
+use Rattle.vpf_trace.specs.Inner.Gathering.{AreKeptAmong}
+use Rattle.vpf_wing.specs.Inner.Kept.Kept.{AreKept}
 use Rattle.vpf_trace.specs.Tracing.{IsTraceable, KeptAreLeft, LinesAreMarked, is_kept, is_on_line, map_of_library, tile_lines}
-use Rattle.vpf_trace.proofs.LineLemmas.{library_has_kept, library_has_lines, library_is_map}
+use Rattle.vpf_trace.proofs.LineLemmas.{library_has_kept, library_has_lines}
+use Rattle.vpf_trace.specs.Inner.LineLaws.{library_is_map}
+use Rattle.vpf_trace.specs.Inner.GatherLaws.{darts_rise, stands_in_filter as stands_filter}
 
 -- no dart is gathered yet
 pub none_yet : (L : Library) → AreKeptAmong L [] []
@@ -29,62 +25,7 @@ none_yet L = record { numbers = refl; small = λ i d h. absurd (omega arith) }
 
 -- ---- they rise
 
-rising_push : (xs : List ℕ) (a : ℕ) → IsStrictlyIncreasing xs → All (λ x. x < a) xs → IsStrictlyIncreasing (xs ++ a ∷ [])
-rising_push xs a up below k h =
-    let len = length-append xs (a ∷ []) in
-    let before : get_or (xs ++ a ∷ []) k 0 ≡ get_or xs k 0 = get_or_append_left xs (a ∷ []) 0 k (omega arith) in
-    elim (cases_eq (k + 1) (length xs)) [
-      | inl last ↦ (
-          let at : get_or (xs ++ a ∷ []) (length xs + 0) 0 ≡ a = get_or-append-add xs (a ∷ []) 0 0 in
-          let here : length xs + 0 ≡ k + 1 = omega arith in
-          let low : get_or xs k 0 < a = below k 0 (omega arith) in
-          rw (before, sym (ap (λ n. get_or (xs ++ a ∷ []) n 0) here) ∙ at) low)
-      | inr more ↦ (
-          let in' : k + 1 < length xs = omega arith in
-          rw (before, get_or_append_left xs (a ∷ []) 0 (k + 1) in') (up k in'))
-    ]
-
-no_rows : IsStrictlyIncreasing []
-no_rows k h = absurd (omega arith)
-
-below_both : (xs : List ℕ) (t k : ℕ) → All (λ x. x < code t (suc k) 0) xs → All (λ x. x < code t (suc k) 1) (xs ++ code t (suc k) 0 ∷ [])
-unfolding code
-below_both xs t k all =
-    All-push (λ x. x < 2 * (2 ^ 32 * t + suc k) + 1) xs (2 * (2 ^ 32 * t + suc k) + 0)
-    (λ i d h. (let low : get_or xs i d < 2 * (2 ^ 32 * t + suc k) + 0 = all i d h in omega arith)) (omega arith)
-
-rows_rise : (edges : ℕ → ℕ) → ((s : ℕ) → edges s < 2 ^ 24) → (t : ℕ) → IsStrictlyIncreasing (darts_to edges t 0) → (k : ℕ) → IsStrictlyIncreasing (darts_to edges t k)
-rows_rise edges few t base zero = base
-rows_rise edges few t base (suc k) =
-    let below = to_below edges t k few in
-    subst IsStrictlyIncreasing (sym (to_next edges t k))
-    (rising_push (darts_to edges t k ++ code t (suc k) 0 ∷ []) (code t (suc k) 1)
-    (rising_push (darts_to edges t k) (code t (suc k) 0) (rows_rise edges few t base k) below)
-    (below_both (darts_to edges t k) t k below))
-
-tile_begins : (edges : ℕ → ℕ) → ((s : ℕ) → edges s < 2 ^ 24) → (t : ℕ) → IsStrictlyIncreasing (darts_to edges t 0)
-tile_begins edges few zero = no_rows
-tile_begins edges few (suc t) = subst IsStrictlyIncreasing (sym (to_tile edges t)) (rows_rise edges few t (tile_begins edges few t) (edges t))
-
-darts_rise : (L : Library) → ((t : ℕ) → edge_count L t < 2 ^ 24) → IsStrictlyIncreasing (links_of L).darts
-darts_rise L few =
-    subst IsStrictlyIncreasing (to_end (edge_count L) L.last)
-    (rows_rise (edge_count L) few L.last (tile_begins (edge_count L) few L.last) (edge_count L L.last))
-
 -- ---- all of them are the darts that a walk past lines keeps
-
-stands_filter : (p : ℕ → Bool) (d : ℕ) (xs : List ℕ) → stands_in d (filter p xs) ≡ (p d && stands_in d xs)
-stands_filter p d [] = sym (nothing (p d))
-  where
-    nothing : (b : Bool) → (b && false) ≡ false
-    nothing true = refl
-    nothing false = refl
-stands_filter p d (x ∷ xs) = elim (cases_Bool (eqb d x)) [
-  | inl same ↦ (
-      let px : p x ≡ p d = ap p (sym (eqb-true d x same)) in
-      elim (cases_Bool (p d)) [ inl t ↦ rw (px, t) (rw same refl) | inr f ↦ rw (px, f) (rw (stands_filter p d xs, f) refl) ])
-  | inr other ↦ (elim (cases_Bool (p x)) [ inl t ↦ rw (t, other) (stands_filter p d xs) | inr f ↦ rw (f, other) (stands_filter p d xs) ])
-]
 
 kept_stands : (L : Library) (d : ℕ) → (is_kept L d && stands_in d (links_of L).darts) ≡ is_kept L d
 kept_stands L d = elim (cases_Bool (is_kept L d)) [

@@ -2,6 +2,5 @@ pub mod UntiledLemmas
 pub mod LineLemmas
 pub mod AgreeLemmas
 pub mod GatherLemmas
-pub mod CheckedLemmas
 pub mod WalkLemmas
 pub mod MarkLemmas

@@ -9,7 +9,7 @@ use Rattle.vpf_prims.specs.Lists.{kth}
 use Rattle.vpf_prims.specs.Primitives.{EdgePrimitive, absent_edge, edges_in, is_tile_line, tile_edges}
 use Rattle.vpf_prims.specs.Reading.{primitives_of}
 use Rattle.vpf_prims.specs.Tables.{TileTables}
-use Rattle.vpf_wing.specs.DartLaws.{code-edge, code-tile, sign-small}
+use Rattle.vpf_wing.specs.Inner.DartLaws.{code-edge, code-tile, sign-small}
 use Rattle.vpf_trace.specs.Tracing.{is_on_line}
 
 -- the mark of edge k, where a tile may have tables

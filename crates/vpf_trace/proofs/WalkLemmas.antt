@@ -1,30 +1,15 @@
 -- The walk over the darts of a library, past its lines.
-use Rattle.std.proofs.Common.{◌≡◌, ℕ, Bool, true, false, not, refl, sym, ap, ◌∙◌, None}
-use Rattle.std.specs.Prelude.{is_some}
+use Rattle.std.proofs.Common.{◌≡◌, ℕ, Bool, true, false, not, refl, sym, ap, ◌∙◌}
 use Rattle.std.proofs.lemmas.Bool.{and_parts}
 use Rattle.vpf_darts.specs.Darts.{flip}
 use Rattle.vpf_darts.specs.Maps.{is_of_any}
-use Rattle.vpf_darts.proofs.WithoutLemmas.{without-is_map}
+use Rattle.vpf_darts.specs.Inner.WithoutLaws.{without-is_map}
 use Rattle.vpf_prims.specs.Primitives.{Library}
 use Rattle.vpf_wing.specs.Links.{links_of}
-use Rattle.vpf_wing.specs.DartLaws.{flip-has, never_both}
-use Rattle.vpf_cross.specs.FollowLaws.{home_has, home_self}
-use Rattle.vpf_cross.specs.Following.{follow, home_copy, is_home}
+use Rattle.vpf_cross.specs.Following.{is_home}
 use Rattle.vpf_cross.specs.VpfFollowLaws.{HomesExist}
 use Rattle.vpf_trace.specs.Tracing.{IsTraceable, KeptAreLeft, is_kept, is_on_line, map_of_library, tile_lines, traced_map}
-use Rattle.vpf_trace.proofs.LineLemmas.{flip_is, library_has_kept, library_has_lines}
-
--- a home dart is followed
-pub is_followed : (L : Library) → IsTraceable L → (d : ℕ) → is_home (links_of L) d ≡ true → None ≡ follow (links_of L) d → ⊥
-is_followed L a d home none = never_both (is_some (follow (links_of L) d)) (a.follows d (home_has (links_of L) d home)) (ap is_some (sym none))
-
--- the other dart of its edge
-pub flip_tiled : (L : Library) (d other : ℕ) → is_home (links_of L) d ≡ true → other ≡ home_copy (links_of L) (flip d) → other ≡ (map_of_library L).flip d
-flip_tiled L d other home is = is ∙ sym (flip_is (links_of L) d home)
-
-pub flip_untiled : (L : Library) → IsTraceable L → L.is_tiled ≡ false → (d : ℕ) → is_home (links_of L) d ≡ true → flip d ≡ (map_of_library L).flip d
-flip_untiled L a un d home =
-    sym (flip_is (links_of L) d home ∙ home_self (links_of L) (flip d) (a.all_home un (flip d) (flip-has L d (home_has (links_of L) d home))))
+use Rattle.vpf_trace.proofs.LineLemmas.{library_has_kept, library_has_lines}
 
 pub passed_is : HomesExist → (L : Library) → IsTraceable L → (d : ℕ) → is_home (links_of L) d ≡ true → is_on_line L d ≡ is_of_any (map_of_library L).flip (tile_lines L) d
 passed_is law L a d home = sym ((library_has_lines law L a).marked d home)

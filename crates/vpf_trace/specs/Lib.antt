@@ -1,6 +1,6 @@
 pub mod Tracing
-pub mod Laws
-pub mod Gathering
 pub use Rattle.vpf_cross.specs.CarriedLines
 pub use Rattle.vpf_cross.specs.Agreeing
-pub use Rattle.vpf_cross.specs.Example
+pub use Rattle.vpf_cross.specs.Inner.Example
+pub use Rattle.vpf_cross.specs.Inner.CarriedLaws
+pub mod Inner

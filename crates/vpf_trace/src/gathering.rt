@@ -6,7 +6,7 @@ ghost use Rattle.vpf_prims.specs.Primitives.{edge_count};
 ghost use Rattle.vpf_wing.specs.Links.{links_of};
 ghost use Rattle.vpf_darts.specs.Darts.{tile_dart_code};
 ghost use Rattle.vpf_trace.specs.Tracing.{is_kept};
-ghost use Rattle.vpf_trace.specs.Gathering.{AreKeptAmong, AreGatheredBefore, AreGatheredTo, AreGatheredWith};
+ghost use Rattle.vpf_trace.specs.Inner.Gathering.{AreKeptAmong, AreGatheredBefore, AreGatheredTo, AreGatheredWith};
 
 use crate::stepping::is_on_line;
 use std::alloc::{AllocError, Global};

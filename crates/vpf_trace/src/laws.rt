@@ -1,7 +1,7 @@
 //! What is so of every library that agrees, and of its boundary cycles past its lines between tiles.
 
-ghost use Rattle.vpf_trace.specs.Laws.{LibraryHasKept, LibraryHasLines, LibraryHasMap, LibraryHasTrace, OneTrace, TraceWithoutLines};
-ghost use Rattle.vpf_trace.specs.Laws.{UntiledMapIsOfWings};
+ghost use Rattle.vpf_trace.specs.Inner.Laws.{LibraryHasKept, LibraryHasLines, LibraryHasMap, LibraryHasTrace, OneTrace, TraceWithoutLines};
+ghost use Rattle.vpf_trace.specs.Inner.Laws.{UntiledMapIsOfWings};
 
 use vpf_cross::follow::laws::homes_exist;
 use vpf_darts::laws::{one_listing, removal_leaves_a_map};

@@ -3,9 +3,11 @@
 #![tactic(auto)]
 
 mod gathering;
+mod homes;
 pub mod laws;
 mod stepping;
 mod tracing;
 
+pub use homes::{home_copy, next};
 pub use stepping::step;
 pub use tracing::trace;

@@ -5,16 +5,17 @@ use Rattle.vpf_base.proofs.Results.{ok_not_err, one_err, ok_is}
 use Rattle.vpf_triplet.specs.declared.places.Place.{Place}
 use Rattle.std.proofs.Common.{◌-◌, ◌≡◌, ℕ, ◌+◌, ◌≤◌, List, length, take, drop, Result, Ok, Err, refl, sym, ap, ◌∙◌, arith, inl, inr, ◌⊎◌}
 use Rattle.std.proofs.lemmas.List.{length-drop, take_at, drop_at, take-append-drop}
-use Rattle.vpf_triplet.specs.declared.orders.Order.{Order}
+use Rattle.vpf_base.specs.declared.orders.Order.{Order}
 use Rattle.vpf_triplet.specs.declared.places.Code.{Code}
 use Rattle.vpf_triplet.specs.declared.triplets.Triplet.{Triplet}
 use Rattle.vpf_triplet.specs.Spelling.{IsTriplet}
 use Rattle.vpf_triplet.specs.Places.{Reads}
 use Rattle.vpf_triplet.specs.Reading.{triplet_at}
-use Rattle.vpf_triplet.specs.Deciding.{BeginsTriplet, DecidesTriplet}
+use Rattle.vpf_triplet.specs.Inner.Deciding.{BeginsTriplet, DecidesTriplet}
 use Rattle.vpf_triplet.specs.Faults.{FirstTripletFault}
-use Rattle.vpf_triplet.proofs.Faults.{triplet_faults, triplet_refused}
-use Rattle.vpf_triplet.proofs.Spelled.{triplet_again, triplet_takes}
+use Rattle.vpf_triplet.proofs.Faults.{triplet_refused}
+use Rattle.vpf_triplet.specs.Inner.FaultLaws.{triplet_faults}
+use Rattle.vpf_triplet.specs.Inner.SpelledLaws.{triplet_again, triplet_takes}
 
 pub begins_read : (o : Order) (bytes : List ℕ) (t : Triplet) (text rest : List ℕ) → BeginsTriplet o bytes t text rest → triplet_at o bytes ≡ Ok (t, length text)
 begins_read o bytes t text rest b = ap (triplet_at o) b.parts ∙ triplet_again o t text rest b.spelled

@@ -1,6 +1,6 @@
 -- The canonical spelling of a triplet id (MIL-STD-2407, 5.4, triplet id field type): the shortest.
 use Rattle.std.specs.Prelude.{ℕ, List, Option, Some, None, IsTrue, nat_lt, if◌then◌else◌}
-use Rattle.vpf_triplet.specs.declared.orders.Order.{Order}
+use Rattle.vpf_base.specs.declared.orders.Order.{Order}
 use Rattle.vpf_triplet.specs.declared.sizes.Size.{Size}
 use Rattle.vpf_triplet.specs.declared.sizes.Size.TheVariants.{Absent, One, Two, Four}
 use Rattle.vpf_triplet.specs.declared.triplets.Triplet.{Triplet}

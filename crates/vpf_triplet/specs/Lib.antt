@@ -1,4 +1,3 @@
-pub mod Numbers
 pub mod Kinds
 pub mod Codes
 pub mod Places
@@ -7,6 +6,6 @@ pub mod Reading
 pub mod Spelling
 pub mod Canonical
 pub mod Faults
-pub mod Deciding
 pub use Rattle.vpf_base.specs.Bytes
 pub use Rattle.vpf_base.specs.Results
+pub mod Inner

@@ -1,10 +1,10 @@
 -- The parts of a triplet id and their sizes.
 use Rattle.std.specs.Prelude.{ℕ, zero, suc, List, Option, Some, None, slice_index}
 use Rattle.std.specs.Int.{w16, w32}
-use Rattle.vpf_triplet.specs.declared.orders.Order.{Order}
+use Rattle.vpf_base.specs.declared.orders.Order.{Order}
 use Rattle.vpf_triplet.specs.declared.sizes.Size.{Size}
 use Rattle.vpf_triplet.specs.declared.sizes.Size.TheVariants.{Absent, One, Two, Four}
-use Rattle.vpf_triplet.specs.Numbers.{number_of}
+use Rattle.vpf_base.specs.Numbers.{number_of}
 
 -- the size that two bits of the type byte name
 abbrev pub size_of : ℕ → Size

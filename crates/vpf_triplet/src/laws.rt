@@ -2,13 +2,13 @@
 
 ghost use Rattle.std.specs.Prelude.{◌≡◌, ◌≤◌, ◌++◌, ℕ, List, length, Ok, Err};
 ghost use Rattle.vpf_base.specs.Bytes.{IsBytes};
-ghost use Rattle.vpf_triplet.specs.declared.orders.Order.{Order};
+ghost use Rattle.vpf_base.specs.declared.orders.Order.{Order};
 ghost use Rattle.vpf_triplet.specs.declared.places.Code.{Code};
 ghost use Rattle.vpf_triplet.specs.declared.triplets.Triplet.{Triplet};
 ghost use Rattle.vpf_triplet.specs.Canonical.{canonical, HasSmallParts};
 ghost use Rattle.vpf_triplet.specs.Reading.{triplet_at};
 ghost use Rattle.vpf_triplet.specs.Spelling.{IsTriplet};
-ghost use Rattle.vpf_triplet.specs.Deciding.{DecidesTriplet};
+ghost use Rattle.vpf_triplet.specs.Inner.Deciding.{DecidesTriplet};
 ghost use Rattle.vpf_triplet.specs.Faults.{FirstTripletFault};
 
 /// Each list of bytes begins with the spelling of exactly one triplet id, or is refused with exactly one code, and

@@ -4,13 +4,12 @@
 
 mod kinds;
 pub mod laws;
-mod orders;
 mod places;
 mod sizes;
 mod triplets;
 
 pub use kinds::{Count, Kind};
-pub use orders::Order;
 pub use places::{Code, Part, Place, PlaceError};
 pub use sizes::Size;
 pub use triplets::Triplet;
+pub use vpf_base::Order;

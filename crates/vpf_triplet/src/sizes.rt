@@ -6,8 +6,8 @@ ghost use Rattle.vpf_triplet.specs.Canonical.{least};
 ghost use Rattle.vpf_triplet.specs.Sizes.{size_of, size_bytes, part_of};
 ghost use Rattle.vpf_triplet.specs.Spelling.{bits_of, part};
 
-use crate::orders::Order;
 use std::alloc::AllocError;
+use vpf_base::Order;
 
 /// How many bytes a part of a triplet id takes: what two bits of its type byte say.
 #[derive(Clone, Copy, Debug, PartialEq, Eq)]

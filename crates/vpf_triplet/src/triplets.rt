@@ -5,10 +5,10 @@ ghost use Rattle.vpf_triplet.specs.Canonical.{canonical};
 ghost use Rattle.vpf_triplet.specs.Places.{Reads};
 ghost use Rattle.vpf_triplet.specs.Reading.{triplet_at, is_small};
 
-use crate::orders::Order;
 use crate::places::{Code, Place};
 use crate::sizes::{first_part, least_size, named_size, put_part};
 use std::alloc::AllocError;
+use vpf_base::Order;
 
 /// A triplet id: a reference across tiles (MIL-STD-2407, 5.4, triplet id field type). `id` is a number in this tile, `tile`
 /// another tile, and `ext` the number there; each may be absent.
@@ -85,10 +85,10 @@ fn put_parts(id: &Triplet, order: Order, out: &mut Vec<u8>) -> Result<(), AllocE
 
 impl Triplet {
     ghost use Rattle.std.specs.Prelude.{◌≡◌, ◌≤◌, ◌+◌, ◌++◌, ℕ, List, length, drop, slice_range, IfOk, IfErr, OnOk, OnErr, Ok};
-    ghost use Rattle.vpf_triplet.specs.declared.orders.Order.{Order};
+    ghost use Rattle.vpf_base.specs.declared.orders.Order.{Order};
     ghost use Rattle.vpf_triplet.specs.Canonical.{canonical, HasSmallParts};
     ghost use Rattle.vpf_triplet.specs.Spelling.{IsTriplet};
-    ghost use Rattle.vpf_triplet.specs.Deciding.{BeginsTriplet};
+    ghost use Rattle.vpf_triplet.specs.Inner.Deciding.{BeginsTriplet};
     ghost use Rattle.vpf_triplet.specs.Faults.{FirstTripletFault};
     ghost use Rattle.vpf_triplet.specs.Places.{Reads};
     ghost use Rattle.vpf_triplet.specs.Reading.{triplet_at};

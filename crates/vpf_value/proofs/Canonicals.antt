@@ -1,16 +1,16 @@
 -- The canonical spelling is a spelling, and the shortest; and how long it is.
 use Rattle.std.specs.Int.{Width, w16, w32}
-use Rattle.std.proofs.Common.{◌≡◌, ◌≢◌, ℕ, ◌+◌, ◌*◌, ◌/◌, ◌≤◌, List, [], ◌++◌, length, Option, Some, None, Ok, refl, sym, ap, ◌∙◌, arith, inl, inr}
+use Rattle.std.proofs.Common.{[], ◌≡◌, ◌≢◌, ℕ, ◌+◌, ◌*◌, ◌/◌, ◌≤◌, List, ◌++◌, length, Option, Some, None, Ok, refl, sym, ap, ◌∙◌, arith, inl, inr}
 use Rattle.std.proofs.lemmas.Bool.{cases_lt}
 use Rattle.std.proofs.lemmas.List.{length-append}
-use Rattle.vpf_triplet.proofs.Results.{ok_not_err, ok_is}
-use Rattle.vpf_triplet.specs.declared.orders.Order.{Order}
+use Rattle.vpf_base.proofs.Results.{ok_not_err, ok_is}
+use Rattle.vpf_base.specs.declared.orders.Order.{Order}
 use Rattle.vpf_triplet.specs.declared.kinds.Kind.{Kind}
 use Rattle.vpf_triplet.specs.declared.kinds.Kind.TheVariants as kinds
 use Rattle.vpf_triplet.specs.declared.kinds.Count.{Count}
 use Rattle.vpf_triplet.specs.declared.kinds.Count.TheVariants.{Fixed, Star}
-use Rattle.vpf_triplet.specs.Numbers.{number}
-use Rattle.vpf_triplet.proofs.Canonicals.{canonical_spelled, length-canonical, shortest as shortest_triplet}
+use Rattle.vpf_base.specs.Numbers.{number}
+use Rattle.vpf_triplet.specs.Inner.CanonicalLaws.{canonical_spelled, length-canonical, shortest as shortest_triplet}
 use Rattle.vpf_value.specs.declared.coords.WordWidth.{WordWidth}
 use Rattle.vpf_value.specs.declared.coords.WordWidth.TheVariants.{Four, Eight}
 use Rattle.vpf_value.specs.declared.coords.Tuple.{Tuple}
@@ -19,10 +19,10 @@ use Rattle.vpf_value.specs.Words.{tuple_len, spelled_words, word_bytes}
 use Rattle.vpf_value.specs.Values.{Value, TextOf, Word4Of, Word8Of, NumberOf, DateOf, Nothing, TripletOf, WordsOf}
 use Rattle.vpf_value.specs.Reading.{cell_from}
 use Rattle.vpf_value.specs.Spelling.{IsTextOf, IsWord4, IsWord8, IsSigned, IsDate, IsNothing, IsId, IsTuples, IsMany, IsCell}
-use Rattle.vpf_value.specs.Fitting.{FitsText, FitsWord4, FitsWord8, FitsNumber, FitsDate, FitsNothing, FitsId, FitsTuples, FitsKind, FitsCell}
+use Rattle.vpf_value.specs.Inner.Fitting.{FitsText, FitsWord4, FitsWord8, FitsNumber, FitsDate, FitsNothing, FitsId, FitsTuples, FitsKind, FitsCell}
 use Rattle.vpf_value.specs.Widths.{cell_width, many_width}
 use Rattle.vpf_value.specs.Canonical.{with_count, spelled_text, spelled_word4, spelled_word8, spelled_number, spelled_date, spelled_id, spelled_tuples, spelled}
-use Rattle.vpf_value.proofs.Numbers.{length-number, length-number16}
+use Rattle.vpf_value.specs.Inner.NumberLaws.{length-number, length-number16}
 use Rattle.vpf_value.proofs.WordTexts.{length-word_text}
 use Rattle.vpf_value.proofs.CellLaws.{cell_again}
 use Rattle.vpf_value.proofs.WidthLaws.{fixed_cell}

@@ -6,17 +6,17 @@ use Rattle.std.proofs.Math.Facts.{Fits-of_z, sfits_to_z}
 use Rattle.std.proofs.lemmas.Bool.{ltb-false}
 use Rattle.std.proofs.lemmas.Int.{to_z-of_z, of_z-to_z}
 use Rattle.std.proofs.lemmas.List.{take_at, drop_at, length-append, length-drop, length-take-le}
-use Rattle.vpf_triplet.proofs.ByteLists.{IsBytes-drop}
+use Rattle.vpf_base.proofs.ByteLists.{IsBytes-drop}
 use Rattle.vpf_triplet.specs.Bytes.{IsBytes}
-use Rattle.vpf_triplet.proofs.Results.{bind_ok, guarded, ok_is}
-use Rattle.vpf_triplet.specs.declared.orders.Order.{Order}
+use Rattle.vpf_base.proofs.Results.{bind_ok, guarded, ok_is}
+use Rattle.vpf_base.specs.declared.orders.Order.{Order}
 use Rattle.vpf_triplet.specs.declared.kinds.Kind.{Kind}
 use Rattle.vpf_triplet.specs.declared.kinds.Kind.TheVariants as kinds
 use Rattle.vpf_triplet.specs.declared.kinds.Count.{Count}
 use Rattle.vpf_triplet.specs.declared.kinds.Count.TheVariants.{Fixed, Star}
-use Rattle.vpf_triplet.specs.Numbers.{number, number_of}
+use Rattle.vpf_base.specs.Numbers.{number, number_of}
 use Rattle.vpf_triplet.specs.Reading.{triplet_at}
-use Rattle.vpf_triplet.proofs.Spelled.{triplet_again, triplet_takes}
+use Rattle.vpf_triplet.specs.Inner.SpelledLaws.{triplet_again, triplet_takes}
 use Rattle.vpf_value.specs.declared.coords.WordWidth.{WordWidth}
 use Rattle.vpf_value.specs.declared.coords.WordWidth.TheVariants.{Four, Eight}
 use Rattle.vpf_value.specs.declared.coords.Tuple.{Tuple}
@@ -25,7 +25,7 @@ use Rattle.vpf_value.specs.Words.{word_bytes, tuple_len, words_of}
 use Rattle.vpf_value.specs.Values.{Value, TextOf, Word4Of, Word8Of, NumberOf, DateOf, Nothing, TripletOf, WordsOf}
 use Rattle.vpf_value.specs.Reading.{CellAnswer, sized, text_from, tuples_from, counted_from, many_from, triplet_from, cell_from}
 use Rattle.vpf_value.specs.Spelling.{IsTextOf, IsWord4, IsWord8, IsSigned, IsDate, IsNothing, IsId, IsTuples, IsCountedCell, IsMany, IsCell}
-use Rattle.vpf_value.proofs.Numbers.{length-number, number_of-number, number-number_of, number_of_below, length-number16, number_of-number16, number-number_of16, number_of16_below}
+use Rattle.vpf_value.specs.Inner.NumberLaws.{length-number, number_of-number, number-number_of, number_of_below, length-number16, number_of-number16, number-number_of16, number_of16_below}
 use Rattle.vpf_value.proofs.WordLists.{length-words_of, words_of_below}
 use Rattle.vpf_value.proofs.WordTexts.{length-word_text, words_of-word_text, word_text-words_of}
 use Rattle.vpf_value.proofs.Readers.{sized-enough, counted-enough}

@@ -2,20 +2,20 @@
 use Rattle.std.specs.Prelude.{IfOk, IfErr, IsOkAnd, slice_range}
 use Rattle.std.proofs.Common.{◌≡◌, ℕ, ◌+◌, ◌-◌, ◌≤◌, List, length, take, drop, Result, Ok, Err, refl, sym, ap, ◌∙◌, arith, inl, inr, ◌⊎◌}
 use Rattle.std.proofs.lemmas.List.{take_at, drop_at, take-append-drop}
-use Rattle.vpf_triplet.proofs.ByteLists.{IsBytes-drop}
+use Rattle.vpf_base.proofs.ByteLists.{IsBytes-drop}
 use Rattle.vpf_triplet.specs.Bytes.{IsBytes}
-use Rattle.vpf_triplet.proofs.Results.{ok_not_err, one_err, ok_is}
-use Rattle.vpf_triplet.specs.declared.orders.Order.{Order}
+use Rattle.vpf_base.proofs.Results.{ok_not_err, one_err, ok_is}
+use Rattle.vpf_base.specs.declared.orders.Order.{Order}
 use Rattle.vpf_triplet.specs.declared.kinds.Kind.{Kind}
 use Rattle.vpf_triplet.specs.declared.kinds.Count.{Count}
 use Rattle.vpf_triplet.specs.declared.places.Place.{Place}
 use Rattle.vpf_triplet.specs.declared.places.Code.{Code}
-use Rattle.vpf_triplet.proofs.Faults.{triplet_faults}
+use Rattle.vpf_triplet.specs.Inner.FaultLaws.{triplet_faults}
 use Rattle.vpf_value.specs.declared.cells.Cell.{Cell}
 use Rattle.vpf_value.specs.Values.{Value, view}
 use Rattle.vpf_value.specs.Reading.{CellAnswer, cell_from, ReadsCell}
 use Rattle.vpf_value.specs.Spelling.{IsCell}
-use Rattle.vpf_value.specs.Deciding.{BeginsCell, DecidesCell}
+use Rattle.vpf_value.specs.Inner.Deciding.{BeginsCell, DecidesCell}
 use Rattle.vpf_value.specs.Faults.{FirstCellFault}
 use Rattle.vpf_value.proofs.CellFaults.{TripletFaults, TripletRefused, cell_faults, cell_refused}
 use Rattle.vpf_value.proofs.CellLaws.{cell_again, cell_takes}

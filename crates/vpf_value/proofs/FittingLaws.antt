@@ -3,15 +3,15 @@ use Rattle.std.specs.Prelude.{IsTrue, ◌↔◌}
 use Rattle.std.specs.Int.{Width, w16, w32, w64, cast_unsigned}
 use Rattle.std.proofs.Common.{◌≡◌, ℕ, ◌*◌, List, [], ◌++◌, length, Option, Some, None, refl, ap, ◌∙◌, arith}
 use Rattle.std.proofs.lemmas.Bool.{ltb-true, lt-ltb}
-use Rattle.vpf_triplet.specs.declared.orders.Order.{Order}
-use Rattle.vpf_triplet.specs.declared.orders.Order.TheVariants.{Little}
+use Rattle.vpf_base.specs.declared.orders.Order.{Order}
+use Rattle.vpf_base.specs.declared.orders.Order.TheVariants.{Little}
 use Rattle.vpf_triplet.specs.declared.kinds.Kind.{Kind}
 use Rattle.vpf_triplet.specs.declared.kinds.Kind.TheVariants as kinds
 use Rattle.vpf_triplet.specs.declared.kinds.Count.{Count}
 use Rattle.vpf_triplet.specs.declared.kinds.Count.TheVariants.{Fixed, Star}
 use Rattle.vpf_triplet.specs.declared.sizes.Size.{Size}
 use Rattle.vpf_triplet.specs.declared.sizes.Size.TheVariants.{Absent, One, Two, Four as FourBytes}
-use Rattle.vpf_triplet.specs.Numbers.{number}
+use Rattle.vpf_base.specs.Numbers.{number}
 use Rattle.vpf_triplet.specs.Reading.{is_small}
 use Rattle.vpf_triplet.specs.Spelling.{HoldsPart as HoldsPart, spelling}
 use Rattle.vpf_value.specs.declared.coords.WordWidth.{WordWidth}
@@ -21,7 +21,7 @@ use Rattle.vpf_value.specs.declared.coords.Tuple.TheVariants.{Pair, Triple}
 use Rattle.vpf_value.specs.Words.{tuple_len, spelled_words}
 use Rattle.vpf_value.specs.Values.{Value, TextOf, Word4Of, Word8Of, NumberOf, DateOf, Nothing, TripletOf, WordsOf}
 use Rattle.vpf_value.specs.Spelling.{IsTextOf, IsWord4, IsWord8, IsSigned, IsDate, IsNothing, IsId, IsTuples, IsMany, IsCell}
-use Rattle.vpf_value.specs.Fitting.{FitsText, FitsWord4, FitsWord8, FitsNumber, FitsDate, FitsNothing, FitsId, FitsTuples, FitsKind, FitsCell, HasSpelling}
+use Rattle.vpf_value.specs.Inner.Fitting.{FitsText, FitsWord4, FitsWord8, FitsNumber, FitsDate, FitsNothing, FitsId, FitsTuples, FitsKind, FitsCell, HasSpelling}
 
 -- some bytes spell the value
 abbrev Spelled : (Value → List ℕ → Type 0) → Value → Type 0

@@ -5,16 +5,16 @@ use Rattle.std.proofs.Common.{◌≡◌, ℕ, ◌+◌, ◌-◌, ◌*◌, ◌/◌
 use Rattle.std.proofs.lemmas.Bool.{le-ltb}
 use Rattle.std.proofs.lemmas.List.{drop-drop, length-take-le}
 use Rattle.vpf_triplet.specs.Results.{◌>>=◌}
-use Rattle.vpf_triplet.specs.declared.orders.Order.{Order}
+use Rattle.vpf_base.specs.declared.orders.Order.{Order}
 use Rattle.vpf_triplet.specs.declared.places.Place.{Place}
-use Rattle.vpf_triplet.specs.Numbers.{number_of}
+use Rattle.vpf_base.specs.Numbers.{number_of}
 use Rattle.vpf_triplet.specs.Places.{fault}
 use Rattle.vpf_value.specs.declared.coords.WordWidth.{WordWidth}
 use Rattle.vpf_value.specs.declared.coords.WordWidth.TheVariants.{Four, Eight}
 use Rattle.vpf_value.specs.declared.coords.Tuple.{Tuple}
 use Rattle.vpf_value.specs.declared.cells.Cell.{Cell}
 use Rattle.vpf_value.specs.Words.{word_bytes, tuple_len, words_of}
-use Rattle.vpf_value.specs.Coordinates.{words_in}
+use Rattle.vpf_value.specs.Inner.Coordinates.{words_in}
 use Rattle.vpf_value.specs.Values.{Value, WordsOf, view}
 use Rattle.vpf_value.specs.Reading.{CellAnswer, sized, counted_from, tuples_from, ReadsCell}
 use Rattle.vpf_value.proofs.WordLists.{words_of-take}

@@ -1,14 +1,14 @@
 -- The words of a cell turned round are its words in the other order.
 use Rattle.std.specs.Int.{w16, w32, w64, cast_unsigned}
-use Rattle.std.proofs.Common.{◌≡◌, ◌≢◌, ℕ, zero, suc, ◌/◌, List, [], ◌∷◌, length, take, drop, reverse, Some, None, refl, sym, ◌∙◌, arith}
-use Rattle.std.proofs.lemmas.List.{append-nil, take-append-drop, take_at, drop_at, take_all, drop_all}
-use Rattle.vpf_triplet.specs.declared.orders.Order.{Order}
-use Rattle.vpf_triplet.specs.declared.orders.Order.TheVariants.{Little, Big}
+use Rattle.std.proofs.Common.{[], ◌≡◌, ◌≢◌, ℕ, ◌/◌, List, ◌∷◌, length, reverse, Some, None, refl, sym, ◌∙◌, arith}
+use Rattle.std.proofs.lemmas.List.{append-nil, take_at, drop_at, take_all, drop_all}
+use Rattle.vpf_base.specs.declared.orders.Order.{Order}
+use Rattle.vpf_base.specs.declared.orders.Order.TheVariants.{Little, Big}
 use Rattle.vpf_triplet.specs.declared.kinds.Kind.{Kind}
 use Rattle.vpf_triplet.specs.declared.kinds.Kind.TheVariants as kinds
 use Rattle.vpf_triplet.specs.declared.kinds.Count.{Count}
 use Rattle.vpf_triplet.specs.declared.kinds.Count.TheVariants.{Fixed, Star}
-use Rattle.vpf_triplet.specs.Numbers.{number}
+use Rattle.vpf_base.specs.Numbers.{number}
 use Rattle.vpf_value.specs.declared.coords.WordWidth.{WordWidth}
 use Rattle.vpf_value.specs.declared.coords.WordWidth.TheVariants as widths
 use Rattle.vpf_value.specs.declared.coords.Tuple.{Tuple}
@@ -17,23 +17,15 @@ use Rattle.vpf_value.specs.declared.turning.WordSize.{WordSize}
 use Rattle.vpf_value.specs.declared.turning.WordSize.TheVariants.{One, Two, Four, Eight}
 use Rattle.vpf_value.specs.Words.{word_bytes, number_width, spelled_words}
 use Rattle.vpf_value.specs.Values.{Value, TextOf, Word4Of, Word8Of, NumberOf, DateOf, WordsOf}
-use Rattle.vpf_value.specs.Fitting.{FitsKind, FitsCell, FitsTuples}
+use Rattle.vpf_value.specs.Inner.Fitting.{FitsKind, FitsCell, FitsTuples}
 use Rattle.vpf_value.specs.Widths.{cell_width, many_width}
 use Rattle.vpf_value.specs.Canonical.{spelled, spelled_text, spelled_word4, spelled_word8, spelled_number, spelled_date, spelled_tuples}
-use Rattle.vpf_value.specs.Turning.{each_piece, word_size, bytes_of_word, turned_cell}
-use Rattle.vpf_value.proofs.Numbers.{length-number, length-number16}
+use Rattle.vpf_value.specs.Inner.Turning.{each_piece, word_size, bytes_of_word, turned_cell}
+use Rattle.vpf_value.specs.Inner.NumberLaws.{length-number, length-number16}
 use Rattle.vpf_value.proofs.WordTexts.{length-word_text}
+use Rattle.vpf_value.specs.Inner.TurnedLaws.{bytes_stay}
 
 -- ---- bytes
-
-one_byte : (s : List ℕ) → reverse (take 1 s) ≡ take 1 s
-one_byte [] = refl
-one_byte (x ∷ xs) = refl
-
-pub bytes_stay : (n : ℕ) (s : List ℕ) → each_piece reverse n 1 s ≡ s
-unfolding each_piece
-bytes_stay zero s = refl
-bytes_stay (suc n) s = rw (one_byte s, bytes_stay n (drop 1 s)) (take-append-drop 1 s)
 
 -- ---- a word
 

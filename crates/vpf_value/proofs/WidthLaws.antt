@@ -3,13 +3,13 @@ use Rattle.std.specs.Int.{w32, w16, cast_unsigned}
 use Rattle.std.proofs.Common.{◌≡◌, ◌≢◌, ℕ, zero, suc, ◌*◌, ◌<◌, List, length, Option, Some, None, Err, refl, ap, ◌∙◌, arith}
 use Rattle.std.proofs.lemmas.Bool.{lt-ltb}
 use Rattle.std.proofs.lemmas.List.{length-append}
-use Rattle.vpf_triplet.specs.declared.orders.Order.{Order}
+use Rattle.vpf_base.specs.declared.orders.Order.{Order}
 use Rattle.vpf_triplet.specs.declared.kinds.Kind.{Kind}
 use Rattle.vpf_triplet.specs.declared.kinds.Kind.TheVariants as kinds
 use Rattle.vpf_triplet.specs.declared.kinds.Count.{Count}
 use Rattle.vpf_triplet.specs.declared.kinds.Count.TheVariants.{Fixed, Star}
 use Rattle.vpf_triplet.specs.declared.places.Code.TheVariants as codes
-use Rattle.vpf_triplet.specs.Numbers.{number}
+use Rattle.vpf_base.specs.Numbers.{number}
 use Rattle.vpf_value.specs.declared.coords.WordWidth.{WordWidth}
 use Rattle.vpf_value.specs.declared.coords.WordWidth.TheVariants.{Four, Eight}
 use Rattle.vpf_value.specs.declared.coords.Tuple.{Tuple}
@@ -19,7 +19,7 @@ use Rattle.vpf_value.specs.Values.{Value}
 use Rattle.vpf_value.specs.Reading.{sized, text_from, tuples_from, many_from, cell_from}
 use Rattle.vpf_value.specs.Spelling.{IsTextOf, IsTuples, IsMany, IsCountedCell, IsCell}
 use Rattle.vpf_value.specs.Widths.{cell_width, many_width, TakesWidth}
-use Rattle.vpf_value.proofs.Numbers.{length-number, length-number16}
+use Rattle.vpf_value.specs.Inner.NumberLaws.{length-number, length-number16}
 use Rattle.vpf_value.proofs.WordTexts.{length-word_text}
 use Rattle.vpf_value.proofs.Readers.{sized-enough}
 

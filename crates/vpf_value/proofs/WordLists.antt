@@ -2,14 +2,14 @@
 use Rattle.std.specs.Prelude.{All}
 use Rattle.std.proofs.Common.{◌≡◌, ℕ, zero, suc, ◌+◌, ◌-◌, ◌*◌, ◌<◌, ◌≤◌, List, length, get_or, drop, take, refl, sym, ap, ◌∙◌, arith}
 use Rattle.std.proofs.lemmas.List.{drop-drop, drop-take}
-use Rattle.vpf_triplet.proofs.ByteLists.{IsBytes-drop}
+use Rattle.vpf_base.proofs.ByteLists.{IsBytes-drop}
 use Rattle.vpf_triplet.specs.Bytes.{IsBytes}
-use Rattle.vpf_triplet.specs.declared.orders.Order.{Order}
-use Rattle.vpf_triplet.specs.Numbers.{number_of}
+use Rattle.vpf_base.specs.declared.orders.Order.{Order}
+use Rattle.vpf_base.specs.Numbers.{number_of}
 use Rattle.vpf_value.specs.declared.coords.WordWidth.{WordWidth}
 use Rattle.vpf_value.specs.declared.coords.WordWidth.TheVariants.{Four, Eight}
 use Rattle.vpf_value.specs.Words.{word_bytes, word_limit, number_width, words_of}
-use Rattle.vpf_value.proofs.Numbers.{number_of-take, number_of_below}
+use Rattle.vpf_value.specs.Inner.NumberLaws.{number_of-take, number_of_below}
 
 pub length-words_of : (o : Order) (w : WordWidth) (n : ℕ) (bytes : List ℕ) → length (words_of o w n bytes) ≡ n
 unfolding words_of

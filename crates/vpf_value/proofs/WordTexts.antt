@@ -1,15 +1,15 @@
 -- Words one after another: what is read of them is spelled so, and what is spelled so is read.
-use Rattle.std.specs.Prelude.{All}
-use Rattle.std.proofs.Common.{◌≡◌, ℕ, zero, suc, ◌+◌, ◌*◌, ◌<◌, ◌≤◌, List, [], ◌∷◌, ◌++◌, length, get_or, drop, take, refl, ap, ◌∙◌, append_assoc, take-add, add-one, drop-cons, arith}
+use Rattle.std.specs.Prelude.{[], All}
+use Rattle.std.proofs.Common.{◌≡◌, ℕ, zero, suc, ◌+◌, ◌*◌, ◌<◌, ◌≤◌, List, ◌∷◌, ◌++◌, length, get_or, drop, take, refl, ap, ◌∙◌, append_assoc, take-add, add-one, drop-cons, arith}
 use Rattle.std.proofs.lemmas.List.{length-append, length-drop, drop_at, drop_all}
-use Rattle.vpf_triplet.proofs.ByteLists.{IsBytes-drop}
+use Rattle.vpf_base.proofs.ByteLists.{IsBytes-drop}
 use Rattle.vpf_triplet.specs.Bytes.{IsBytes}
-use Rattle.vpf_triplet.specs.declared.orders.Order.{Order}
-use Rattle.vpf_triplet.specs.Numbers.{number}
+use Rattle.vpf_base.specs.declared.orders.Order.{Order}
+use Rattle.vpf_base.specs.Numbers.{number}
 use Rattle.vpf_value.specs.declared.coords.WordWidth.{WordWidth}
 use Rattle.vpf_value.specs.declared.coords.WordWidth.TheVariants.{Four, Eight}
 use Rattle.vpf_value.specs.Words.{word_bytes, word_limit, number_width, words_of, spelled_words}
-use Rattle.vpf_value.proofs.Numbers.{length-number, number_of-number, number-number_of}
+use Rattle.vpf_value.specs.Inner.NumberLaws.{length-number, number_of-number, number-number_of}
 
 times_suc : (w : WordWidth) (n : ℕ) → word_bytes w * suc n ≡ word_bytes w + word_bytes w * n
 times_suc Four n = omega arith

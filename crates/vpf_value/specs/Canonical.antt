@@ -1,12 +1,12 @@
 -- The canonical spelling of a value in a field (MIL-STD-2407, 5.4, allowable field types): no spelling is shorter.
 use Rattle.std.specs.Prelude.{ℕ, ◌/◌, List, [], ◌++◌, length}
 use Rattle.std.specs.Int.{Width, w16, w32, w64, cast_unsigned}
-use Rattle.vpf_triplet.specs.declared.orders.Order.{Order}
+use Rattle.vpf_base.specs.declared.orders.Order.{Order}
 use Rattle.vpf_triplet.specs.declared.kinds.Kind.{Kind}
 use Rattle.vpf_triplet.specs.declared.kinds.Kind.TheVariants as kinds
 use Rattle.vpf_triplet.specs.declared.kinds.Count.{Count}
 use Rattle.vpf_triplet.specs.declared.kinds.Count.TheVariants.{Fixed, Star}
-use Rattle.vpf_triplet.specs.Numbers.{number}
+use Rattle.vpf_base.specs.Numbers.{number}
 use Rattle.vpf_triplet.specs.Canonical.{canonical}
 use Rattle.vpf_value.specs.declared.coords.Tuple.{Tuple}
 use Rattle.vpf_value.specs.declared.coords.Tuple.TheVariants.{Pair, Triple}

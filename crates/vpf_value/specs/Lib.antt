@@ -1,15 +1,12 @@
 pub mod Words
-pub mod Coordinates
 pub mod Values
 pub mod Reading
 pub mod Widths
 pub mod Spelling
 pub mod Canonical
 pub mod Faults
-pub mod Deciding
-pub mod Fitting
-pub mod Turning
 pub use Rattle.vpf_triplet.specs.declared.kinds.Kind
 pub use Rattle.vpf_triplet.specs.declared.kinds.Count
 pub use Rattle.vpf_triplet.specs.Kinds
 pub use Rattle.vpf_triplet.specs.declared.triplets.Triplet
+pub mod Inner

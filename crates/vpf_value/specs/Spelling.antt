@@ -1,13 +1,13 @@
 -- How cells are spelled (MIL-STD-2407, 5.4, allowable field types), apart from reading.
 use Rattle.std.specs.Prelude.{◌≡◌, ℕ, ◌*◌, ◌<◌, ◌^◌, ℤ, List, [], ◌++◌, length, All, FitsSigned}
 use Rattle.std.specs.Int.{Width, w16, w32, w64, cast_unsigned}
-use Rattle.vpf_triplet.specs.declared.orders.Order.{Order}
+use Rattle.vpf_base.specs.declared.orders.Order.{Order}
 use Rattle.vpf_triplet.specs.declared.kinds.Kind.{Kind}
 use Rattle.vpf_triplet.specs.declared.kinds.Kind.TheVariants as kinds
 use Rattle.vpf_triplet.specs.declared.kinds.Count.{Count}
 use Rattle.vpf_triplet.specs.declared.kinds.Count.TheVariants.{Fixed, Star}
 use Rattle.vpf_triplet.specs.declared.triplets.Triplet.{Triplet}
-use Rattle.vpf_triplet.specs.Numbers.{number}
+use Rattle.vpf_base.specs.Numbers.{number}
 use Rattle.vpf_triplet.specs.Spelling.{IsTriplet}
 use Rattle.vpf_value.specs.declared.coords.WordWidth.{WordWidth}
 use Rattle.vpf_value.specs.declared.coords.WordWidth.TheVariants.{Four, Eight}

@@ -4,7 +4,7 @@ use Rattle.vpf_triplet.specs.declared.triplets.Triplet.{Triplet}
 use Rattle.vpf_value.specs.declared.coords.WordWidth.{WordWidth}
 use Rattle.vpf_value.specs.declared.cells.Cell.{Cell}
 use Rattle.vpf_value.specs.declared.cells.Cell.TheVariants as cells
-use Rattle.vpf_value.specs.Coordinates.{words, words_width}
+use Rattle.vpf_value.specs.Inner.Coordinates.{words, words_width}
 
 -- how many bytes a date has
 abbrev pub date_bytes : ℕ

@@ -2,11 +2,11 @@
 
 ghost use Rattle.std.specs.Prelude.{◌≡◌, ℕ, ◌+◌, ◌≤◌, ◌<◌, List, IfOk, IfErr, IsOkAnd, MatchResult, length, drop, take, slice_range};
 ghost use Rattle.std.specs.Int.{w16, w32, w64, cast_signed};
-ghost use Rattle.vpf_triplet.specs.Numbers.{number_of};
+ghost use Rattle.vpf_base.specs.Numbers.{number_of};
 ghost use Rattle.vpf_triplet.specs.Places.{fault};
 ghost use Rattle.vpf_value.specs.Values.{Value, TextOf, Word4Of, Word8Of, NumberOf, DateOf, date_bytes, view};
-ghost use Rattle.vpf_value.specs.Coordinates.{tuple_in, kind_tuple};
-ghost use Rattle.vpf_value.specs.Deciding.{BeginsCell};
+ghost use Rattle.vpf_value.specs.Inner.Coordinates.{tuple_in, kind_tuple};
+ghost use Rattle.vpf_value.specs.Inner.Deciding.{BeginsCell};
 ghost use Rattle.vpf_value.specs.Faults.{FirstCellFault};
 ghost use Rattle.vpf_value.specs.Spelling.{IsCell};
 ghost use Rattle.vpf_value.specs.Reading.{ReadsCell, sized, text_from, tuples_from, counted_from, many_from, triplet_from, cell_from};

@@ -2,7 +2,7 @@
 
 ghost use Rattle.std.specs.Prelude.{◌≡◌, ◌↔◌, IsTrue, length};
 ghost use Rattle.vpf_value.specs.Values.{WordsOf, view};
-ghost use Rattle.vpf_value.specs.Coordinates.{words, words_width};
+ghost use Rattle.vpf_value.specs.Inner.Coordinates.{words, words_width};
 
 use crate::cells::Cell;
 use crate::coords::Coords;

@@ -2,7 +2,7 @@
 
 ghost use Rattle.std.specs.Prelude.{◌≡◌, ◌+◌, ◌*◌, ◌≤◌, length, drop};
 ghost use Rattle.vpf_triplet.specs.Bytes.{IsBytes};
-ghost use Rattle.vpf_triplet.specs.Numbers.{number_of};
+ghost use Rattle.vpf_base.specs.Numbers.{number_of};
 ghost use Rattle.vpf_value.specs.Words.{word_bytes, tuple_len, number_width};
 
 use vpf_triplet::Order;
@@ -90,7 +90,7 @@ pub struct Coords<'a> {
 impl<'a> Coords<'a> {
     ghost use Rattle.std.specs.Prelude.{◌≡◌, ◌<◌, ◌*◌, ◌↔◌, [], length, slice_index, IsTrue};
     ghost use Rattle.vpf_value.specs.Words.{word_bytes, tuple_len};
-    ghost use Rattle.vpf_value.specs.Coordinates.{words, words_in, words_width, tuple_of};
+    ghost use Rattle.vpf_value.specs.Inner.Coordinates.{words, words_in, words_width, tuple_of};
 
     /// The words that the bytes spell.
     #[inline]

@@ -2,9 +2,9 @@
 
 ghost use Rattle.std.specs.Prelude.{◌≡◌, ◌↔◌, IsTrue};
 ghost use Rattle.vpf_value.specs.Values.{WordsOf, view};
-ghost use Rattle.vpf_value.specs.Coordinates.{words, words_width};
+ghost use Rattle.vpf_value.specs.Inner.Coordinates.{words, words_width};
 ghost use Rattle.vpf_triplet.specs.Reading.{is_small};
-ghost use Rattle.vpf_value.specs.Fitting.{HoldsMany, HoldsTuples, FitsWord4, FitsWord8, FitsTuples, FitsKind, FitsCell, HasSpelling};
+ghost use Rattle.vpf_value.specs.Inner.Fitting.{HoldsMany, HoldsTuples, FitsWord4, FitsWord8, FitsTuples, FitsKind, FitsCell, HasSpelling};
 
 use crate::cells::Cell;
 use crate::coords::{Coords, Tuple, WordWidth};

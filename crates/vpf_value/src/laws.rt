@@ -2,7 +2,7 @@
 
 ghost use Rattle.std.specs.Prelude.{◌≡◌, ◌≢◌, ◌≤◌, ◌<◌, ◌↔◌, ℕ, List, ◌++◌, length, take, Some, Ok, Err, IsTrue};
 ghost use Rattle.vpf_triplet.specs.Bytes.{IsBytes};
-ghost use Rattle.vpf_triplet.specs.declared.orders.Order.{Order};
+ghost use Rattle.vpf_base.specs.declared.orders.Order.{Order};
 ghost use Rattle.vpf_triplet.specs.declared.kinds.Kind.{Kind};
 ghost use Rattle.vpf_triplet.specs.declared.kinds.Count.{Count};
 ghost use Rattle.vpf_triplet.specs.declared.places.Code.{Code};
@@ -11,11 +11,11 @@ ghost use Rattle.vpf_value.specs.Values.{Value};
 ghost use Rattle.vpf_value.specs.Reading.{cell_from};
 ghost use Rattle.vpf_value.specs.Spelling.{IsCell};
 ghost use Rattle.vpf_value.specs.Widths.{cell_width, TakesWidth};
-ghost use Rattle.vpf_value.specs.Deciding.{DecidesCell};
+ghost use Rattle.vpf_value.specs.Inner.Deciding.{DecidesCell};
 ghost use Rattle.vpf_value.specs.Faults.{FirstCellFault};
-ghost use Rattle.vpf_value.specs.Fitting.{FitsCell, HasSpelling};
+ghost use Rattle.vpf_value.specs.Inner.Fitting.{FitsCell, HasSpelling};
 ghost use Rattle.vpf_value.specs.Canonical.{spelled};
-ghost use Rattle.vpf_value.specs.Turning.{word_size, turned_cell};
+ghost use Rattle.vpf_value.specs.Inner.Turning.{word_size, turned_cell};
 
 use vpf_triplet::laws as triplets;
 

@@ -1,7 +1,7 @@
 //! The words whose bytes a byte order turns round.
 
 ghost use Rattle.std.specs.Prelude.{◌≡◌};
-ghost use Rattle.vpf_value.specs.Turning.{word_size};
+ghost use Rattle.vpf_value.specs.Inner.Turning.{word_size};
 
 use vpf_triplet::Kind;
 

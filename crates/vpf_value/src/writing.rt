@@ -1,12 +1,12 @@
 //! Cells in their canonical spelling.
 
 ghost use Rattle.std.specs.Prelude.{◌≡◌, ◌<◌, ◌*◌, ◌/◌, ◌++◌, ℕ, [], OnOk, OnErr, length, take, vec_len};
-ghost use Rattle.vpf_triplet.specs.declared.orders.Order.{Order};
-ghost use Rattle.vpf_triplet.specs.Numbers.{number};
+ghost use Rattle.vpf_base.specs.declared.orders.Order.{Order};
+ghost use Rattle.vpf_base.specs.Numbers.{number};
 ghost use Rattle.vpf_value.specs.Words.{word_bytes, word_limit, tuple_len, spelled_words, number_width};
 ghost use Rattle.vpf_value.specs.Values.{view};
-ghost use Rattle.vpf_value.specs.Coordinates.{words, words_width};
-ghost use Rattle.vpf_value.specs.Fitting.{HoldsMany, HoldsTuples, FitsCell};
+ghost use Rattle.vpf_value.specs.Inner.Coordinates.{words, words_width};
+ghost use Rattle.vpf_value.specs.Inner.Fitting.{HoldsMany, HoldsTuples, FitsCell};
 ghost use Rattle.vpf_value.specs.Canonical.{with_count, spelled};
 
 use crate::cells::{COUNT_BYTES, Cell};

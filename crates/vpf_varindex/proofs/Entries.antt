@@ -5,13 +5,13 @@ use Rattle.std.specs.Int.{w32}
 use Rattle.std.proofs.lemmas.Bool.{lt-ltb, le-ltb, ltb-false, lt-leb, le-leb, leb-true}
 use Rattle.vpf_base.specs.Results.{◌>>=◌}
 use Rattle.vpf_base.proofs.Results.{done, ok_is, guarded, passed}
-use Rattle.vpf_triplet.specs.declared.orders.Order.{Order}
+use Rattle.vpf_base.specs.declared.orders.Order.{Order}
 use Rattle.vpf_triplet.specs.declared.places.Place.{Place}
 use Rattle.vpf_triplet.specs.declared.places.Code.TheVariants as codes
-use Rattle.vpf_triplet.specs.Numbers.{number_of}
+use Rattle.vpf_base.specs.Numbers.{number_of}
 use Rattle.vpf_triplet.specs.Places.{index_fault}
 use Rattle.vpf_varindex.specs.Reading.{index_entry, entries_at, index_at}
-use Rattle.vpf_varindex.specs.Views.{entries_of}
+use Rattle.vpf_varindex.specs.Inner.Views.{entries_of}
 
 abbrev then_entry : ℕ × ℕ → Result (List (ℕ × ℕ)) Place → Result (List (ℕ × ℕ)) Place
 then_entry x r = r >>= λ others. Ok (x ∷ others)

@@ -4,10 +4,10 @@ use Rattle.std.specs.Int.{w32}
 use Rattle.std.proofs.lemmas.Bool.{ltb-true, ltb-false, leb-false}
 use Rattle.vpf_base.specs.Results.{◌>>=◌}
 use Rattle.vpf_base.proofs.Results.{failed, err_is}
-use Rattle.vpf_triplet.specs.declared.orders.Order.{Order}
+use Rattle.vpf_base.specs.declared.orders.Order.{Order}
 use Rattle.vpf_triplet.specs.declared.places.Place.{Place}
 use Rattle.vpf_triplet.specs.declared.places.Code.TheVariants as codes
-use Rattle.vpf_triplet.specs.Numbers.{number_of}
+use Rattle.vpf_base.specs.Numbers.{number_of}
 use Rattle.vpf_triplet.specs.Places.{index_fault}
 use Rattle.vpf_varindex.specs.Faults as faults
 use Rattle.vpf_varindex.specs.Faults.{index_entry_start, entry_count, FirstIndexFault}

@@ -6,15 +6,15 @@ use Rattle.std.proofs.lemmas.Bool.{le-ltb, ltb-false, le-leb}
 use Rattle.std.proofs.lemmas.List.{drop_at, drop-drop, take-append-drop, length-append, length-drop, drop_all}
 use Rattle.std.proofs.lemmas.List.Elements.{All-nil, All-cons, All-head, All-tail}
 use Rattle.vpf_base.proofs.Results.{ok_is, guarded}
-use Rattle.vpf_triplet.proofs.NumberLemmas.{length-number, number_again, number_takes, number_below}
+use Rattle.vpf_base.proofs.NumberLemmas.{length-number, number_again, number_takes, number_below}
 use Rattle.vpf_base.proofs.ByteLists.{IsBytes-drop}
 use Rattle.vpf_base.specs.Bytes.{IsBytes}
-use Rattle.vpf_triplet.specs.declared.orders.Order.{Order}
+use Rattle.vpf_base.specs.declared.orders.Order.{Order}
 use Rattle.vpf_triplet.specs.declared.places.Place.{Place}
 use Rattle.vpf_triplet.specs.declared.places.Code.TheVariants as codes
-use Rattle.vpf_triplet.specs.Numbers.{number, number_of}
+use Rattle.vpf_base.specs.Numbers.{number, number_of}
 use Rattle.vpf_triplet.specs.Places.{Gives, index_fault}
-use Rattle.vpf_varindex.specs.Deciding.{DecidesIndex}
+use Rattle.vpf_varindex.specs.Inner.Deciding.{DecidesIndex}
 use Rattle.vpf_varindex.specs.Faults.{FirstIndexFault}
 use Rattle.vpf_varindex.specs.Reading.{index_entry, entries_at, index_at}
 use Rattle.vpf_varindex.specs.RowIndex.{entries_text, row_index, HasSpan, IsRowIndex}

@@ -1,5 +1,4 @@
 pub mod RowIndex
 pub mod Reading
-pub mod Views
 pub mod Faults
-pub mod Deciding
+pub mod Inner

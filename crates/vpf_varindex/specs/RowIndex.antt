@@ -1,8 +1,8 @@
 -- How variable-length indexes are spelled (MIL-STD-2407, 5.4, variable-length index file), apart from reading.
 use Rattle.std.specs.Prelude.{◌≡◌, ℕ, ◌<◌, ◌^◌, All, List, [], ◌∷◌, ◌++◌, length}
 use Rattle.std.specs.Int.{w32}
-use Rattle.vpf_triplet.specs.declared.orders.Order.{Order}
-use Rattle.vpf_triplet.specs.Numbers.{number}
+use Rattle.vpf_base.specs.declared.orders.Order.{Order}
+use Rattle.vpf_base.specs.Numbers.{number}
 
 -- an entry for each row: its offset and its length, of 4 bytes each
 unfoldable pub entries_text : Order → List (ℕ × ℕ) → List ℕ

@@ -2,9 +2,9 @@
 
 ghost use Rattle.std.specs.Prelude.{◌≡◌, ◌<◌, ◌^◌, ℕ, All, List, Ok, Err, length};
 ghost use Rattle.vpf_base.specs.Bytes.{IsBytes};
-ghost use Rattle.vpf_triplet.specs.declared.orders.Order.{Order};
+ghost use Rattle.vpf_base.specs.declared.orders.Order.{Order};
 ghost use Rattle.vpf_triplet.specs.declared.places.Place.{Place};
-ghost use Rattle.vpf_varindex.specs.Deciding.{DecidesIndex};
+ghost use Rattle.vpf_varindex.specs.Inner.Deciding.{DecidesIndex};
 ghost use Rattle.vpf_varindex.specs.Faults.{FirstIndexFault};
 ghost use Rattle.vpf_varindex.specs.Reading.{index_at};
 ghost use Rattle.vpf_varindex.specs.RowIndex.{row_index, HasSpan, IsRowIndex};

@@ -27,7 +27,7 @@ impl<'a> Model for IndexView<'a> {
 
     ghost Value = { List (ℕ × ℕ) };
 
-    ghost use Rattle.vpf_varindex.specs.Views.{entries, IsIndexRead};
+    ghost use Rattle.vpf_varindex.specs.Inner.Views.{entries, IsIndexRead};
 
     ghost view = { entries };
 

@@ -1,18 +1,18 @@
 -- The cells of rows fit their columns.
-use Rattle.std.proofs.Common.{◌≡◌, ℕ, ◌≤◌, Bool, true, false, List, [], ◌∷◌, length, sym, ap, subst, ◌∙◌, rules}
+use Rattle.std.proofs.Common.{[], ◌≡◌, ℕ, ◌≤◌, Bool, true, false, List, ◌∷◌, length, sym, ap, subst, ◌∙◌, rules}
 use Rattle.std.specs.Prelude.{if◌then◌else◌}
 use Rattle.vpf_triplet.specs.declared.kinds.Kind.TheVariants as kinds
 use Rattle.vpf_triplet.specs.declared.kinds.Count.TheVariants.{Fixed}
 use Rattle.vpf_value.specs.Values.{Value, TextOf}
-use Rattle.vpf_value.specs.Fitting.{FitsCell}
+use Rattle.vpf_value.specs.Inner.Fitting.{FitsCell}
 use Rattle.vpf_head.specs.Head.{Head}
 use Rattle.vpf_table.specs.Canonical.{FitsRow}
 use Rattle.vpf_table.specs.Grid.{Row}
 use Rattle.vpf_vectors.specs.declared.cells.rows.EdgeRow.{EdgeRow}
 use Rattle.vpf_vectors.specs.Heads.{tileref_head, edge_head, name_width}
 use Rattle.vpf_vectors.specs.Tables.{cell_of_number, padded_name, tile_cells, edge_cells}
-use Rattle.vpf_vectors.specs.Writing.{IsGridNumber, IsSmallEdge}
-use Rattle.vpf_vectors.proofs.NameLemmas.{name_length}
+use Rattle.vpf_vectors.specs.Inner.Writing.{IsGridNumber, IsSmallEdge}
+use Rattle.vpf_vectors.specs.Inner.StemLaws.{name_length}
 
 pub number_fits : (k : ℕ) → k ≤ 100000 → FitsCell kinds.I (Fixed 1) (cell_of_number k)
 number_fits k h = search rules

@@ -7,7 +7,7 @@ use Rattle.vpf_prims.specs.Primitives.{EdgePrimitive, FacePrimitive, RingPrimiti
 use Rattle.vpf_prims.specs.Reading.{edge_in_row, face_in_row, ring_in_row, node_in_row, primitives_of}
 use Rattle.vpf_vectors.specs.Cells.Numbers.{nodes, edges, faces}
 use Rattle.vpf_vectors.specs.Cells.Rows.{row_of_edge, grid_ring_row, first_edge}
-use Rattle.vpf_vectors.specs.GridCoverage.Coverage.{grid_edge, grid_face, grid_ring, grid_node, grid_primitives}
+use Rattle.vpf_vectors.specs.Inner.GridCoverage.Coverage.{grid_edge, grid_face, grid_ring, grid_node, grid_primitives}
 use Rattle.vpf_vectors.specs.Heads.{edge_head, face_head, ring_head, node_head}
 use Rattle.vpf_vectors.specs.Library.{coverage_tables}
 use Rattle.vpf_vectors.specs.Tables.{edge_cells, ring_cells, pair_cells}

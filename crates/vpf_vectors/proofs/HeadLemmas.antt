@@ -1,14 +1,10 @@
 -- The bytes of headers are read as the headers that are meant, and these are short.
-use Rattle.std.proofs.Common.{◌≡◌, ◌≤◌, ◌∷◌, [], length, refl, Result, Ok, Err, codes, arith}
+use Rattle.std.proofs.Common.{◌≡◌, refl, Result, Ok, Err}
 use Rattle.std.specs.Prelude.{IsOk}
-use Rattle.std.specs.Fmt.{decimal}
-use Rattle.std.proofs.lemmas.Fmt.{decimal_digit}
-use Rattle.vpf_head.specs.Canonical.{canonical_text, columns_text, column_text}
 use Rattle.vpf_head.specs.Items.{text_at, item_at, name_at}
 use Rattle.vpf_head.specs.Reading.{header_of, head_at, columns_at, column_at, narrative_at, key_at, count_at, kind_at, fresh_name_at}
 use Rattle.vpf_vectors.specs.declared.headers.TheConstants.{TILEREF, EDGES, FACES, RINGS, NODES, PLAN}
 use Rattle.vpf_vectors.specs.Heads.{tileref_head, edge_head, face_head, ring_head, node_head, plan_head}
-use Rattle.vpf_vectors.specs.Writing.{HasPairs}
 
 pub tileref_read : header_of TILEREF.now ≡ Ok (tileref_head, 62)
 unfolding header_of head_at columns_at column_at narrative_at key_at count_at kind_at fresh_name_at text_at item_at name_at
@@ -34,36 +30,6 @@ pub plan_read : header_of PLAN.now ≡ Ok (plan_head, 61)
 unfolding header_of head_at columns_at column_at narrative_at key_at count_at kind_at fresh_name_at text_at item_at name_at
 plan_read = refl
 
-one : decimal 1 ≡ 49 ∷ []
-one = decimal_digit 1 (omega arith)
-
-eight : decimal 8 ≡ 56 ∷ []
-eight = decimal_digit 8 (omega arith)
-
-pub short_tileref : length (canonical_text tileref_head) ≤ 1000
-unfolding canonical_text columns_text column_text
-short_tileref = rw (one, eight) (omega arith)
-
-pub short_edges : length (canonical_text edge_head) ≤ 1000
-unfolding canonical_text columns_text column_text
-short_edges = rw one (omega arith)
-
-pub short_faces : length (canonical_text face_head) ≤ 1000
-unfolding canonical_text columns_text column_text
-short_faces = rw one (omega arith)
-
-pub short_rings : length (canonical_text ring_head) ≤ 1000
-unfolding canonical_text columns_text column_text
-short_rings = rw one (omega arith)
-
-pub short_nodes : length (canonical_text node_head) ≤ 1000
-unfolding canonical_text columns_text column_text
-short_nodes = rw one (omega arith)
-
-pub short_plan : length (canonical_text plan_head) ≤ 1000
-unfolding canonical_text columns_text column_text
-short_plan = rw one (omega arith)
-
 ok_from : {T E : Type 0} (r : Result T E) (x : T) → r ≡ Ok x → IsOk r
 ok_from (Ok y) x e = refl
 ok_from (Err p) x e = absurd cc
@@ -85,12 +51,3 @@ nodes_ok = ok_from (header_of NODES.now) (node_head, 63) nodes_read
 
 pub plan_ok : IsOk (header_of PLAN.now)
 plan_ok = ok_from (header_of PLAN.now) (plan_head, 61) plan_read
-
-pub faces_have_pairs : HasPairs face_head
-faces_have_pairs = record { description = codes "Faces"; id = codes "Id"; name = codes "ring_ptr"; text = codes "Ring"; is = refl; short = short_faces }
-
-pub nodes_have_pairs : HasPairs node_head
-nodes_have_pairs = record { description = codes "Nodes"; id = codes "Id"; name = codes "first_edge"; text = codes "Edge"; is = refl; short = short_nodes }
-
-pub plan_has_pairs : HasPairs plan_head
-plan_has_pairs = record { description = codes "Plan"; id = codes "Face"; name = codes "tile_id"; text = codes "Tile"; is = refl; short = short_plan }

@@ -1,10 +1,8 @@
 -- The names of tiles in the width of their column.
-use Rattle.std.proofs.Common.{◌≡◌, ℕ, zero, suc, ◌-◌, ◌^◌, ◌≤◌, List, [], ◌∷◌, ◌++◌, length, false, refl, ap, ◌∙◌, arith, length-append}
+use Rattle.std.proofs.Common.{[], ◌≡◌, ℕ, zero, suc, ◌-◌, ◌^◌, List, ◌∷◌, ◌++◌, length, false, refl, ap, ◌∙◌, arith}
 use Rattle.std.specs.Prelude.{Result, IfOk, replicate}
 use Rattle.std.specs.List.{repeat}
 use Rattle.std.specs.Fmt.{decimal, format_spec, padded_integral, char_count}
-use Rattle.std.proofs.lemmas.Fmt.{length-decimal-le}
-use Rattle.std.proofs.lemmas.List.{length-replicate}
 use Rattle.std.proofs.lemmas.Result.{IfOk-weaker}
 use Rattle.vpf_head.specs.Bytes.{space}
 use Rattle.vpf_vectors.specs.Tables.{padded_name}
@@ -32,11 +30,3 @@ pub padded_from_printed : {X E : Type 0} (r : Result X E) (bytes : X → List �
 padded_from_printed r bytes k h =
     IfOk-weaker r (λ x. bytes x ≡ 116 ∷ padded_integral (format_spec 32 1 0 7 (2 ^ 64 - 1)) false [] (decimal k)) (λ x. bytes x ≡ padded_name k)
     (λ x e. e ∙ ap (λ t. 116 ∷ t) (padded_number k) ∙ name_is_padded k) h
-
--- it has the column's width
-pub name_length : (k : ℕ) → k ≤ 100000 → length (padded_name k) ≡ 8
-name_length k h =
-    let d : length (decimal k) ≤ 6 = length-decimal-le 6 k (omega arith) (omega arith) (omega arith) in
-    let a = length-append (decimal k) (replicate (8 - suc (length (decimal k))) space) in
-    let b = length-replicate (8 - suc (length (decimal k))) space in
-    omega (arith, a, b)

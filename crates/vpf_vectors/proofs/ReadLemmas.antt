@@ -4,7 +4,7 @@ use Rattle.std.specs.List.{All, AllByRecursion, enumerate_from}
 use Rattle.std.proofs.lemmas.List.Elements.{All-from_recursion, recursion_from_All}
 use Rattle.vpf_head.specs.Head.{Head}
 use Rattle.vpf_head.specs.Reading.{header_of}
-use Rattle.vpf_head.specs.Soundness.{IsSound}
+use Rattle.vpf_head.specs.Inner.Soundness.{IsSound}
 use Rattle.vpf_table.specs.Canonical.{FitsRow, IsWritable}
 use Rattle.vpf_table.specs.Grid.{Row}
 use Rattle.vpf_vectors.specs.declared.cells.rows.EdgeRow.{EdgeRow}
@@ -12,7 +12,7 @@ use Rattle.vpf_vectors.specs.declared.cells.rows.RingRow.{RingRow}
 use Rattle.vpf_vectors.specs.declared.headers.TheConstants.{TILEREF, EDGES, RINGS}
 use Rattle.vpf_vectors.specs.Heads.{plain_head, ids, numbers, tileref_head, edge_head, ring_head}
 use Rattle.vpf_vectors.specs.Tables.{tile_cells, edge_cells, ring_cells, pair_cells, grid_tileref, edge_table, ring_table, pair_table}
-use Rattle.vpf_vectors.specs.Writing.{IsGridNumber, IsSmallEdge, IsSmallRingRow}
+use Rattle.vpf_vectors.specs.Inner.Writing.{IsGridNumber, IsSmallEdge, IsSmallRingRow}
 use Rattle.vpf_vectors.proofs.CellLemmas.{number_fits, tile_fits, edge_fits}
 use Rattle.vpf_vectors.proofs.HeadLemmas.{tileref_read, edges_read, rings_read}
 use Rattle.vpf_vectors.proofs.SmallLemmas.{each_mapped}

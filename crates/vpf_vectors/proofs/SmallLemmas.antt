@@ -2,35 +2,18 @@
 use Rattle.std.proofs.Common.{◌≡◌, ℕ, ◌+◌, ◌*◌, ◌/◌, ◌%◌, ◌<◌, ◌≤◌, true, length, map, refl, sym, subst, ◌∙◌, arith}
 use Rattle.std.specs.List.{All, range_with_len}
 use Rattle.std.proofs.lemmas.Bool.Decides.{nat_tests}
-use Rattle.std.proofs.lemmas.Nat.{mul-le}
 use Rattle.std.proofs.lemmas.List.FromFn.{length-range_with_len, get_or-range_with_len, length-map-range_with_len, get_or-map-range_with_len}
 use Rattle.vpf_darts.specs.Darts.{code}
-use Rattle.vpf_vectors.specs.Cells.Laws.{DartsAreInRange, GridIsMap, FirstEdgesAreLeast, FacesHaveTiles}
+use Rattle.vpf_vectors.specs.Inner.Cells.Laws.{DartsAreInRange, GridIsMap, FirstEdgesAreLeast, FacesHaveTiles}
 use Rattle.vpf_vectors.specs.Cells.Maps.{has_dart, next_in_grid, tail_in, head_in, face_in}
 use Rattle.vpf_vectors.specs.Cells.Numbers.{nodes, faces, edges}
 use Rattle.vpf_vectors.specs.Cells.Rows.{row_of_edge, grid_ring_row, start_edge, first_edge, tile_of, edge_rows, face_rows, ring_rows, node_rows, plan_rows}
 use Rattle.vpf_vectors.specs.Library.{tiles}
-use Rattle.vpf_vectors.specs.Writing.{IsGridNumber, IsSmallEdge, IsSmallRingRow}
+use Rattle.vpf_vectors.specs.Inner.Writing.{IsGridNumber, IsSmallEdge, IsSmallRingRow}
+use Rattle.vpf_vectors.specs.Inner.SmallLaws.{few_faces, few_nodes, few_tiles, few_edges}
 
 below : (a b c : ℕ) → a ≤ b → b ≤ c → a ≤ c
 below a b c h k = omega arith
-
--- how many there are
-pub few_nodes : (n : ℕ) → n ≤ 200 → nodes n ≤ 50000
-unfolding nodes
-few_nodes n h = let m : (n + 1) * (n + 1) ≤ 201 * 201 = mul-le (n + 1) (n + 1) 201 201 (omega arith) (omega arith) in omega arith
-
-pub few_faces : (n : ℕ) → n ≤ 200 → faces n ≤ 50000
-unfolding faces
-few_faces n h = let m : n * n ≤ 200 * 200 = mul-le n n 200 200 h h in omega arith
-
-pub few_edges : (n : ℕ) → n ≤ 200 → edges n ≤ 100000
-unfolding edges
-few_edges n h = let m : n * (n + 1) ≤ 200 * 201 = mul-le n (n + 1) 200 201 h (omega arith) in omega arith
-
-pub few_tiles : (n : ℕ) → n ≤ 200 → tiles n ≤ 100000
-unfolding tiles
-few_tiles n h = let m : n / 2 * (n / 2) ≤ 100 * 100 = mul-le (n / 2) (n / 2) 100 100 (omega arith) (omega arith) in omega arith
 
 -- what is so of each number is so of each row
 pub each_mapped : {X : Type 0} (P : X → Type 0) (f : ℕ → X) (a n : ℕ) → ((k : ℕ) → a ≤ k → k < a + n → P (f k)) → All P (map f (range_with_len a n))
@@ -78,15 +61,9 @@ pub edges_are_small : DartsAreInRange → GridIsMap → (n : ℕ) → 1 ≤ n �
 edges_are_small in_range is_map n le most =
     each_mapped IsSmallEdge (row_of_edge n) 1 (edges n) (λ e low high. edge_is_small in_range is_map n e le most low (omega arith))
 
-pub edges_are_few : (n : ℕ) → n ≤ 200 → length (edge_rows n) ≤ 100000
-edges_are_few n h = subst (λ k. k ≤ 100000) (sym (length-map-range_with_len (row_of_edge n) 1 (edges n))) (few_edges n h)
-
 -- the rows of faces and rings
 pub faces_are_small : (n : ℕ) → n ≤ 200 → All IsGridNumber (face_rows n)
 faces_are_small n h = let f = few_faces n h in each_numbered IsGridNumber 1 (faces n) (λ k low high. omega arith)
-
-pub faces_are_few : (n : ℕ) → n ≤ 200 → 1 + length (face_rows n) ≤ 100000
-faces_are_few n h = let f = few_faces n h in let l = length-range_with_len 1 (faces n) in omega (arith, l)
 
 start_below : (r : ℕ) → 1 ≤ r → start_edge r ≤ r
 unfolding start_edge
@@ -97,9 +74,6 @@ rings_are_small n h =
     let f = few_faces n h in
     each_mapped IsSmallRingRow grid_ring_row 1 (faces n)
     (λ r low high. record { face_id = omega arith; start_edge = below (start_edge r) r 100000 (start_below r low) (omega arith) })
-
-pub rings_are_few : (n : ℕ) → n ≤ 200 → length (ring_rows n) ≤ 100000
-rings_are_few n h = let f = few_faces n h in let l = length-map-range_with_len grid_ring_row 1 (faces n) in omega (arith, l)
 
 -- the rows of nodes
 first_below : FirstEdgesAreLeast → (n k : ℕ) → 1 ≤ n → 1 ≤ k → k ≤ nodes n → first_edge n k ≤ edges n
@@ -112,15 +86,9 @@ nodes_are_small least n le most =
     each_mapped IsGridNumber (first_edge n) 1 (nodes n)
     (λ k low high. below (first_edge n k) (edges n) 100000 (first_below least n k le low (omega arith)) (few_edges n most))
 
-pub nodes_are_few : (n : ℕ) → n ≤ 200 → 1 + length (node_rows n) ≤ 100000
-nodes_are_few n h = let f = few_nodes n h in let l = length-map-range_with_len (first_edge n) 1 (nodes n) in omega (arith, l)
-
 -- the home tiles
 pub homes_are_small : FacesHaveTiles → (n : ℕ) → 1 ≤ n → n ≤ 200 → n % 2 ≡ 0 → All IsGridNumber (plan_rows n)
 unfolding tiles faces
 homes_are_small homes n le most even =
     each_mapped IsGridNumber (tile_of n) 2 (n * n)
     (λ f low high. below (tile_of n f) (tiles n) 100000 (homes n f le even low (omega arith)).1 (few_tiles n most))
-
-pub homes_are_few : (n : ℕ) → n ≤ 200 → 2 + length (plan_rows n) ≤ 100000
-homes_are_few n h = let m : n * n ≤ 200 * 200 = mul-le n n 200 200 h h in let l = length-map-range_with_len (tile_of n) 2 (n * n) in omega (arith, l)

@@ -2,4 +2,3 @@ pub mod Corners
 pub mod Numbers
 pub mod Maps
 pub mod Rows
-pub mod Laws

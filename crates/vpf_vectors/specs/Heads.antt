@@ -1,6 +1,6 @@
 -- The headers of the tables of a coverage (MIL-STD-2407, 5.4, table header): columns of numbers, and the names of tiles.
 use Rattle.std.specs.Prelude.{ℕ, List, [], ◌∷◌, None, codes}
-use Rattle.vpf_triplet.specs.declared.orders.Order.TheVariants.{Little}
+use Rattle.vpf_base.specs.declared.orders.Order.TheVariants.{Little}
 use Rattle.vpf_triplet.specs.declared.kinds.Kind.{Kind}
 use Rattle.vpf_triplet.specs.declared.kinds.Kind.TheVariants as kinds
 use Rattle.vpf_triplet.specs.declared.kinds.Count.{Count}

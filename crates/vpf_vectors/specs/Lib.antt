@@ -1,6 +1,5 @@
 pub mod Heads
 pub mod Tables
-pub mod Writing
 pub mod Library
 pub mod Cells
-pub mod GridCoverage
+pub mod Inner

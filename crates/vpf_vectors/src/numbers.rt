@@ -3,7 +3,7 @@
 ghost use Rattle.std.specs.Prelude.{◌≡◌, if◌then◌else◌};
 ghost use Rattle.vpf_value.specs.Values.{view};
 ghost use Rattle.vpf_vectors.specs.Tables.{cell_of_number};
-ghost use Rattle.vpf_vectors.specs.Writing.{IsGridNumber};
+ghost use Rattle.vpf_vectors.specs.Inner.Writing.{IsGridNumber};
 
 use vpf_value::Cell;
 

@@ -3,11 +3,11 @@
 ghost use Rattle.std.specs.Prelude.{◌≡◌, ◌≤◌, ◌+◌, ◌++◌, ◌∷◌, [], List, All, None, IfOk, OnOk, length, string_bytes};
 ghost use Rattle.vpf_table.specs.Canonical.{canonical_table};
 ghost use Rattle.vpf_table.specs.Grid.{Row};
-ghost use Rattle.vpf_write.specs.Tallies.{Holds, grid_with};
+ghost use Rattle.vpf_write.specs.Inner.Tallies.{Holds, grid_with};
 ghost use Rattle.vpf_write.specs.Writing.{first_limit};
 ghost use Rattle.vpf_vectors.specs.Heads.{tileref_head, edge_head, ring_head};
 ghost use Rattle.vpf_vectors.specs.Tables.{tile_cells, edge_cells, ring_cells, pair_cells, padded_name, grid_tileref, edge_table, ring_table, pair_table};
-ghost use Rattle.vpf_vectors.specs.Writing.{IsGridNumber, IsSmallEdge, IsSmallRingRow, HasPairs};
+ghost use Rattle.vpf_vectors.specs.Inner.Writing.{IsGridNumber, IsSmallEdge, IsSmallRingRow, HasPairs};
 
 use crate::cells::{EdgeRow, RingRow};
 use crate::headers::{EDGES, RINGS, TILEREF, header_in};

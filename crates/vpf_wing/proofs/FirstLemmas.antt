@@ -2,7 +2,7 @@
 use Rattle.std.proofs.Common.{◌≡◌, ℕ, zero, suc, ◌+◌, ◌≤◌, eqb, List, [], ◌∷◌, length, drop, get_or, arith, inl, inr}
 use Rattle.std.proofs.lemmas.Bool.{cases_eq}
 use Rattle.vpf_prims.specs.Lists.{first_from}
-use Rattle.vpf_wing.specs.FirstNumbers.{first_of_key}
+use Rattle.vpf_wing.specs.Inner.FirstNumbers.{first_of_key}
 use Rattle.vpf_wing.proofs.NextLemmas.{eqb_same, eqb_apart}
 
 -- the number that is held, or the first of those to come

@@ -13,13 +13,13 @@ use Rattle.vpf_findings.specs.declared.errors.FindError.{FindError}
 use Rattle.vpf_findings.specs.declared.errors.FindError.TheVariants as found
 use Rattle.vpf_findings.specs.Findings.{Disagreement, disagreement_of}
 use Rattle.vpf_findings.specs.Firsts.{Tells}
-use Rattle.vpf_findings.specs.FirstLaws.{or-none_both}
+use Rattle.vpf_findings.specs.Inner.FirstLaws.{or-none_both}
 use Rattle.vpf_prims.specs.Grid.{Row, Grid}
 use Rattle.vpf_prims.specs.declared.rows.Edge.{Edge}
 use Rattle.vpf_prims.specs.Roles.{edge_roles}
 use Rattle.vpf_prims.specs.Columns.{columns_finding}
 use Rattle.vpf_prims.specs.Edges.{EdgesAt, edge_columns, edge_of, edges_finding, HaveWings}
-use Rattle.vpf_prims.specs.Laws.{RowsHaveWings}
+use Rattle.vpf_prims.specs.Inner.Laws.{RowsHaveWings}
 use Rattle.vpf_wing.specs.Nexts.{AreNexts}
 use Rattle.vpf_wing.specs.Wings.{wings_finding, number_cell}
 use Rattle.vpf_wing.specs.Boundaries.{map_of, untiled_edges, ranges_of, table_columns, table_edges, rows_finding, table_finding, IsBoundaryListing}

@@ -1,8 +1,8 @@
 -- Lists of which one holds each number at least as often as the other, and the places of a key in a list.
-use Rattle.std.proofs.Common.{◌≡◌, ℕ, suc, ◌+◌, ◌-◌, ◌<◌, ◌≤◌, cond, eqb, List, [], ◌∷◌, ◌++◌, length, get_or, refl, sym, ap, subst, ◌∙◌, arith, inl, inr, length-append}
+use Rattle.std.proofs.Common.{[], ◌≡◌, ℕ, suc, ◌+◌, ◌-◌, ◌<◌, ◌≤◌, cond, eqb, List, ◌∷◌, ◌++◌, length, get_or, refl, sym, ap, subst, ◌∙◌, arith, inl, inr, length-append}
 use Rattle.std.proofs.lemmas.Bool.{cases_eq}
 use Rattle.vpf_darts.specs.Cycles.{count_of}
-use Rattle.vpf_darts.proofs.CycleLemmas.{count_of-append, count_of-here, count_of-step, count_of-not_here, count_of-equal}
+use Rattle.vpf_darts.specs.Inner.CycleLaws.{count_of-append, count_of-here, count_of-step, count_of-not_here, count_of-equal}
 use Rattle.vpf_wing.proofs.LawFacts.{same, apart, zero_or_some}
 
 -- a list that holds x is split at it

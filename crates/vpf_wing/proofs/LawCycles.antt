@@ -16,7 +16,8 @@ use Rattle.vpf_wing.specs.Walks.{LeadsTo}
 use Rattle.vpf_wing.specs.CycleLines.{sides_line}
 use Rattle.vpf_wing.specs.Links.{links_of, local_next, local_map}
 use Rattle.vpf_wing.specs.WellFormed.{IsDartOf}
-use Rattle.vpf_wing.proofs.LawFacts.{none_some, some_same, unless_none, unless_holds, implies_is, implies_from}
+use Rattle.vpf_wing.proofs.LawFacts.{none_some, some_same, unless_holds, implies_is, implies_from}
+use Rattle.vpf_findings.specs.Inner.FirstLaws.{unless_none}
 use Rattle.vpf_wing.proofs.LawRows.{row_none, row_silent}
 use Rattle.vpf_wing.proofs.LawDarts.{AtPlace, number_at, number-apart, at_place, number_dart}
 use Rattle.vpf_wing.proofs.LawLinks.{rows_of, rows_count, dart_number, number_flip, flip_below}

@@ -1,18 +1,10 @@
 -- The darts of a library, by their numbers.
 use Rattle.std.proofs.Common.{◌≡◌, ℕ, ◌+◌, ◌-◌, ◌*◌, ◌/◌, ◌%◌, ◌^◌, ◌<◌, ◌≤◌, true, leb, ◌&&◌, sym, subst, arith}
 use Rattle.std.proofs.lemmas.Bool.{and_parts, and_from, leb-true, le-leb}
-use Rattle.vpf_darts.specs.Darts.{code, tile_in, edge_in, sign_in, flip}
+use Rattle.vpf_darts.specs.Darts.{code, tile_in, edge_in, sign_in}
 use Rattle.vpf_prims.specs.Primitives.{Library, edge_count}
 use Rattle.vpf_wing.specs.Links.{links_of}
 use Rattle.vpf_wing.specs.WellFormed.{IsDartOf}
-
-pub tile-flip : (x : ℕ) → tile_in (flip x) ≡ tile_in x
-unfolding tile_in flip
-tile-flip x = omega arith
-
-pub edge-flip : (x : ℕ) → edge_in (flip x) ≡ edge_in x
-unfolding edge_in flip
-edge-flip x = omega arith
 
 -- the parts of being a dart
 pub record IsThere (L : Library) (d : ℕ) : Type 0 where
@@ -38,16 +30,6 @@ has_from L d i =
     let high = leb (edge_in d) (edge_count L (tile_in d)) in
     let both = and_from low high (le-leb 1 (edge_in d) i.from_one) (le-leb (edge_in d) (edge_count L (tile_in d)) i.to_count) in
     and_from (low && high) (leb (tile_in d) L.last) both (le-leb (tile_in d) L.last i.to_last)
-
--- the other dart of an edge is a dart
-pub flip-has : (L : Library) (x : ℕ) → (links_of L).has x ≡ true → (links_of L).has (flip x) ≡ true
-flip-has L x h =
-    let i : IsThere L x = is_there L x h in
-    has_from L (flip x) (record {
-      from_one = subst (λ e. 1 ≤ e) (sym (edge-flip x)) i.from_one;
-      to_count = subst (λ t. edge_in (flip x) ≤ edge_count L t) (sym (tile-flip x)) (subst (λ e. e ≤ edge_count L (tile_in x)) (sym (edge-flip x)) i.to_count);
-      to_last = subst (λ t. t ≤ L.last) (sym (tile-flip x)) i.to_last;
-    })
 
 -- the number of the dart at a place of a tile
 abbrev pub number_at : ℕ → ℕ → ℕ

@@ -2,7 +2,7 @@
 use Rattle.std.proofs.Common.{◌≡◌, ℕ, Option, None, Some, List, map, sym, ap, ◌∙◌}
 use Rattle.vpf_findings.specs.Findings.{Disagreement}
 use Rattle.vpf_findings.specs.Firsts.{◌or◌, first_of_rows}
-use Rattle.vpf_findings.specs.FirstLaws.{or-none_both}
+use Rattle.vpf_findings.specs.Inner.FirstLaws.{or-none_both}
 use Rattle.vpf_prims.specs.declared.rows.Edge.{Edge}
 use Rattle.vpf_prims.specs.References.{id_of}
 use Rattle.vpf_prims.specs.Primitives.{FacePrimitive, NodePrimitive, Primitives, Library, edges_in, faces_in, rings_in, nodes_in, ring_count, own_edge}
@@ -14,7 +14,7 @@ use Rattle.vpf_wing.specs.Nexts.{MakeMap}
 use Rattle.vpf_wing.specs.Wings.{wings_finding}
 use Rattle.vpf_wing.specs.CycleLines.{tile_columns, wing_cell, sides_line, own_ring, rings_finding, node_lines, cycles_finding}
 use Rattle.vpf_wing.specs.WellFormed.{StartsRing, HasCycles}
-use Rattle.vpf_wing.specs.Laws.{CyclesDecide}
+use Rattle.vpf_wing.specs.Inner.Laws.{CyclesDecide}
 use Rattle.vpf_wing.proofs.MapLemmas.{map_has_none}
 use Rattle.vpf_wing.proofs.MapLemmas as maps
 use Rattle.vpf_wing.proofs.LawRows.{none_both}

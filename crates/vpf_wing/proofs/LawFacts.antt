@@ -4,10 +4,6 @@ use Rattle.std.proofs.lemmas.Bool.{cases_eq}
 use Rattle.std.proofs.lemmas.Bool.Decides.{nat_tests}
 use Rattle.vpf_findings.specs.Firsts.{unless}
 
--- no test both holds and fails
-pub clash : (b : Bool) → b ≡ true → b ≡ false → ⊥
-clash b t f = cc
-
 pub same : (x y : ℕ) → x ≡ y → eqb x y ≡ true
 same x y e = grind (arith, nat_tests)
 
@@ -19,11 +15,6 @@ below x y h = grind (arith, nat_tests)
 
 pub past : (x y : ℕ) → y ≤ x → ltb x y ≡ false
 past x y h = grind (arith, nat_tests)
-
--- a line says nothing exactly where its test holds
-pub unless_none : {F : Type 0} (b : Bool) (f : F) → unless b f ≡ None → b ≡ true
-unless_none true f h = refl
-unless_none false f h = absurd cc
 
 pub unless_holds : {F : Type 0} (b : Bool) (f : F) → b ≡ true → unless b f ≡ None
 unless_holds true f h = refl

@@ -10,8 +10,9 @@ use Rattle.vpf_wing.specs.Nexts.{no_edge, edge_at, tail, face}
 use Rattle.vpf_wing.specs.Places.{flip_place}
 use Rattle.vpf_wing.specs.CycleLines.{loop_line}
 use Rattle.vpf_wing.specs.Links.{links_of, tail_node}
-use Rattle.vpf_wing.specs.Laws.{LoopsDecide}
-use Rattle.vpf_wing.proofs.LawFacts.{unless_none, unless_holds, excludes_is, excludes_from}
+use Rattle.vpf_wing.specs.Inner.Laws.{LoopsDecide}
+use Rattle.vpf_wing.proofs.LawFacts.{unless_holds, excludes_is, excludes_from}
+use Rattle.vpf_findings.specs.Inner.FirstLaws.{unless_none}
 use Rattle.vpf_wing.proofs.LawDarts.{AtPlace, number_at, at_place, number_dart}
 use Rattle.vpf_wing.proofs.LawLinks.{rows_of, rows_count, number_face, number_tail, number_flip, flip_dart}
 use Rattle.vpf_wing.proofs.LawRows.{row_none, row_silent}

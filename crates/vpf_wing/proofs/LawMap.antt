@@ -3,13 +3,15 @@ use Rattle.std.proofs.Common.{◌≡◌, ℕ, Bool, true, false, cond, eqb, ◌&
 use Rattle.std.proofs.lemmas.Bool.{cases_Bool, and_parts, eqb-true}
 use Rattle.std.specs.Option.{unwrap_or}
 use Rattle.vpf_darts.specs.Darts.{code, tile_in, flip}
-use Rattle.vpf_darts.proofs.DartLemmas.{flip_flip, flip_apart}
+use Rattle.vpf_darts.specs.Inner.DartLaws.{flip_flip, flip_apart}
 use Rattle.vpf_prims.specs.Primitives.{Primitives, untiled}
 use Rattle.vpf_wing.specs.Links.{DartLinks, links_of, only, tail_node, is_next, local_next, local_map}
 use Rattle.vpf_wing.specs.WellFormed.{IsDartOf}
-use Rattle.vpf_wing.specs.Laws.{WellFormedHasMap}
-use Rattle.vpf_wing.proofs.LawFacts.{clash, none_some, some_same}
-use Rattle.vpf_wing.proofs.LawDarts.{IsThere, is_there, flip-has}
+use Rattle.vpf_wing.specs.Inner.Laws.{WellFormedHasMap}
+use Rattle.vpf_wing.proofs.LawFacts.{none_some, some_same}
+use Rattle.vpf_base.proofs.Booleans.{clash}
+use Rattle.vpf_wing.proofs.LawDarts.{IsThere, is_there}
+use Rattle.vpf_wing.specs.Inner.DartLaws.{flip-has}
 
 only_passes : (p : ℕ → Bool) (z y : ℕ) → only p z ≡ Some y → p y ≡ true
 only_passes p z y h = elim (cases_Bool (p z)) [

@@ -5,24 +5,24 @@ use Rattle.std.proofs.lemmas.List.{length-map}
 use Rattle.vpf_darts.specs.Darts.{code}
 use Rattle.vpf_darts.specs.Maps.{turn}
 use Rattle.vpf_darts.specs.Cycles.{count_of}
-use Rattle.vpf_darts.proofs.OrbitLemmas.{Returns}
+use Rattle.vpf_darts.specs.Inner.OrbitLaws.{Returns}
 use Rattle.vpf_findings.specs.Findings.{Disagreement}
 use Rattle.vpf_findings.specs.Firsts.{first_of_rows}
-use Rattle.vpf_findings.specs.FirstLaws.{or-none_both}
+use Rattle.vpf_findings.specs.Inner.FirstLaws.{or-none_both, unless_none}
 use Rattle.vpf_prims.specs.declared.rows.Edge.{Edge}
 use Rattle.vpf_prims.specs.Lists.{kth, first_item}
 use Rattle.vpf_prims.specs.References.{id_of}
 use Rattle.vpf_prims.specs.Primitives.{NodePrimitive, Library, absent_node, tile_nodes, edge_count, node_count}
 use Rattle.vpf_prims.specs.Numbering.{IsRowOf, IsNumbered}
 use Rattle.vpf_prims.specs.Tables.{TileTables}
-use Rattle.vpf_wing.specs.Nexts.{edge_at, dart_at, tail, wing, next_dart, MakeMap}
+use Rattle.vpf_wing.specs.Nexts.{edge_at, dart_at, tail, MakeMap}
 use Rattle.vpf_wing.specs.Places.{flip_place, turn_place, turn_size, tails}
 use Rattle.vpf_wing.specs.Walks.{LeadsTo}
 use Rattle.vpf_wing.specs.CycleLines.{at_node_line, turn_line, node_lines}
 use Rattle.vpf_wing.specs.Links.{links_of, local_map, tail_node}
 use Rattle.vpf_wing.specs.WellFormed.{IsDartOf, IsAtNode}
 use Rattle.vpf_wing.proofs.MapLemmas.{next_edge}
-use Rattle.vpf_wing.proofs.LawFacts.{same, unless_none, unless_holds, either_is, either_from, zero_or_some}
+use Rattle.vpf_wing.proofs.LawFacts.{same, unless_holds, either_is, either_from, zero_or_some}
 use Rattle.vpf_wing.proofs.LawRows.{row_none, row_silent, none_both}
 use Rattle.vpf_wing.proofs.LawFirsts.{item-map, first_row, first_passes, first_at}
 use Rattle.vpf_wing.proofs.LawCounts.{shorter, same_counts, places_of, places_of-once, places_of-has, places_of-some, length-places_of, IsPlace}

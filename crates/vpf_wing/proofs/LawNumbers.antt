@@ -1,19 +1,16 @@
 -- What rows that are numbered name is there.
-use Rattle.std.proofs.Common.{◌≡◌, ℕ, ◌+◌, ◌*◌, ◌/◌, ◌%◌, ◌^◌, ◌<◌, ◌≤◌, Bool, true, false, cond, eqb, sym, ap, subst, inl, inr, arith}
+use Rattle.std.proofs.Common.{◌≡◌, ℕ, ◌+◌, ◌*◌, ◌/◌, ◌%◌, ◌^◌, ◌<◌, ◌≤◌, Bool, true, false, cond, eqb, sym, ap, subst, arith}
 use Rattle.vpf_triplet.specs.declared.triplets.Triplet.{Triplet}
 use Rattle.vpf_prims.specs.declared.rows.Edge.{Edge}
 use Rattle.vpf_prims.specs.Lists.{kth}
 use Rattle.vpf_prims.specs.References.{id_of}
 use Rattle.vpf_prims.specs.Edges.{IsEdge}
 use Rattle.vpf_prims.specs.Primitives.{EdgePrimitive, Library, absent_edge, tile_edges, edge_count, node_count, own_edge}
-use Rattle.vpf_prims.specs.Numbering.{IsRowOf, IsPlain, IsReference, IsEdgeOf, IsNumbered}
+use Rattle.vpf_prims.specs.Numbering.{IsRowOf, IsPlain, IsEdgeOf, IsNumbered}
 use Rattle.vpf_wing.specs.Nexts.{dart_at, tail, wing}
 use Rattle.vpf_wing.proofs.LawLinks.{rows_of, rows_count, edge_row}
 use Rattle.vpf_wing.proofs.LawPlaces.{IsTile}
-
-pub reference_row : (L : Library) (count : ℕ → ℕ) (t : ℕ) (r : Triplet) → IsReference L count t r → IsRowOf (count t) (id_of r)
-reference_row L count t r (inl p) = let e : id_of r ≡ p.id = ap id_of p.is in let a = p.from_low in let b = p.to_last in (omega arith, omega arith)
-reference_row L count t r (inr c) = let e : id_of r ≡ c.id = ap id_of c.is in subst (IsRowOf (count t)) (sym e) c.here
+use Rattle.vpf_wing.specs.Inner.NumberLaws.{reference_row}
 
 pub plain_row : (low last : ℕ) (r : Triplet) → IsPlain low last r → (low ≤ id_of r) × (id_of r ≤ last)
 plain_row low last r p = let e : id_of r ≡ p.id = ap id_of p.is in let a = p.from_low in let b = p.to_last in (omega arith, omega arith)

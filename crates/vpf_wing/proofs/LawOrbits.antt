@@ -1,8 +1,8 @@
 -- Walks along a permutation of the numbers below a bound: each comes back, and what is on one cycle has one least number.
-use Rattle.std.proofs.Common.{◌≡◌, ℕ, zero, suc, ◌+◌, ◌-◌, ◌*◌, ◌<◌, ◌≤◌, min, List, [], ◌∷◌, ◌++◌, map, length, refl, sym, ap, subst, ◌∙◌, arith, inl, inr}
+use Rattle.std.proofs.Common.{[], ◌≡◌, ℕ, zero, suc, ◌+◌, ◌-◌, ◌*◌, ◌<◌, ◌≤◌, min, List, ◌∷◌, ◌++◌, map, length, refl, sym, ap, subst, ◌∙◌, arith, inl, inr}
 use Rattle.std.proofs.lemmas.Bool.{cases_lt}
 use Rattle.vpf_darts.specs.Cycles.{IsCycle, first_of}
-use Rattle.vpf_darts.proofs.OrbitLemmas.{Returns, returns, few_from_once}
+use Rattle.vpf_darts.specs.Inner.OrbitLaws.{Returns, returns, few_from_once}
 use Rattle.vpf_wing.specs.Walks.{Steps, LeadsTo, least_after}
 
 abbrev pub KeepsApart : (ℕ → ℕ) → Type 0

@@ -5,7 +5,7 @@ use Rattle.std.proofs.lemmas.Bool.{cases_eq, eqb-true}
 use Rattle.std.proofs.lemmas.List.{length-map}
 use Rattle.vpf_findings.specs.Findings.{Disagreement}
 use Rattle.vpf_findings.specs.Firsts.{◌or◌, first_of_rows, first_over}
-use Rattle.vpf_findings.specs.FirstLaws.{or-none_both, over_none, over_silent}
+use Rattle.vpf_findings.specs.Inner.FirstLaws.{or-none_both, over_none, over_silent, unless_none}
 use Rattle.vpf_prims.specs.Lists.{kth, first_item}
 use Rattle.vpf_prims.specs.References.{id_of}
 use Rattle.vpf_prims.specs.Primitives.{FacePrimitive, Library, absent_face, absent_ring, tile_faces, tile_rings, edge_count, face_count, ring_count}
@@ -17,7 +17,7 @@ use Rattle.vpf_wing.specs.Places.{next_place, least_place}
 use Rattle.vpf_wing.specs.CycleLines.{own_ring, faces_of_rings, first_ring, pointer_line, ring_dart, ring_cycle, ringless_line, apart_line, start_line, twice_line, ring_lines}
 use Rattle.vpf_wing.specs.Links.{links_of}
 use Rattle.vpf_wing.specs.WellFormed.{IsDartOf, StartsRing, GoesRound}
-use Rattle.vpf_wing.proofs.LawFacts.{same, unless_none, unless_holds, excludes_is, excludes_from, either_is, either_from, zero_or_some}
+use Rattle.vpf_wing.proofs.LawFacts.{same, unless_holds, excludes_is, excludes_from, either_is, either_from, zero_or_some}
 use Rattle.vpf_wing.proofs.LawRows.{row_none, row_silent, none_both}
 use Rattle.vpf_wing.proofs.LawFirsts.{item-map, first-map, first_row, first_passes, first_at}
 use Rattle.vpf_wing.proofs.LawDarts.{AtPlace, number_at, at_place, number_dart}

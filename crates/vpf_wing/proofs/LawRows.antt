@@ -1,18 +1,9 @@
 -- Rows of which none has a finding.
-use Rattle.std.proofs.Common.{◌≡◌, ℕ, zero, suc, ◌+◌, ◌<◌, Option, None, List, [], ◌∷◌, length, get_or, refl, subst, arith}
+use Rattle.std.proofs.Common.{◌≡◌, ℕ, zero, suc, ◌+◌, Option, None, List, length, get_or, refl, subst, arith}
 use Rattle.vpf_findings.specs.Firsts.{◌or◌, first_of_rows}
-use Rattle.vpf_findings.specs.FirstLaws.{rows_none}
+use Rattle.vpf_findings.specs.Inner.FirstLaws.{rows_none, rows_silent}
 use Rattle.vpf_prims.specs.Lists.{kth}
 use Rattle.vpf_prims.specs.Numbering.{IsRowOf}
-
--- nothing is said of any row
-pub rows_silent : {F R : Type 0} (lines : ℕ → R → Option F) (k : ℕ) (rows : List R) (d : R)
-    → ((i : ℕ) → i < length rows → lines (k + i) (get_or rows i d) ≡ None) → first_of_rows lines k rows ≡ None
-rows_silent lines k [] d all = refl
-rows_silent lines k (r ∷ rows) d all =
-    let e : k + zero ≡ k = omega arith in
-    let here : lines k r ≡ None = rw e at (all zero (omega arith)) in
-    rw here (rows_silent lines (suc k) rows d (λ i h. let s : k + suc i ≡ suc k + i = omega arith in rw s at (all (suc i) (omega arith))))
 
 -- the same by the numbers of the rows
 pub row_none : {F R : Type 0} (lines : ℕ → R → Option F) (rows : List R) (d : R) → first_of_rows lines 1 rows ≡ None → (k : ℕ) → IsRowOf (length rows) k

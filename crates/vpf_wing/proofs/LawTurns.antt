@@ -1,10 +1,10 @@
 -- A node is one cycle of turn exactly where that cycle has as many darts as the node.
-use Rattle.std.proofs.Common.{◌≡◌, ℕ, zero, suc, ◌+◌, ◌-◌, ◌*◌, ◌/◌, ◌%◌, ◌<◌, ◌≤◌, ◌⊎◌, Bool, true, false, eqb, Some, List, [], ◌∷◌, ◌++◌, map, length, get_or, refl, sym, ap, subst, ◌∙◌, arith, inl, inr}
+use Rattle.std.proofs.Common.{[], ◌≡◌, ℕ, zero, suc, ◌+◌, ◌-◌, ◌*◌, ◌/◌, ◌%◌, ◌<◌, ◌≤◌, ◌⊎◌, Bool, true, false, eqb, Some, List, ◌∷◌, ◌++◌, map, length, get_or, refl, sym, ap, subst, ◌∙◌, arith, inl, inr}
 use Rattle.std.proofs.lemmas.Bool.{cases_eq, and_parts, eqb-true}
 use Rattle.vpf_darts.specs.declared.darts.Dart.{Dart}
 use Rattle.vpf_darts.specs.Cycles.{count_of, IsCycle, first_of}
-use Rattle.vpf_darts.proofs.CycleLemmas.{count_of-here, count_of-not_here, count_of-next}
-use Rattle.vpf_darts.proofs.OrbitLemmas.{Returns, few_from_once}
+use Rattle.vpf_darts.specs.Inner.CycleLaws.{count_of-here, count_of-not_here, count_of-next}
+use Rattle.vpf_darts.specs.Inner.OrbitLaws.{Returns, few_from_once}
 use Rattle.vpf_prims.specs.declared.rows.Edge.{Edge}
 use Rattle.vpf_wing.specs.Nexts.{dart_at, tail, head, face, follows, the_one, next_dart, wing}
 use Rattle.vpf_wing.specs.Places.{steps_back, tails}

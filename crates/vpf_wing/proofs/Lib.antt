@@ -4,7 +4,6 @@ pub mod MapLemmas
 pub mod ListLemmas
 pub mod UniqueLemmas
 pub mod GridLemmas
-pub mod WalkLemmas
 pub mod MarkLemmas
 pub mod RowLemmas
 pub mod FirstLemmas

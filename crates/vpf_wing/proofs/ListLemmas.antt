@@ -9,7 +9,7 @@ use Rattle.vpf_darts.specs.Darts.{dart_code}
 use Rattle.vpf_darts.specs.Cycles.{IsListing}
 use Rattle.vpf_darts.specs.Maps.{IsMap}
 use Rattle.vpf_darts.specs.MapLists.{is_among, list_next}
-use Rattle.vpf_darts.specs.Ranks.{IsRanking}
+use Rattle.vpf_darts.specs.Inner.Ranks.{IsRanking}
 use Rattle.vpf_prims.specs.declared.rows.Edge.{Edge}
 use Rattle.vpf_wing.specs.Nexts.{AreNexts}
 use Rattle.vpf_wing.specs.Boundaries.{number_or, next_number, map_of}

@@ -15,7 +15,7 @@ use Rattle.vpf_findings.specs.Firsts.{where_holds}
 use Rattle.vpf_wing.specs.Nexts.{next_dart, dart_at, is_dart, earlier, the_one, wing, follows, MakeMap}
 use Rattle.vpf_wing.specs.Wings.{wing_line, next_line, wings_finding, repeated}
 use Rattle.vpf_wing.specs.Boundaries.{next_number, map_of}
-use Rattle.vpf_findings.specs.FirstLaws.{over_none, over_silent, option_map-none}
+use Rattle.vpf_findings.specs.Inner.FirstLaws.{over_none, over_silent, option_map-none}
 use Rattle.vpf_wing.proofs.NextLemmas.{eqb_apart}
 use Rattle.vpf_wing.proofs.WingLemmas.{wing_among}
 

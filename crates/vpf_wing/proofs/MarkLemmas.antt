@@ -1,14 +1,14 @@
 -- A walk round a cycle that writes where it began, and what is then known of least places.
-use Rattle.std.proofs.Common.{◌≡◌, ◌≢◌, ℕ, zero, suc, ◌+◌, ◌<◌, ◌≤◌, min, ◌⊎◌, true, false, eqb, List, [], ◌∷◌, ◌++◌, map, length, get_or, set, get_or-set_same, get_or-set_other, refl, sym, ap, subst, ◌∙◌, arith, inl, inr}
-use Rattle.std.specs.List.{IsDistinct, list_any, AllByRecursion}
+use Rattle.std.proofs.Common.{[], ◌≡◌, ◌≢◌, ℕ, zero, suc, ◌+◌, ◌<◌, ◌≤◌, min, List, ◌∷◌, ◌++◌, map, length, get_or, set, get_or-set_same, get_or-set_other, refl, sym, ap, subst, ◌∙◌, arith, inl, inr}
 use Rattle.std.proofs.lemmas.Bool.{cases_eq, cases_lt}
 use Rattle.std.proofs.lemmas.Bool.Decides.{nat_tests}
-use Rattle.std.proofs.lemmas.Map.Steps.{length-le_from_distinct_below}
 use Rattle.vpf_darts.specs.Cycles.{count_of, IsCycle, first_of}
 use Rattle.vpf_wing.specs.Walks.{least_after}
-use Rattle.vpf_wing.specs.NextPlaces.{IsApart, StayBelow}
-use Rattle.vpf_wing.specs.Leasts.{AgreeOnCycles, MarksCycle}
-use Rattle.vpf_wing.proofs.WalkLemmas.{IsWalk, IsWalk-more, IsWalk-at_start, IsCycle-from_walk, first_of-walk, length-counted, count_of-append, count_of-here, count_of-step, count_of-not_here, count_of-next}
+use Rattle.vpf_wing.specs.Inner.NextPlaces.{IsApart, StayBelow}
+use Rattle.vpf_wing.specs.Inner.Leasts.{AgreeOnCycles, MarksCycle}
+use Rattle.vpf_darts.specs.Inner.CycleLaws.{length-counted, first_of-walk, IsWalk-at_start, IsCycle-from_walk, IsWalk-more, IsDartWalk as IsWalk, count_of-next, count_of-step, count_of-not_here, count_of-here, count_of-append}
+use Rattle.vpf_darts.specs.Inner.OrbitLaws.{few_from_once}
+use Rattle.vpf_wing.proofs.LawFacts.{zero_or_some}
 
 -- the place k steps after x
 unfoldable pub iterate : (ℕ → ℕ) → ℕ → ℕ → ℕ
@@ -29,10 +29,6 @@ pub record IsWalked (next : ℕ → ℕ) (n start : ℕ) (old new : List ℕ) (a
   pub off : (d : ℕ) → count_of d places ≡ 0 → get_or new d n ≡ get_or old d n
   pub here : at < n
   pub here_fresh : get_or old at n ≡ n
-
-zero_or_some : (m : ℕ) → (m ≡ 0) ⊎ (0 < m)
-zero_or_some zero = inl refl
-zero_or_some (suc m) = inr (omega arith)
 
 -- what holds of each dart of a list, and of one more
 each_more : (P : ℕ → Type 0) (xs : List ℕ) (x : ℕ) → ((d : ℕ) → 0 < count_of d xs → P d) → P x → (d : ℕ) → 0 < count_of d (xs ++ x ∷ []) → P d
@@ -137,36 +133,6 @@ leads next s d (x ∷ xs) h y some =
           let r : (k : ℕ) × (k ≤ length (x ∷ xs)) × (iterate next k y ≡ s) = leads next s x xs rest y (count_of-not_here d y (x ∷ xs) ne some) in
           (r.0, omega (arith, r.1), r.2))
     ]
-
--- numbers below n of which none stands twice are at most n
-apart_in : (x y : ℕ) (xs : List ℕ) → count_of y (x ∷ xs) ≤ 1 → 0 < count_of y xs → eqb x y ≡ false
-apart_in x y xs le h = grind (arith, nat_tests)
-
-each-counted : (P : ℕ → Type 0) (xs : List ℕ) → ((y : ℕ) → 0 < count_of y xs → P y) → AllByRecursion P xs
-each-counted P [] all = tt
-each-counted P (x ∷ xs) all = (all x (count_of-here x xs), each-counted P xs (λ y h. all y (omega (arith, h))))
-
-distinct_from_once : (xs : List ℕ) → ((y : ℕ) → count_of y xs ≤ 1) → IsDistinct eqb xs
-unfolding IsDistinct
-distinct_from_once [] once = tt
-distinct_from_once (x ∷ xs) once =
-    (each-counted (λ y. eqb x y ≡ false) xs (λ y h. apart_in x y xs (once y) h), distinct_from_once xs (λ y. let h : count_of y (x ∷ xs) ≤ 1 = once y in omega arith))
-
-not_equal : (q x : ℕ) → (x ≡ q → ⊥) → eqb q x ≡ false
-not_equal q x ne = grind (arith, nat_tests)
-
-any_counted : (xs : List ℕ) (q : ℕ) → list_any (eqb q) xs ≡ true → 0 < count_of q xs
-any_counted [] q h = cc
-any_counted (x ∷ xs) q h = elim (cases_eq x q) [
-  | inl e ↦ (let o : count_of q (x ∷ []) ≡ 1 = count_one x q e in let o' : count_of q (x ∷ xs) ≡ count_of q (x ∷ []) + count_of q xs = count_of-append q (x ∷ []) xs in omega arith)
-  | inr ne ↦ (let o : count_of q (x ∷ xs) ≡ count_of q xs = count_of-step x q xs ne in
-      let f : eqb q x ≡ false = not_equal q x ne in
-      let h' : list_any (eqb q) xs ≡ true = rw f at h in
-      let ih : 0 < count_of q xs = any_counted xs q h' in omega arith)
-]
-
-few_from_once : (xs : List ℕ) (n : ℕ) → ((y : ℕ) → count_of y xs ≤ 1) → ((y : ℕ) → 0 < count_of y xs → y < n) → length xs ≤ n
-few_from_once xs n once below = length-le_from_distinct_below xs n (distinct_from_once xs once) (λ q h. below q (any_counted xs q h))
 
 -- what is kept when all places below `start` are looked at
 pub record AreMarked (next : ℕ → ℕ) (n start : ℕ) (leasts : List ℕ) : Type 0 where

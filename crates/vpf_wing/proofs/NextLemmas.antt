@@ -12,7 +12,7 @@ use Rattle.vpf_prims.specs.Edges.{EdgesAt}
 use Rattle.vpf_findings.specs.Firsts.{◌or◌, where_holds}
 use Rattle.vpf_wing.specs.Nexts.{next_dart, dart_at, is_dart, earlier}
 use Rattle.vpf_wing.specs.Wings.{wing_line, no_next, repeated}
-use Rattle.vpf_findings.specs.FirstLaws.{or-none, over_more}
+use Rattle.vpf_findings.specs.Inner.FirstLaws.{or-none, over_more}
 
 -- each place holds the next of the dart there
 abbrev pub HoldNexts : List Edge → List Dart → Type 0

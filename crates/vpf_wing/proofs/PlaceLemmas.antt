@@ -1,5 +1,5 @@
 -- The places of the nexts of the darts of a tile, and steps round a tail.
-use Rattle.std.proofs.Common.{◌≡◌, ℕ, zero, suc, ◌+◌, ◌-◌, ◌*◌, ◌<◌, ◌≤◌, ◌^◌, true, false, ltb, Option, Some, List, [], ◌∷◌, length, map, get_or, refl, sym, ap, subst, ◌∙◌, arith, inl, inr}
+use Rattle.std.proofs.Common.{[], ◌≡◌, ℕ, zero, suc, ◌+◌, ◌-◌, ◌*◌, ◌<◌, ◌≤◌, ◌^◌, true, false, ltb, Option, Some, List, ◌∷◌, length, map, get_or, refl, sym, ap, subst, ◌∙◌, arith, inl, inr}
 use Rattle.std.specs.Prelude.{All, slice_get}
 use Rattle.std.proofs.lemmas.List.{get_or_past, length-map}
 use Rattle.std.proofs.lemmas.List.Elements.{All-get_or}
@@ -11,12 +11,13 @@ use Rattle.vpf_darts.specs.MapLists.{IsInRange, dart_place}
 use Rattle.vpf_prims.specs.declared.rows.Edge.{Edge}
 use Rattle.vpf_wing.specs.Nexts.{next_dart, dart_at, AreNexts, MakeMap}
 use Rattle.vpf_wing.specs.Places.{place_or, next_place, least_place, flip_place, turn_place, steps_back, tails}
-use Rattle.vpf_wing.specs.NextPlaces.{next_in, AreNextPlaces}
-use Rattle.vpf_wing.specs.Leasts.{HoldLeasts, AreLeastPlaces}
+use Rattle.vpf_wing.specs.Inner.NextPlaces.{next_in, AreNextPlaces}
+use Rattle.vpf_wing.specs.Inner.Leasts.{HoldLeasts, AreLeastPlaces}
 use Rattle.vpf_wing.specs.Walks.{least_after}
 use Rattle.vpf_wing.proofs.NextLemmas.{eqb_same, eqb_apart}
 use Rattle.vpf_wing.proofs.MapLemmas.{code_is, sign_small}
 use Rattle.vpf_wing.proofs.MarkLemmas.{any_default, least_after-same}
+use Rattle.vpf_wing.proofs.LawLinks.{flip_below}
 
 -- the place of a dart
 abbrev pub place_of : Dart → ℕ
@@ -120,9 +121,6 @@ next_places edges nexts few are made =
     }
 
 -- ---- steps round a tail
-
-flip_below : (n p : ℕ) → p < 2 * n → flip_place p < 2 * n
-flip_below n p h = omega arith
 
 -- a step leads to another place
 pub turn_step : (edges : List Edge) (nexts : List ℕ) (p d : ℕ) → AreNextPlaces edges nexts → p < length nexts

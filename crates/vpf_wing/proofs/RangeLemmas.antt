@@ -1,5 +1,5 @@
 -- What the rows of a tile name, by the numbers of its own edges, nodes and rings.
-use Rattle.std.proofs.Common.{◌≡◌, ℕ, zero, suc, ◌-◌, ◌≤◌, List, [], ◌∷◌, length, map, get_or, refl, sym, subst, arith}
+use Rattle.std.proofs.Common.{[], ◌≡◌, ℕ, zero, suc, ◌-◌, ◌≤◌, List, ◌∷◌, length, map, get_or, sym, subst, arith}
 use Rattle.std.specs.Prelude.{All}
 use Rattle.std.proofs.lemmas.List.{length-map}
 use Rattle.std.proofs.lemmas.List.Elements.{All-map, All-cons, All-nil, All-head, All-tail}
@@ -7,15 +7,16 @@ use Rattle.vpf_prims.specs.declared.rows.Edge.{Edge}
 use Rattle.vpf_prims.specs.Lists.{kth}
 use Rattle.vpf_prims.specs.Edges.{IsEdge, HaveWings}
 use Rattle.vpf_prims.specs.Numbering.{IsRowOf}
-use Rattle.vpf_prims.specs.Owning.{NamesItsOwn, OwnsEdge, OwnsRing}
+use Rattle.vpf_prims.specs.Inner.Owning.{NamesItsOwn, OwnsEdge, OwnsRing}
 use Rattle.vpf_prims.specs.Primitives.{EdgePrimitive, RingPrimitive, Primitives, own_edge, own_edges, absent_edge, absent_node, absent_ring}
 use Rattle.vpf_prims.specs.Reading.{primitives_of}
 use Rattle.vpf_prims.specs.References.{id_of}
 use Rattle.vpf_prims.specs.Tables.{TileTables}
 use Rattle.vpf_wing.specs.declared.rings.Ring.{Ring}
 use Rattle.vpf_wing.specs.CycleLines.{own_ring, own_rings, faces_of_rings}
-use Rattle.vpf_wing.specs.Nexts.{no_edge, edge_at}
+use Rattle.vpf_wing.specs.Nexts.{edge_at}
 use Rattle.vpf_wing.specs.Places.{tails}
+use Rattle.vpf_wing.specs.Inner.RangeLaws.{own_edge_at}
 
 -- what holds of each item by its number holds of all
 all_by_number : {X : Type 0} (P : X → Type 0) (xs : List X) (absent : X) → ((k : ℕ) → IsRowOf (length xs) k → P (kth xs k absent)) → All P xs
@@ -25,11 +26,6 @@ all_by_number P (x ∷ xs) absent h = All-cons P x xs (h 1 (omega arith, omega a
       → (k : ℕ) → IsRowOf (length xs) k → P (kth xs k absent)
   rest P x xs absent h zero in' = absurd (omega (arith, in'.0))
   rest P x xs absent h (suc i) in' = h (suc (suc i)) (omega arith, omega (arith, in'.1))
-
-own_edge_at : (es : List EdgePrimitive) (i : ℕ) → get_or (map own_edge es) i no_edge ≡ own_edge (get_or es i absent_edge)
-own_edge_at [] i = refl
-own_edge_at (e ∷ es) zero = refl
-own_edge_at (e ∷ es) (suc i) = own_edge_at es i
 
 -- an edge, as its row is read
 pub edge_of_row : (T : TileTables) (e : ℕ) → IsEdge (length (own_edges (primitives_of T.tables))) e

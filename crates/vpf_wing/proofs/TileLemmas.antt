@@ -1,5 +1,5 @@
 -- The lines on a tile, one part after another.
-use Rattle.std.proofs.Common.{◌≡◌, ℕ, Option, Some, None, refl, subst}
+use Rattle.std.proofs.Common.{◌≡◌, ℕ, Option, Some, None, subst}
 use Rattle.std.specs.Prelude.{Result}
 use Rattle.vpf_findings.specs.declared.errors.FindError.{FindError}
 use Rattle.vpf_findings.specs.Findings.{Disagreement}
@@ -9,10 +9,7 @@ use Rattle.vpf_prims.specs.Reading.{primitives_of}
 use Rattle.vpf_prims.specs.Tables.{TileTables}
 use Rattle.vpf_wing.specs.CycleLines.{cycles_finding, sides_line, rings_finding, node_lines, own_pointers, own_rings, own_first_edges, tile_columns, wing_cell}
 use Rattle.vpf_wing.specs.Wings.{wings_finding}
-
--- what the first of two lines says is said
-pub or_first : {F : Type 0} (a b : Option F) (f : F) → a ≡ Some f → (a or b) ≡ Some f
-or_first a b f some = rw some refl
+use Rattle.vpf_findings.specs.Inner.FirstLaws.{or_first}
 
 -- where it says nothing, the second is
 pub or_later : {F : Type 0} (a b c : Option F) → a ≡ None → b ≡ c → (a or b) ≡ c

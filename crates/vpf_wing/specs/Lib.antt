@@ -5,12 +5,5 @@ pub mod Links
 pub mod WellFormed
 pub mod Places
 pub mod CycleLines
-pub mod NextPlaces
-pub mod Leasts
-pub mod FirstNumbers
-pub mod Nodes
 pub mod Boundaries
-pub mod Laws
-pub mod Errors
-pub mod DartLaws
-pub mod Kept
+pub mod Inner

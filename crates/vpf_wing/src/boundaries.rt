@@ -4,7 +4,7 @@ ghost use Rattle.std.specs.Prelude.{◌≡◌, false, None, IfErr, IfOk, OnOk};
 ghost use Rattle.vpf_head.specs.Head.{varies_in};
 ghost use Rattle.vpf_findings.specs.Firsts.{Tells};
 ghost use Rattle.vpf_wing.specs.Boundaries.{IsBoundaryListing, table_finding};
-ghost use Rattle.vpf_wing.specs.Errors.{TellsEdges};
+ghost use Rattle.vpf_wing.specs.Inner.Errors.{TellsEdges};
 
 use crate::errors::EdgeError;
 use crate::following::nexts;

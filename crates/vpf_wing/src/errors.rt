@@ -18,7 +18,7 @@ pub enum EdgeError<'a> {
 }
 
 impl<'a> From<FindError<'a>> for EdgeError<'a> {
-    ghost use Rattle.vpf_wing.specs.Errors.{IsFound};
+    ghost use Rattle.vpf_wing.specs.Inner.Errors.{IsFound};
 
     ghost from_gives = { IsFound };
 

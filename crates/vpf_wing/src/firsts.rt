@@ -15,7 +15,7 @@ impl Model for FirstByNumber {
 
     ghost Value = { List ℕ };
 
-    ghost use Rattle.vpf_wing.specs.FirstNumbers.{AreFirsts};
+    ghost use Rattle.vpf_wing.specs.Inner.FirstNumbers.{AreFirsts};
 
     ghost view = { λ f. f.keys.items };
 
@@ -25,7 +25,7 @@ impl Model for FirstByNumber {
 impl FirstByNumber {
     ghost use Rattle.std.specs.Prelude.{◌≡◌, ◌≤◌, ◌<◌, ◌^◌, All, IfOk, length};
     ghost use Rattle.vpf_prims.specs.Lists.{kth};
-    ghost use Rattle.vpf_wing.specs.FirstNumbers.{first_of_key};
+    ghost use Rattle.vpf_wing.specs.Inner.FirstNumbers.{first_of_key};
 
     /// Looks up keys, which are at most `last`.
     pub fn new(alloc: Global, keys: Vec<u32>, last: u32) -> Result<FirstByNumber, AllocError>

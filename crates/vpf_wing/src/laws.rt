@@ -1,7 +1,7 @@
 //! What is so of the wings of all edges, of every edge table, and of every tile whose cycles are looked at.
 
-ghost use Rattle.vpf_wing.specs.Laws.{CyclesDecide, EdgesAreMap, HasBoundaryListing, LoopsDecide, MadeMapIsMap};
-ghost use Rattle.vpf_wing.specs.Laws.{NoFindingWhereMapIsMade, OneBoundaryListing, WellFormedHasMap};
+ghost use Rattle.vpf_wing.specs.Inner.Laws.{CyclesDecide, EdgesAreMap, HasBoundaryListing, LoopsDecide, MadeMapIsMap};
+ghost use Rattle.vpf_wing.specs.Inner.Laws.{NoFindingWhereMapIsMade, OneBoundaryListing, WellFormedHasMap};
 
 use vpf_prims::laws::rows_have_wings;
 

@@ -1,8 +1,8 @@
 //! The cycles of darts, each by its least place.
 
 ghost use Rattle.std.specs.Prelude.{◌≡◌, ◌<◌, ◌^◌, length, IfOk, slice_index_or};
-ghost use Rattle.vpf_wing.specs.NextPlaces.{next_in, IsApart, StayBelow};
-ghost use Rattle.vpf_wing.specs.Leasts.{AgreeOnCycles, HoldLeasts, MarksCycle};
+ghost use Rattle.vpf_wing.specs.Inner.NextPlaces.{next_in, IsApart, StayBelow};
+ghost use Rattle.vpf_wing.specs.Inner.Leasts.{AgreeOnCycles, HoldLeasts, MarksCycle};
 
 use std::alloc::{AllocError, Global};
 

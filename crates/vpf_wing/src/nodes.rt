@@ -7,7 +7,7 @@ ghost use Rattle.vpf_prims.specs.Numbering.{IsRowOf};
 ghost use Rattle.vpf_prims.specs.Primitives.{own_edges};
 ghost use Rattle.vpf_prims.specs.Reading.{primitives_of};
 ghost use Rattle.vpf_wing.specs.CycleLines.{at_node_line, node_lines, own_first_edges, turn_line};
-ghost use Rattle.vpf_wing.specs.Nodes.{HoldCounts};
+ghost use Rattle.vpf_wing.specs.Inner.Nodes.{HoldCounts};
 ghost use Rattle.vpf_wing.specs.Places.{tails};
 
 use crate::firsts::FirstByNumber;
@@ -54,7 +54,7 @@ struct Tails {
 
 impl Model for Tails {
     ghost use Rattle.std.specs.Prelude.{List, ℕ};
-    ghost use Rattle.vpf_wing.specs.Nodes.{HoldCounts};
+    ghost use Rattle.vpf_wing.specs.Inner.Nodes.{HoldCounts};
 
     ghost Value = { List ℕ };
 
@@ -66,7 +66,7 @@ impl Model for Tails {
 impl Tails {
     ghost use Rattle.std.specs.Prelude.{◌≡◌, ◌≤◌, ◌<◌, ◌^◌, All, IfOk, length};
     ghost use Rattle.vpf_darts.specs.Cycles.{count_of};
-    ghost use Rattle.vpf_wing.specs.FirstNumbers.{first_of_key};
+    ghost use Rattle.vpf_wing.specs.Inner.FirstNumbers.{first_of_key};
     ghost use Rattle.vpf_wing.specs.Places.{tails};
 
     /// The tails of darts, whose nodes are at most `last`.

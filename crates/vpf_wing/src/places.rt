@@ -60,7 +60,7 @@ pub struct Darts {
 impl Model for Darts {
     ghost use Rattle.std.specs.Prelude.{List};
     ghost use Rattle.vpf_prims.specs.declared.rows.Edge.{Edge};
-    ghost use Rattle.vpf_wing.specs.NextPlaces.{AreNextPlaces};
+    ghost use Rattle.vpf_wing.specs.Inner.NextPlaces.{AreNextPlaces};
 
     ghost Value = { List Edge };
 
@@ -121,7 +121,7 @@ pub struct Cycles {
 impl Model for Cycles {
     ghost use Rattle.std.specs.Prelude.{List};
     ghost use Rattle.vpf_prims.specs.declared.rows.Edge.{Edge};
-    ghost use Rattle.vpf_wing.specs.Leasts.{AreLeastPlaces};
+    ghost use Rattle.vpf_wing.specs.Inner.Leasts.{AreLeastPlaces};
 
     ghost Value = { List Edge };
 

@@ -167,7 +167,7 @@ fn check_ringless_at<'a>(
 }
 
 /// Each cycle has a ring.
-#[tactic(auto, using(vpf_findings::specs::FirstLaws::over_pass, vpf_findings::specs::FirstLaws::over_stop, vpf_findings::specs::FirstLaws::over_end))]
+#[tactic(auto, using(vpf_findings::specs::Inner::FirstLaws::over_pass, vpf_findings::specs::Inner::FirstLaws::over_stop, vpf_findings::specs::Inner::FirstLaws::over_end))]
 fn check_ringless<'a>(
     tile: &Tile<'a>,
     number: u32,

@@ -9,10 +9,10 @@ use Rattle.std.proofs.lemmas.Slice.{take-put_mid, drop-put_mid}
 use borrow.Rule.Slice.PartMut.{put_mid}
 use Rattle.vpf_head.specs.Head.{Col}
 use Rattle.vpf_value.specs.declared.turning.WordSize.{WordSize}
-use Rattle.vpf_value.specs.Turning.{each_piece, word_size}
+use Rattle.vpf_value.specs.Inner.Turning.{each_piece, word_size}
 use Rattle.vpf_value.specs.Widths.{cell_width}
 use Rattle.vpf_write.specs.declared.turning.Field.{Field}
-use Rattle.vpf_write.specs.Turning.{bytes_or_none, field_of, turned_row, turned_rows}
+use Rattle.vpf_write.specs.Inner.Turning.{bytes_or_none, field_of, turned_row, turned_rows}
 use Rattle.vpf_write.proofs.Pieces.{none_left}
 
 -- pieces of a list that ends with one of them, and those of another behind it

@@ -6,7 +6,7 @@ use Rattle.std.proofs.lemmas.List.Elements.{All-head, All-tail}
 use Rattle.vpf_head.specs.Head.{Head, Col}
 use Rattle.vpf_table.specs.Grid.{Row}
 use Rattle.vpf_table.specs.Canonical.{FitsRow}
-use Rattle.vpf_write.specs.Cuts.{cut, grid_of_cells}
+use Rattle.vpf_write.specs.Inner.Cuts.{cut, grid_of_cells}
 use Rattle.vpf_write.proofs.RowTexts.{fits_len}
 
 pub length-cut : (w n : ℕ) (vs : Row) → length (cut w n vs) ≡ n

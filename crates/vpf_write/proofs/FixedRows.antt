@@ -5,21 +5,21 @@ use Rattle.std.proofs.Math.Nat.{mul-add-div_right}
 use Rattle.std.proofs.lemmas.List.{length-append, take_at, drop_at}
 use Rattle.std.proofs.lemmas.List.Elements.{All-head, All-tail}
 use Rattle.std.proofs.lemmas.List.Sums.{sum_by-cons}
-use Rattle.vpf_triplet.specs.declared.orders.Order.{Order}
+use Rattle.vpf_base.specs.declared.orders.Order.{Order}
 use Rattle.vpf_triplet.specs.declared.kinds.Kind.{Kind}
 use Rattle.vpf_triplet.specs.declared.kinds.Count.{Count}
 use Rattle.vpf_value.specs.Values.{Value}
-use Rattle.vpf_value.specs.Fitting.{FitsCell}
+use Rattle.vpf_value.specs.Inner.Fitting.{FitsCell}
 use Rattle.vpf_value.specs.Canonical.{spelled}
 use Rattle.vpf_value.specs.Widths.{cell_width}
-use Rattle.vpf_value.specs.Turning.{each_piece, word_size, turned_cell}
+use Rattle.vpf_value.specs.Inner.Turning.{each_piece, word_size, turned_cell}
 use Rattle.vpf_head.specs.Head.{Col}
 use Rattle.vpf_write.specs.declared.turning.Field.{Field}
 use Rattle.vpf_table.specs.Grid.{Row}
-use Rattle.vpf_table.specs.Widths.{add_width, width_of}
+use Rattle.vpf_table.specs.Inner.Widths.{add_width, width_of}
 use Rattle.vpf_table.specs.Canonical.{FitsRow, row_text, rows_text}
-use Rattle.vpf_write.specs.Drafts.{Progress, with_rows, with_bytes}
-use Rattle.vpf_write.specs.Turning.{field_of, fields_of, fields_width, turned_row, turned_rows}
+use Rattle.vpf_write.specs.Inner.Drafts.{Progress, with_rows, with_bytes}
+use Rattle.vpf_write.specs.Inner.Turning.{field_of, fields_of, fields_width, turned_row, turned_rows}
 use Rattle.vpf_write.proofs.RowTexts.{with_rows-after}
 
 -- the parts of a width

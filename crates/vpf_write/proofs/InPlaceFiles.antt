@@ -3,7 +3,7 @@ use Rattle.std.specs.Prelude.{All}
 use Rattle.std.specs.Option.{is_some}
 use Rattle.std.proofs.Common.{◌≡◌, ◌≢◌, ℕ, ◌+◌, ◌<◌, ◌≤◌, false, List, ◌++◌, length, drop, Option, Some, None, refl, sym, ap, ◌∙◌, arith}
 use Rattle.std.proofs.lemmas.List.{length-append, drop_at}
-use Rattle.vpf_triplet.specs.declared.orders.Order.{Order}
+use Rattle.vpf_base.specs.declared.orders.Order.{Order}
 use Rattle.vpf_triplet.specs.declared.places.Part.{Part}
 use Rattle.vpf_head.specs.Canonical.{canonical_text, canonical_header}
 use Rattle.vpf_head.specs.Head.{Col, varies_in}
@@ -12,8 +12,8 @@ use Rattle.vpf_write.specs.declared.turning.Field.{Field}
 use Rattle.vpf_table.specs.Grid.{Row, Grid}
 use Rattle.vpf_table.specs.Spelling.{IsRows, IsTable}
 use Rattle.vpf_table.specs.Canonical.{FitsRow, rows_text, canonical_table, canonical_index, in_order}
-use Rattle.vpf_write.specs.Turning.{fields_of, turned_rows}
-use Rattle.vpf_table.specs.Widths.{width_of}
+use Rattle.vpf_write.specs.Inner.Turning.{fields_of, turned_rows}
+use Rattle.vpf_table.specs.Inner.Widths.{width_of}
 use Rattle.vpf_write.specs.Writing.{limit_by, first_limit}
 use Rattle.vpf_write.proofs.FixedRows.{Turned, HasWidth, rows_turned, length-rows}
 use Rattle.vpf_write.proofs.WholeTables.{told_limit, length-table}

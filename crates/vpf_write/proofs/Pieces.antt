@@ -1,5 +1,5 @@
 -- Pieces of a list that are changed one after another, in place.
-use Rattle.std.proofs.Common.{◌≡◌, ℕ, zero, suc, ◌+◌, ◌-◌, ◌*◌, ◌/◌, ◌<◌, ◌≤◌, List, [], ◌∷◌, ◌++◌, length, take, drop, reverse, refl, sym, ap, ◌∙◌, append_assoc, arith}
+use Rattle.std.proofs.Common.{[], ◌≡◌, ℕ, zero, suc, ◌+◌, ◌-◌, ◌*◌, ◌/◌, ◌<◌, ◌≤◌, List, ◌∷◌, ◌++◌, length, take, drop, reverse, refl, sym, ap, ◌∙◌, append_assoc, arith}
 use Rattle.std.proofs.Math.Nat.{mul-le-mul_left}
 use Rattle.std.proofs.lemmas.List.{drop-drop, length-append, length-drop, length-take-le, length-reverse, take-append-drop, take_at, drop_at, take-append-le, drop-append-le}
 use Rattle.std.proofs.lemmas.List.Sums.{sum_by-cons}
@@ -8,9 +8,9 @@ use borrow.Rule.Slice.PartMut.{put_mid}
 use Rattle.vpf_value.specs.declared.turning.WordSize.{WordSize}
 use Rattle.vpf_value.specs.declared.turning.WordSize.TheVariants.{One, Two, Four, Eight}
 use Rattle.vpf_write.specs.declared.turning.Field.{Field}
-use Rattle.vpf_value.proofs.TurnedCells.{bytes_stay}
-use Rattle.vpf_value.specs.Turning.{each_piece, bytes_of_word, turned_cell}
-use Rattle.vpf_write.specs.Turning.{fields_width, turned_words, turned_row}
+use Rattle.vpf_value.specs.Inner.TurnedLaws.{bytes_stay}
+use Rattle.vpf_value.specs.Inner.Turning.{each_piece, bytes_of_word, turned_cell}
+use Rattle.vpf_write.specs.Inner.Turning.{fields_width, turned_words, turned_row}
 
 -- the first pieces of a list are changed already, and those that are left are changed behind them
 pub record Changing (f : List ℕ → List ℕ) (left size at : ℕ) (s all : List ℕ) : Type 0 where

@@ -2,15 +2,15 @@
 use Rattle.std.specs.Prelude.{if◌then◌else◌}
 use Rattle.std.proofs.Common.{◌≡◌, ℕ, suc, ◌+◌, ◌<◌, ◌≤◌, Bool, true, false, cond, List, [], ◌∷◌, ◌++◌, length, drop, map, get_or, refl, sym, ap, subst, ◌∙◌, append_assoc, arith}
 use Rattle.std.proofs.lemmas.List.{length-append, append-nil, drop_more, drop-map, length-drop, length-map}
-use Rattle.vpf_triplet.specs.declared.orders.Order.{Order}
+use Rattle.vpf_base.specs.declared.orders.Order.{Order}
 use Rattle.vpf_value.specs.declared.cells.Cell.{Cell}
 use Rattle.vpf_value.specs.Values.{Value, view}
-use Rattle.vpf_value.specs.Fitting.{FitsCell}
+use Rattle.vpf_value.specs.Inner.Fitting.{FitsCell}
 use Rattle.vpf_value.specs.Canonical.{spelled}
 use Rattle.vpf_head.specs.Head.{Col}
 use Rattle.vpf_table.specs.Grid.{Row}
 use Rattle.vpf_table.specs.Canonical.{FitsRow, row_text, rows_text, spans_from}
-use Rattle.vpf_write.specs.Drafts.{Progress, with_row, with_rows}
+use Rattle.vpf_write.specs.Inner.Drafts.{Progress, with_row, with_rows}
 
 pub fits_len : (cs : List Col) (vs : Row) → FitsRow cs vs → length cs ≡ length vs
 fits_len [] [] h = refl

@@ -1,19 +1,20 @@
 -- A table that is written row by row.
-use Rattle.std.specs.Prelude.{min}
-use Rattle.std.proofs.Common.{◌≡◌, ℕ, ◌+◌, ◌-◌, ◌^◌, ◌≤◌, Bool, false, List, [], ◌∷◌, ◌++◌, length, Option, None, refl, sym, ap, subst, ◌∙◌, append_assoc, arith}
+use Rattle.std.specs.Prelude.{[], min}
+use Rattle.std.proofs.Common.{◌≡◌, ℕ, ◌+◌, ◌-◌, ◌^◌, ◌≤◌, Bool, false, List, ◌∷◌, ◌++◌, length, Option, None, refl, sym, ap, subst, ◌∙◌, append_assoc, arith}
 use Rattle.std.proofs.lemmas.List.{length-append, append-nil}
 use Rattle.vpf_base.specs.Limits.{most_bytes}
-use Rattle.vpf_triplet.specs.declared.orders.Order.{Order}
+use Rattle.vpf_base.specs.declared.orders.Order.{Order}
 use Rattle.vpf_triplet.specs.declared.places.Part.{Part}
 use Rattle.vpf_head.specs.Canonical.{canonical_text}
 use Rattle.vpf_head.specs.Head.{Col, Head, varies_in}
 use Rattle.vpf_table.specs.declared.limit.Limit.{Limit}
 use Rattle.vpf_table.specs.Canonical.{canonical_table, row_text, rows_text}
 use Rattle.vpf_table.specs.Grid.{Row}
-use Rattle.vpf_write.specs.Drafts.{Progress, begun, with_row, with_rows}
-use Rattle.vpf_write.specs.Tallies.{Tally, Holds, grid_with}
+use Rattle.vpf_write.specs.Inner.Drafts.{Progress, begun, with_row, with_rows}
+use Rattle.vpf_write.specs.Inner.Tallies.{Tally, Holds, grid_with}
 use Rattle.vpf_write.specs.Writing.{first_limit, limit_by}
-use Rattle.vpf_write.proofs.WholeTables.{length-header, length-table, within_limits, written_by}
+use Rattle.vpf_write.proofs.WholeTables.{length-header, length-table, written_by}
+use Rattle.vpf_write.specs.Inner.WholeLaws.{within_limits}
 use Rattle.vpf_write.proofs.WriteLimits.{limit-counted, limit-fewer, limit-told}
 
 -- ---- one row more

@@ -1,23 +1,25 @@
 -- What is written of a table is its canonical bytes, or they pass a limit.
-use Rattle.std.specs.Prelude.{min}
-use Rattle.std.proofs.Common.{◌≡◌, ℕ, suc, ◌+◌, ◌-◌, ◌^◌, ◌≤◌, Bool, true, false, cond, List, [], ◌∷◌, ◌++◌, length, Option, Some, None, refl, sym, ap, subst, ◌∙◌, arith, inl, inr}
+use Rattle.std.specs.Prelude.{[], min}
+use Rattle.std.proofs.Common.{◌≡◌, ℕ, suc, ◌+◌, ◌-◌, ◌^◌, ◌≤◌, Bool, true, false, cond, List, ◌∷◌, ◌++◌, length, Option, Some, None, refl, sym, ap, subst, ◌∙◌, arith, inl, inr}
 use Rattle.std.proofs.lemmas.List.{length-append}
-use Rattle.vpf_triplet.proofs.NumberLemmas.{length-number}
+use Rattle.vpf_base.proofs.NumberLemmas.{length-number}
 use Rattle.vpf_base.specs.Limits.{most_bytes}
-use Rattle.vpf_triplet.specs.declared.orders.Order.{Order}
+use Rattle.vpf_base.specs.declared.orders.Order.{Order}
 use Rattle.vpf_head.specs.Canonical.{canonical_text, canonical_header}
 use Rattle.std.specs.Int.{w32}
-use Rattle.vpf_triplet.specs.Numbers.{number}
+use Rattle.vpf_base.specs.Numbers.{number}
 use Rattle.vpf_head.specs.Head.{Head, Col, varies_in}
 use Rattle.vpf_varindex.specs.RowIndex.{row_index}
 use Rattle.vpf_triplet.specs.declared.places.Part.{Part}
 use Rattle.vpf_table.specs.declared.limit.Limit.{Limit}
 use Rattle.vpf_table.specs.Grid.{Row, Grid}
 use Rattle.vpf_table.specs.Canonical.{row_text, rows_text, spans_from, canonical_table, canonical_index}
-use Rattle.vpf_write.specs.Drafts.{Progress, begun, with_rows}
+use Rattle.vpf_write.specs.Inner.Drafts.{Progress, begun, with_rows}
 use Rattle.vpf_write.specs.Writing.{limit_by, first_limit, Estimates}
 use Rattle.vpf_write.proofs.RowTexts.{after_rows, with_rows-after}
-use Rattle.vpf_write.proofs.WriteLimits.{limit-told, limit-within, Within, within}
+use Rattle.vpf_write.proofs.WriteLimits.{limit-told, limit-within}
+use Rattle.vpf_write.specs.Inner.LimitLaws.{within_bound as within}
+use Rattle.vpf_write.specs.Inner.WholeLaws.{within_limits}
 
 pub length-header : (h : Head) → length (canonical_header h) ≡ 4 + length (canonical_text h)
 length-header h = omega (arith, length-append (number h.order w32 (length (canonical_text h))) (canonical_text h), length-number h.order (length (canonical_text h)))
@@ -43,9 +45,6 @@ limit_is g rows len e s = rw e (s.same (length (canonical_text g.head)) (length 
 pub told_limit : (g : Grid) (rows len : ℕ) (told stop : Option (Part × Limit)) → rows ≡ length g.rows → StandsFor g len
     → told ≡ limit_by (length (canonical_text g.head)) rows (length (canonical_header g.head) + len) (varies_in g.head.columns) → told ≡ stop → first_limit g ≡ stop
 told_limit g rows len told stop many stands told_is is = sym (limit_is g rows len many stands) ∙ sym told_is ∙ is
-
-pub within_limits : (g : Grid) → first_limit g ≡ None → Within (length (canonical_text g.head)) (length g.rows) (length (canonical_table g))
-within_limits g e = within (length (canonical_text g.head)) (length g.rows) (length (canonical_table g)) (varies_in g.head.columns) e
 
 -- a table without rows yet has room for them
 pub begun_room : (g : Grid) (q : Progress) → q ≡ begun g.head → first_limit g ≡ None → length q.table + length (rows_text g.head.order g.head.columns g.rows) ≤ most_bytes

@@ -1,38 +1,28 @@
 -- What is written in either order, and of rows that are joined.
-use Rattle.std.specs.Prelude.{All}
-use Rattle.std.proofs.Common.{◌≡◌, ℕ, suc, ◌+◌, ◌*◌, ◌/◌, ◌%◌, List, [], ◌∷◌, length, None, Result, Ok, refl, sym, ap, ◌∙◌, arith}
+use Rattle.std.specs.Prelude.{[], All}
+use Rattle.std.proofs.Common.{◌≡◌, ℕ, suc, ◌+◌, ◌*◌, ◌/◌, ◌%◌, List, ◌∷◌, length, Result, Ok, refl, sym, ap, ◌∙◌, arith}
 use Rattle.std.proofs.Math.Nat.{mul-div_cancel, mul-mod_left}
 use Rattle.std.proofs.lemmas.List.{length-append, take_at, drop_at}
 use Rattle.std.proofs.lemmas.List.Elements.{All-head, All-tail}
-use Rattle.vpf_triplet.specs.declared.orders.Order.{Order}
+use Rattle.vpf_base.specs.declared.orders.Order.{Order}
 use Rattle.vpf_triplet.specs.declared.places.Place.{Place}
-use Rattle.vpf_triplet.specs.declared.kinds.Kind.{Kind}
-use Rattle.vpf_triplet.specs.declared.kinds.Count.{Count}
-use Rattle.vpf_value.specs.Values.{Value}
 use Rattle.vpf_value.specs.Canonical.{spelled}
 use Rattle.vpf_head.specs.Canonical.{canonical_text}
 use Rattle.vpf_head.specs.Head.{Head, Col, varies_in}
-use Rattle.vpf_head.specs.Soundness.{IsSound}
 use Rattle.vpf_table.specs.Grid.{Row, Grid}
-use Rattle.vpf_table.specs.Canonical.{FitsRow, IsSmall, IsWritable, row_text, rows_text, canonical_table, canonical_index, in_order}
-use Rattle.vpf_write.specs.Cuts.{cut, joined, grid_of_cells}
+use Rattle.vpf_table.specs.Canonical.{FitsRow, IsWritable, row_text, rows_text, canonical_table, canonical_index, in_order}
+use Rattle.vpf_write.specs.Inner.Cuts.{cut, joined, grid_of_cells}
 use Rattle.vpf_write.specs.Writing.{first_limit, limit_by}
 use Rattle.vpf_write.proofs.RowTexts.{fits_len}
-use Rattle.vpf_write.proofs.WholeTables.{length-header, length-table, within_limits}
+use Rattle.vpf_write.proofs.WholeTables.{length-header, length-table}
 use Rattle.vpf_write.proofs.WriteLimits.{some_columns}
-
--- a table that passes no limit is small
-pub small_table : (g : Grid) → first_limit g ≡ None → IsSmall g
-small_table g e = let w = within_limits g e in record { text = w.text_fits; rows = w.rows_fit; bytes = omega (arith, w.size_fits) }
+use Rattle.vpf_table.specs.Inner.OrderLaws.{EitherOrder}
+use Rattle.vpf_table.specs.Inner.CanonicalLaws.{SoundInOrder}
 
 pub same_table : (g h : Grid) (r : Result Grid Place) → r ≡ Ok g → r ≡ Ok h → g ≡ h
 same_table g h r e f = let k : Ok g ≡ Ok h = sym e ∙ f in cc
 
 -- ---- either order
-
--- a cell is as long in either order
-abbrev pub EitherOrder : Type 0
-EitherOrder = (o p : Order) (kind : Kind) (count : Count) (v : Value) → length (spelled o kind count v) ≡ length (spelled p kind count v)
 
 length-row_either : EitherOrder → (o p : Order) (cs : List Col) (row : Row) → length (row_text o cs row) ≡ length (row_text p cs row)
 unfolding row_text
@@ -66,10 +56,6 @@ twice_table g h order e = ap canonical_table (back_again g h order e)
 
 pub twice_index : (g h : Grid) (order : Order) → in_order order g ≡ h → canonical_index (in_order g.head.order h) ≡ canonical_index g
 twice_index g h order e = ap canonical_index (back_again g h order e)
-
--- a sound header is sound in either order
-abbrev pub SoundInOrder : Type 0
-SoundInOrder = (h : Head) (order : Order) → IsSound h → IsSound (record h { order = order })
 
 pub writable_in_order : SoundInOrder → (g : Grid) (order : Order) → IsWritable g → IsWritable (in_order order g)
 writable_in_order sound g order w = record { sound = sound g.head order w.sound; fits = w.fits }

@@ -15,7 +15,7 @@ impl<'a> Model for CellList<'a> {
 
     ghost Value = { Row };
 
-    ghost use Rattle.vpf_write.specs.CellLists.{listed_values};
+    ghost use Rattle.vpf_write.specs.Inner.CellLists.{listed_values};
 
     ghost view = { listed_values };
 }

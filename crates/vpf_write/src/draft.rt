@@ -6,8 +6,8 @@ ghost use Rattle.vpf_value.specs.Values.{view};
 ghost use Rattle.vpf_head.specs.Canonical.{canonical_text};
 ghost use Rattle.vpf_varindex.specs.RowIndex.{row_index};
 ghost use Rattle.vpf_table.specs.Canonical.{FitsRow, row_text};
-ghost use Rattle.vpf_write.specs.Drafts.{progress, begun, with_row, with_bytes};
-ghost use Rattle.vpf_write.specs.Turning.{fields_width, turned_rows};
+ghost use Rattle.vpf_write.specs.Inner.Drafts.{progress, begun, with_row, with_bytes};
+ghost use Rattle.vpf_write.specs.Inner.Turning.{fields_width, turned_rows};
 
 use crate::turning::{Field, put_turned};
 use crate::writing::{MOST_TEXT, Written};

@@ -1,7 +1,7 @@
 //! Writing a table in another order in the memory of its file.
 
 ghost use Rattle.std.specs.Prelude.{◌≡◌, ◌<◌, ◌≤◌, ◌++◌, length, drop};
-ghost use Rattle.vpf_write.specs.Turning.{fields_width, turned_rows};
+ghost use Rattle.vpf_write.specs.Inner.Turning.{fields_width, turned_rows};
 
 use crate::turning::{Field, fields_of, turn_blocks};
 use crate::writing::first_limit;
@@ -41,8 +41,8 @@ impl Turning {
     ghost use Rattle.vpf_head.specs.Head.{varies_in};
     ghost use Rattle.vpf_table.specs.Canonical.{FitsRow, in_order, rows_text};
     ghost use Rattle.vpf_table.specs.Spelling.{IsTable};
-    ghost use Rattle.vpf_table.specs.Widths.{width_of};
-    ghost use Rattle.vpf_write.specs.InPlace.{CanTurn, HasRoom, Turns, turned_file};
+    ghost use Rattle.vpf_table.specs.Inner.Widths.{width_of};
+    ghost use Rattle.vpf_write.specs.Inner.InPlace.{CanTurn, HasRoom, Turns, turned_file};
 
     /// How the bytes of a table's file become the table in this order, as `write_in` writes it. None where rows have no
     /// one width, are in this order already, or stand behind a header of another length; and where a limit is passed.

@@ -1,13 +1,13 @@
 //! Laws about what is written.
 
 ghost use Rattle.std.specs.Prelude.{◌≡◌, ◌%◌, Ok, None, length};
-ghost use Rattle.vpf_triplet.specs.declared.orders.Order.{Order};
+ghost use Rattle.vpf_base.specs.declared.orders.Order.{Order};
 ghost use Rattle.vpf_table.specs.Canonical.{IsWritable, canonical_table, canonical_spans, canonical_index, in_order};
 ghost use Rattle.vpf_table.specs.Grid.{Grid};
 ghost use Rattle.vpf_table.specs.Opening.{opened_of, row_spans};
 ghost use Rattle.vpf_table.specs.Reading.{table_of};
 ghost use Rattle.vpf_table.specs.Spelling.{IsTable};
-ghost use Rattle.vpf_write.specs.Cuts.{joined, grid_of_cells};
+ghost use Rattle.vpf_write.specs.Inner.Cuts.{joined, grid_of_cells};
 ghost use Rattle.vpf_write.specs.Writing.{first_limit};
 
 use vpf_head::laws as headers;

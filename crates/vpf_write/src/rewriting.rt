@@ -5,9 +5,9 @@ ghost use Rattle.vpf_base.specs.Limits.{most_bytes};
 ghost use Rattle.vpf_value.specs.Values.{view};
 ghost use Rattle.vpf_head.specs.Canonical.{canonical_header};
 ghost use Rattle.vpf_head.specs.Head.{varies_in};
-ghost use Rattle.vpf_table.specs.Widths.{width_of};
+ghost use Rattle.vpf_table.specs.Inner.Widths.{width_of};
 ghost use Rattle.vpf_table.specs.Canonical.{FitsRow, in_order, row_text, rows_text};
-ghost use Rattle.vpf_write.specs.Drafts.{progress, with_rows};
+ghost use Rattle.vpf_write.specs.Inner.Drafts.{progress, with_rows};
 ghost use Rattle.vpf_write.specs.Writing.{Estimates, Writes};
 
 use crate::draft::Draft;

@@ -22,11 +22,11 @@ pub struct TableWriter<'h, 'b> {
 }
 
 impl<'h, 'b> Model for TableWriter<'h, 'b> {
-    ghost use Rattle.vpf_write.specs.Tallies.{Tally};
+    ghost use Rattle.vpf_write.specs.Inner.Tallies.{Tally};
 
     ghost Value = { Tally };
 
-    ghost use Rattle.vpf_write.specs.TableWriters.{tally_of, IsTallied};
+    ghost use Rattle.vpf_write.specs.Inner.TableWriters.{tally_of, IsTallied};
 
     ghost view = { tally_of };
 
@@ -39,7 +39,7 @@ impl<'h, 'b> TableWriter<'h, 'b> {
     ghost use Rattle.vpf_table.specs.Canonical.{FitsRow};
     ghost use Rattle.vpf_table.specs.Grid.{Row};
     ghost use Rattle.vpf_write.specs.declared.writing.WriteError.TheVariants.{NoMemory};
-    ghost use Rattle.vpf_write.specs.Tallies.{Holds, grid_with};
+    ghost use Rattle.vpf_write.specs.Inner.Tallies.{Holds, grid_with};
     ghost use Rattle.vpf_write.specs.Writing.{Writes};
 
     /// A table of this header, without rows so far.

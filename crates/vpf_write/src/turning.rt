@@ -1,8 +1,8 @@
 //! Rows of one width in the other byte order: their bytes with the words turned round, and no cell decoded.
 
 ghost use Rattle.std.specs.Prelude.{◌≡◌, ◌≤◌, ◌<◌, ◌+◌, ◌*◌, ◌/◌, ◌%◌, ◌++◌, IfOk, OnOk, length};
-ghost use Rattle.vpf_value.specs.Turning.{each_piece, bytes_of_word};
-ghost use Rattle.vpf_write.specs.Turning.{fields_of, fields_width, turned_words, turned_rows};
+ghost use Rattle.vpf_value.specs.Inner.Turning.{each_piece, bytes_of_word};
+ghost use Rattle.vpf_write.specs.Inner.Turning.{fields_of, fields_width, turned_words, turned_rows};
 
 use std::alloc::{AllocError, Global};
 use vpf_head::Header;

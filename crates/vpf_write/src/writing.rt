@@ -6,8 +6,8 @@ ghost use Rattle.vpf_head.specs.Canonical.{canonical_text, canonical_header};
 ghost use Rattle.vpf_head.specs.Head.{varies_in};
 ghost use Rattle.vpf_write.specs.declared.writing.WriteError.TheVariants.{NoMemory};
 ghost use Rattle.vpf_table.specs.Canonical.{FitsRow, row_text};
-ghost use Rattle.vpf_write.specs.Cuts.{cut, grid_of_cells};
-ghost use Rattle.vpf_write.specs.Tallies.{Holds};
+ghost use Rattle.vpf_write.specs.Inner.Cuts.{cut, grid_of_cells};
+ghost use Rattle.vpf_write.specs.Inner.Tallies.{Holds};
 ghost use Rattle.vpf_write.specs.Writing.{past, limit_by, Writes};
 
 use crate::cell_list::CellList;

@@ -5,10 +5,10 @@ use Rattle.vpf_prims.specs.declared.views.PrimitiveViews.{PrimitiveViews}
 use Rattle.vpf_prims.specs.Coverages.{CoverageTables, tiled_coverage, untiled_coverage}
 use Rattle.vpf_prims.specs.Reading.{PrimitiveTables}
 use Rattle.vpf_prims.specs.Tables.{TileTables}
-use Rattle.vpf_prims.specs.Views.{tables_in_view}
-use Rattle.vpf_coverage.specs.Opening.Opens.{IsOpeningFolder, OpensFolder}
-use Rattle.vpf_coverage.specs.Opening.OpensTiles.{OpensCoverage, OpensTiled, OpensTiles}
-use Rattle.vpf_coverage.specs.Opening.Opened.{placed_views, tables_in_views}
+use Rattle.vpf_prims.specs.Inner.Views.{tables_in_view}
+use Rattle.vpf_coverage.specs.Inner.Opening.Opens.{IsOpeningFolder, OpensFolder}
+use Rattle.vpf_coverage.specs.Inner.Opening.OpensTiles.{OpensCoverage, OpensTiled, OpensTiles}
+use Rattle.vpf_coverage.specs.Inner.Opening.Opened.{placed_views, tables_in_views}
 use Rattle.vpf_coverage.proofs.opening.LoopLemmas.{some_same}
 
 -- the tiles behind the table of tiles

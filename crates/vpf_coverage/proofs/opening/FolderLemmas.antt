@@ -6,7 +6,7 @@ use Rattle.vpf_source.specs.declared.file.File.{File}
 use Rattle.vpf_table.specs.Grid.{Grid}
 use Rattle.vpf_prims.specs.Reading.{PrimitiveTables}
 use Rattle.vpf_library_files.specs.Loading.Loading.{within}
-use Rattle.vpf_coverage.specs.Opening.Opens.{Opens, OpensEnd, OpensFolder, OpensTables, is_first_file}
+use Rattle.vpf_coverage.specs.Inner.Opening.Opens.{Opens, OpensEnd, OpensFolder, OpensTables, is_first_file}
 
 pub some_end : (folder : List ℕ) (end : Option Grid) (rest files : List File) → is_first_file (within folder (codes "end")) files ≡ true → OpensEnd folder end rest files
     → (grid : Grid) × (end ≡ Some grid) × Opens grid rest files

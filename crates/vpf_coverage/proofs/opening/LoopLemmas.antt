@@ -6,11 +6,11 @@ use Rattle.vpf_prims.specs.declared.views.PrimitiveViews.{PrimitiveViews}
 use Rattle.vpf_prims.specs.Coverages.{numbered_path}
 use Rattle.vpf_prims.specs.Reading.{PrimitiveTables}
 use Rattle.vpf_prims.specs.Tables.{TileTables}
-use Rattle.vpf_prims.specs.Views.{tables_in_view}
+use Rattle.vpf_prims.specs.Inner.Views.{tables_in_view}
 use Rattle.vpf_library_files.specs.Loading.Loading.{within}
-use Rattle.vpf_coverage.specs.Opening.Opens.{OpensFolder, files_of_folder}
-use Rattle.vpf_coverage.specs.Opening.OpensTiles.{OpensTiles, TileStandsAt, tables_in_tile}
-use Rattle.vpf_coverage.specs.Opening.Opened.{placed_view, placed_views, tables_in_views}
+use Rattle.vpf_coverage.specs.Inner.Opening.Opens.{OpensFolder, files_of_folder}
+use Rattle.vpf_coverage.specs.Inner.Opening.OpensTiles.{OpensTiles, TileStandsAt, tables_in_tile}
+use Rattle.vpf_coverage.specs.Inner.Opening.Opened.{placed_view, placed_views, tables_in_views}
 
 -- some tiles are opened, and the others lie ahead, from tile t on, the first of them at this place
 pub record Ahead (folder : List ℕ) (at : ℕ) (paths : List (List ℕ)) (t : ℕ) (files : List File) (opened tiles : List (Option TileTables)) : Type 0 where

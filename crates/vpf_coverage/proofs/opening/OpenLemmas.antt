@@ -1,27 +1,23 @@
 -- The files of a folder are opened as its tables.
-use Rattle.std.proofs.Common.{◌≡◌, ℕ, ◌+◌, true, false, inl, inr, List, [], ◌∷◌, ◌++◌, length, Option, Some, None, Ok, refl, ap, sym, subst, ◌∙◌, append_assoc, arith, length-append}
+use Rattle.std.proofs.Common.{[], ◌≡◌, ℕ, ◌+◌, true, false, inl, inr, List, ◌∷◌, ◌++◌, length, Option, Some, None, Ok, refl, ap, sym, subst, ◌∙◌, append_assoc, arith, length-append}
 use Rattle.std.specs.Prelude.{codes}
 use Rattle.vpf_source.specs.declared.file.File.{File}
 use Rattle.vpf_source.specs.Names.Indexes.{index_name}
 use Rattle.vpf_table.specs.Grid.{Grid}
 use Rattle.vpf_table.specs.Opening.{opened_of}
-use Rattle.vpf_table.specs.Reading.{table_of}
 use Rattle.vpf_table.specs.Spans.{IsOpened}
 use Rattle.vpf_prims.specs.Coverages.{CoverageTables}
 use Rattle.vpf_prims.specs.Reading.{PrimitiveTables}
 use Rattle.vpf_prims.specs.Tables.{files_of_grid}
 use Rattle.vpf_library_files.specs.Loading.Loading.{tileref_name, within}
 use Rattle.vpf_library_files.specs.Loading.Holding.{AreFilesOf, AreFilesOfOption, AreTileFiles, AreTiledFiles}
-use Rattle.vpf_coverage.specs.Opening.Opens.{Opens, OpensEnd, OpensTables, OpensFolder, is_first_file, files_of_option, files_of_tables}
+use Rattle.vpf_coverage.specs.Inner.Opening.Opens.{Opens, OpensEnd, OpensTables, OpensFolder, is_first_file, files_of_option, files_of_tables}
 use Rattle.vpf_coverage.proofs.opening.NameLemmas.{same_name}
+use Rattle.vpf_coverage.specs.Inner.Opening.OpenLaws.{OpenedReads}
 
 -- what is spelled as a table is opened as that table
 abbrev pub SpelledOpens : Type 0
 SpelledOpens = (bytes : List ℕ) (index : Option (List ℕ)) (g : Grid) → IsOpened g bytes index → opened_of bytes index ≡ Ok g
-
--- what is opened as a table is read as that table
-abbrev pub OpenedReads : Type 0
-OpenedReads = (bytes : List ℕ) (index : Option (List ℕ)) (g : Grid) → opened_of bytes index ≡ Ok g → table_of bytes ≡ Ok g
 
 -- the files of one table, and those that follow them
 pub table_opens : SpelledOpens → OpenedReads → (name : List ℕ) (grid : Grid) (mine rest : List File) → AreFilesOf name grid mine → Opens grid rest (mine ++ rest)

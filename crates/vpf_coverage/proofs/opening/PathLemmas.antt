@@ -1,5 +1,5 @@
 -- The paths of a table of tiles: no two are the same text, and none ends in a slash.
-use Rattle.std.proofs.Common.{◌≡◌, ℕ, suc, ◌<◌, false, List, [], ◌∷◌, length, get_or, refl, ap, sym, subst, ◌∙◌, arith}
+use Rattle.std.proofs.Common.{[], ◌≡◌, ℕ, suc, ◌<◌, false, List, ◌∷◌, length, get_or, refl, ap, sym, subst, ◌∙◌, arith}
 use Rattle.std.specs.Prelude.{◌≢◌, All, nat_eq}
 use Rattle.std.proofs.lemmas.Bool.{ne_eqb}
 use Rattle.std.proofs.lemmas.List.{get_or-map, length-map, append-nil}
@@ -9,10 +9,11 @@ use Rattle.vpf_source.specs.Names.Naming.{slash}
 use Rattle.vpf_table.specs.Grid.{Grid}
 use Rattle.vpf_library_files.specs.Tileref.Paths.{TilePath, IsFolder, IsLetter, IsPath, path_text}
 use Rattle.vpf_library_files.specs.Tileref.Stops.{path_texts}
-use Rattle.vpf_library_files.specs.Tileref.Tileref.{IsTileref, name_column, paths_of, row_path}
-use Rattle.vpf_library_files.proofs.tileref.PathDecides.{path_decides, same_decides}
-use Rattle.vpf_library_files.proofs.tileref.TextLemmas.{text_tells}
+use Rattle.vpf_library_files.specs.Tileref.Tileref.{IsTileref, paths_of}
+use Rattle.vpf_library_files.specs.Inner.Tileref.PathLaws.{path_decides, same_decides}
+use Rattle.vpf_library_files.specs.Inner.Tileref.TextLaws.{text_tells}
 use Rattle.vpf_coverage.proofs.opening.NameLemmas.{EndsPlain, plain_behind}
+use Rattle.vpf_library_files.specs.Inner.Tileref.CountLaws.{paths_counted as counted}
 
 -- none of some texts ends in a slash
 abbrev pub ArePlain : List (List ℕ) → Type 0
@@ -65,9 +66,6 @@ one_path p q a b e =
 -- the path of a row, and its text
 path_of_row : (grid : Grid) → IsTileref grid → (i : ℕ) → i < length grid.rows → IsPath (get_or (paths_of grid) i [])
 path_of_row grid h i l = h.paths (suc i) (omega arith, omega arith)
-
-counted : (grid : Grid) → length (paths_of grid) ≡ length grid.rows
-counted grid = length-map grid.rows (row_path (name_column grid.head.columns))
 
 texts_counted : (grid : Grid) → length (path_texts grid) ≡ length (paths_of grid)
 texts_counted grid = length-map (paths_of grid) path_text

@@ -1,18 +1,19 @@
 -- The files of a coverage are opened as its tables.
-use Rattle.std.proofs.Common.{◌≡◌, ℕ, zero, suc, ◌+◌, ◌<◌, false, inl, inr, ◌⊎◌, List, [], ◌∷◌, length, get_or, Option, Some, None, refl, ap, sym, subst, append-nil, arith}
+use Rattle.std.proofs.Common.{[], ◌≡◌, ℕ, zero, suc, ◌+◌, ◌<◌, false, inl, inr, ◌⊎◌, List, ◌∷◌, length, get_or, Option, Some, None, refl, ap, sym, subst, append-nil, arith}
 use Rattle.std.specs.Prelude.{codes}
 use Rattle.vpf_source.specs.declared.file.File.{File}
 use Rattle.vpf_prims.specs.Coverages.{CoverageTables}
 use Rattle.vpf_prims.specs.Tables.{TileTables}
-use Rattle.vpf_library_files.specs.Tileref.Laws.{StopsDecide}
+use Rattle.vpf_library_files.specs.Inner.Tileref.Laws.{StopsDecide}
 use Rattle.vpf_library_files.specs.Tileref.Stops.{path_texts}
 use Rattle.vpf_library_files.specs.Loading.Loading.{within, tileref_name}
 use Rattle.vpf_library_files.specs.Loading.Holding.{AreTilesFiles, AreUntiledFiles, AreTiledFiles}
-use Rattle.vpf_coverage.specs.Opening.Opens.{Opens, OpensFolder, is_first_file, files_of_tables}
-use Rattle.vpf_coverage.specs.Opening.OpensTiles.{FilesOpen, OpensTiled, OpensTiles, OpensUntiled}
+use Rattle.vpf_coverage.specs.Inner.Opening.Opens.{Opens, OpensFolder, is_first_file, files_of_tables}
+use Rattle.vpf_coverage.specs.Inner.Opening.OpensTiles.{FilesOpen, OpensTiled, OpensTiles, OpensUntiled}
 use Rattle.vpf_coverage.proofs.opening.NameLemmas.{not_edges_and_entities, not_tiles_and_edges, one_folder, other_name}
 use Rattle.vpf_coverage.proofs.opening.PathLemmas.{AreApart, ArePlain, apart_rest, plain_rest, paths_apart, paths_plain}
-use Rattle.vpf_coverage.proofs.opening.OpenLemmas.{Begins, SpelledOpens, OpenedReads, begins_before, folder_opens, table_begins, table_counted, table_opens, tables_begin, tables_counted}
+use Rattle.vpf_coverage.proofs.opening.OpenLemmas.{Begins, SpelledOpens, begins_before, folder_opens, table_begins, table_counted, table_opens, tables_begin, tables_counted}
+use Rattle.vpf_coverage.specs.Inner.Opening.OpenLaws.{OpenedReads}
 
 -- the first file is that of the edges of a tile with one of these paths
 record BeginsTile (folder : List ℕ) (paths : List (List ℕ)) (files : List File) : Type 0 where

@@ -5,9 +5,9 @@ ghost use Rattle.std.specs.Option.{option_map};
 ghost use Rattle.vpf_source.specs.declared.file.File.{File as SourceFile};
 ghost use Rattle.vpf_table.specs.Grid.{Grid};
 ghost use Rattle.vpf_prims.specs.Reading.{PrimitiveTables};
-ghost use Rattle.vpf_prims.specs.Views.{tables_in_view};
-ghost use Rattle.vpf_coverage.specs.Opening.Opens.{AreOpeningTables, IsOpeningEnd, IsOpeningFolder, OpensEnd};
-ghost use Rattle.vpf_coverage.specs.Opening.Opens.{OpensFolder, OpensTables, files_of_folder, files_of_option};
+ghost use Rattle.vpf_prims.specs.Inner.Views.{tables_in_view};
+ghost use Rattle.vpf_coverage.specs.Inner.Opening.Opens.{AreOpeningTables, IsOpeningEnd, IsOpeningFolder, OpensEnd};
+ghost use Rattle.vpf_coverage.specs.Inner.Opening.Opens.{OpensFolder, OpensTables, files_of_folder, files_of_option};
 
 use crate::opening::tables::{is_first, next_table};
 use std::alloc::{AllocError, Global};

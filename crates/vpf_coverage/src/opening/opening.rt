@@ -10,11 +10,11 @@ ghost use Rattle.vpf_prims.specs.Tables.{TileTables, files_of_grid};
 ghost use Rattle.vpf_library_files.specs.Tileref.Stops.{path_texts, tileref_stop};
 ghost use Rattle.vpf_library_files.specs.Loading.Holding.{AreCoverageFiles, AreOfCoverage, AreTiledFiles};
 ghost use Rattle.vpf_library_files.specs.Loading.Loading.{within};
-ghost use Rattle.vpf_prims.specs.Views.{tables_in_view};
-ghost use Rattle.vpf_coverage.specs.Opening.Opened.{opened_coverage, placed_views, tables_in_views};
-ghost use Rattle.vpf_coverage.specs.Opening.Opens.{IsOpeningFolder, OpensFolder};
-ghost use Rattle.vpf_coverage.specs.Opening.OpensTiles.{AreOpeningTiles, FilesOpen, IsOpeningCoverage, IsOpeningTiled, IsOpeningTileref};
-ghost use Rattle.vpf_coverage.specs.Opening.OpensTiles.{OpensCoverage, OpensTiled, OpensTileref, OpensTiles};
+ghost use Rattle.vpf_prims.specs.Inner.Views.{tables_in_view};
+ghost use Rattle.vpf_coverage.specs.Inner.Opening.Opened.{opened_coverage, placed_views, tables_in_views};
+ghost use Rattle.vpf_coverage.specs.Inner.Opening.Opens.{IsOpeningFolder, OpensFolder};
+ghost use Rattle.vpf_coverage.specs.Inner.Opening.OpensTiles.{AreOpeningTiles, FilesOpen, IsOpeningCoverage, IsOpeningTiled, IsOpeningTileref};
+ghost use Rattle.vpf_coverage.specs.Inner.Opening.OpensTiles.{OpensCoverage, OpensTiled, OpensTileref, OpensTiles};
 
 use crate::opening::folders::{files_of_folder, open_folder};
 use crate::opening::tables::next_table;

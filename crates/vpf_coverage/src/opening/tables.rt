@@ -6,7 +6,7 @@ ghost use Rattle.vpf_table.specs.Grid.{Grid};
 ghost use Rattle.vpf_table.specs.Opening.{opened_of};
 ghost use Rattle.vpf_table.specs.Reading.{table_of};
 ghost use Rattle.vpf_library_files.specs.Loading.Loading.{within};
-ghost use Rattle.vpf_coverage.specs.Opening.Opens.{IsOpening, Opens, is_first_file};
+ghost use Rattle.vpf_coverage.specs.Inner.Opening.Opens.{IsOpening, Opens, is_first_file};
 
 use std::alloc::{AllocError, Global};
 use vpf_library_files::loading::within;

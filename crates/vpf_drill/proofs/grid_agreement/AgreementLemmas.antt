@@ -1,5 +1,5 @@
 -- The tables of the grid have the columns of a coverage, and their rows agree.
-use Rattle.std.proofs.Common.{◌≡◌, ℕ, zero, suc, true, false, ◌==◌, Some, None, refl, sym, ap, subst, ◌∙◌, arith}
+use Rattle.std.proofs.Common.{◌≡◌, ℕ, zero, suc, true, false, ◌==◌, Some, refl, sym, ap, subst, ◌∙◌, arith}
 use std.Path.{fun_ext}
 use Rattle.std.proofs.lemmas.Bool.Decides.{nat_tests}
 use Rattle.vpf_prims.specs.Coverages.{tile_at}
@@ -13,12 +13,11 @@ use Rattle.vpf_numbers.specs.Around.{around_of}
 use Rattle.vpf_numbers.specs.Matching.{ColumnsMatch}
 use Rattle.vpf_wing.specs.WellFormed.{IsWellFormed, HasCycles}
 use Rattle.vpf_cross.specs.Agreeing.{LibraryAgrees}
-use Rattle.vpf_vectors.specs.GridCoverage.Coverage.{grid_primitives, grid_library}
+use Rattle.vpf_vectors.specs.Inner.GridCoverage.Coverage.{grid_primitives, grid_library}
 use Rattle.vpf_vectors.specs.Library.{TablesSayGrid, coverage_tables}
-use Rattle.vpf_drill.specs.GridAgreement.Agreement.{GridHasColumns, GridIsSaid, grid_coverage}
-
-none_some : {X : Type 0} (x : X) → None ≡ Some x → ⊥
-none_some x e = cc
+use Rattle.vpf_drill.specs.Inner.GridAgreement.Agreement.{GridHasColumns, GridIsSaid, grid_coverage}
+use Rattle.vpf_base.proofs.Options.{none_some, some_is as same_some}
+use Rattle.std.proofs.lemmas.Bool.{false≢true as no_yes}
 
 has_columns : (n : ℕ) → HasColumns (coverage_tables n)
 has_columns n = record {
@@ -34,11 +33,8 @@ has_columns n = record {
 match_none : (n : ℕ) (t : PrimitiveTables) → ColumnsMatch (around_of (grid_coverage n)) t
 match_none n t = record { edg = tt; fac = tt; rng = tt; cnd = tt; end = λ grid e. tt }
 
-same_some : (x y : TileTables) → Some x ≡ Some y → x ≡ y
-same_some x y e = cc
-
 -- the one tile is that of these tables
-one_tile : (n t : ℕ) (T : TileTables) → tile_at (grid_coverage n) t ≡ Some T → T.tables ≡ coverage_tables n
+pub one_tile : (n t : ℕ) (T : TileTables) → tile_at (grid_coverage n) t ≡ Some T → T.tables ≡ coverage_tables n
 one_tile n zero T e = ap (λ (x : TileTables). x.tables) (sym (same_some _ _ e))
 one_tile n (suc t) T e = absurd (none_some T e)
 
@@ -55,9 +51,6 @@ tile-is say n (suc t) = let f : (suc t == 0) ≡ false = grind (arith, nat_tests
 
 pub library-is : TablesSayGrid → GridIsSaid
 library-is say n = ap (λ tile. record { is_tiled = false; last = 0; tile = tile }) (fun_ext (λ t. tile-is say n t))
-
-no_yes : false ≡ true → ⊥
-no_yes e = cc
 
 -- no other tile has tables
 one_there : (n t : ℕ) → has_tables (grid_library n) t ≡ true → t ≡ 0

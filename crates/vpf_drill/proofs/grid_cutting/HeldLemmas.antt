@@ -1,5 +1,5 @@
 -- The files of the grid hold bytes.
-use Rattle.std.proofs.Common.{◌≡◌, ℕ, zero, suc, ◌+◌, ◌-◌, ◌^◌, ◌<◌, ◌≤◌, Bool, true, false, cond, List, [], ◌∷◌, ◌++◌, length, map, Option, Some, pos, refl, subst, arith}
+use Rattle.std.proofs.Common.{[], ◌≡◌, ℕ, zero, suc, ◌+◌, ◌-◌, ◌^◌, ◌<◌, ◌≤◌, Bool, true, false, cond, List, ◌∷◌, ◌++◌, length, map, Option, Some, pos, refl, subst, arith}
 use Rattle.std.specs.Prelude.{IfSome, replicate}
 use Rattle.std.specs.Fmt.{decimal}
 use Rattle.std.specs.Int.{w16, w32, cast_unsigned}
@@ -9,8 +9,8 @@ use Rattle.vpf_base.specs.Bytes.{IsBytes}
 use Rattle.vpf_source.specs.Files.{Files, no_files}
 use Rattle.vpf_source.specs.Making.{with_all}
 use Rattle.vpf_source.specs.declared.file.File.{File}
-use Rattle.vpf_triplet.specs.declared.orders.Order.TheVariants.{Little}
-use Rattle.vpf_triplet.specs.Numbers.{number}
+use Rattle.vpf_base.specs.declared.orders.Order.TheVariants.{Little}
+use Rattle.vpf_base.specs.Numbers.{number}
 use Rattle.vpf_head.specs.Bytes.{space}
 use Rattle.vpf_head.specs.Canonical.{canonical_text, columns_text, column_text}
 use Rattle.vpf_table.specs.Canonical.{row_text}
@@ -20,17 +20,12 @@ use Rattle.vpf_vectors.specs.Cells.Rows.{edge_rows, face_rows, ring_rows, node_r
 use Rattle.vpf_vectors.specs.Heads.{tileref_head, edge_head, face_head, ring_head, node_head, plan_head}
 use Rattle.vpf_vectors.specs.Library.{grid_files, tiles}
 use Rattle.vpf_vectors.specs.Tables.{edge_table, padded_name, pair_table, ring_table, tile_cells}
-use Rattle.std.proofs.lemmas.Fmt.{decimal_digit}
 use Rattle.vpf_drill.specs.GridCutting.Held.{grid_held, cut_plan_grid, tileref_grid}
 use Rattle.vpf_drill.proofs.grid_cutting.ByteLemmas.{AreBytes, cell_bytes, joined_bytes, number_bytes, numbers_bytes, table_bytes, tested_bytes}
 use Rattle.vpf_drill.proofs.grid_cutting.TilerefLemmas.{few_tiles}
 use Rattle.vpf_drill.proofs.grid_cutting.NameLemmas.{IsDigit, all_digits, digits_of}
-
-one : decimal 1 ≡ 49 ∷ []
-one = decimal_digit 1 (omega arith)
-
-eight : decimal 8 ≡ 56 ∷ []
-eight = decimal_digit 8 (omega arith)
+use Rattle.vpf_base.proofs.Options.{some_is as some_same}
+use Rattle.vpf_vectors.specs.Inner.HeadLaws.{one, eight}
 
 -- the texts of the headers
 tileref_text : AreBytes (canonical_text tileref_head)
@@ -106,9 +101,6 @@ file_bytes n most =
 one_held : (b : Bool) (bytes : List ℕ) (o : Option (List ℕ)) → IsBytes bytes → IfSome o IsBytes → IfSome (cond b (Some bytes) o) IsBytes
 one_held true bytes o new old = new
 one_held false bytes o new old = old
-
-some_same : (a b : Files) → Some a ≡ Some b → a ≡ b
-some_same a b e = cc
 
 all_held : (files : List File) (held after : Files) → HoldsBytes held → AllByRecursion (λ (f : File). IsBytes f.bytes) files
     → with_all files (Some held) ≡ Some after → HoldsBytes after

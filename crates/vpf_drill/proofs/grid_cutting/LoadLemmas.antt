@@ -1,7 +1,6 @@
 -- The files of the grid are read as its tables.
-use Rattle.std.proofs.Common.{◌≡◌, ℕ, ◌+◌, ◌*◌, ◌≤◌, false, true, List, length, nat_le, None, Some, Ok, refl, arith}
+use Rattle.std.proofs.Common.{◌≡◌, ℕ, ◌+◌, ◌*◌, ◌≤◌, false, List, length, None, Some, Ok, refl, arith}
 use Rattle.std.specs.Prelude.{codes}
-use Rattle.std.proofs.lemmas.Bool.{le-leb}
 use Rattle.vpf_base.specs.Limits.{most_bytes}
 use Rattle.vpf_source.specs.Files.{Files}
 use Rattle.vpf_head.specs.Head.{varies_in}
@@ -9,22 +8,14 @@ use Rattle.vpf_table.specs.Canonical.{canonical_table}
 use Rattle.vpf_table.specs.Grid.{Grid}
 use Rattle.vpf_table.specs.Reading.{table_of}
 use Rattle.vpf_library_files.specs.Tileref.Stops.{tileref_stop}
-use Rattle.vpf_library_files.specs.Loading.Loading.{LoadedTable, LoadedTile, loaded_tile, most_loaded, read_bytes, read_optional_table, read_table}
-use Rattle.vpf_library_files.specs.Loading.Loading.{read_tile, read_tileref, tileref_name, untiled_loaded, within}
+use Rattle.vpf_library_files.specs.Loading.Loading.{LoadedTable, LoadedTile, loaded_tile, most_loaded, read_optional_table, read_table, read_tile, read_tileref, tileref_name, untiled_loaded, within}
 use Rattle.vpf_tiling.specs.Plan.PlanLoads.{read_plan}
 use Rattle.vpf_tiling.specs.Plan.Plans.{plan_finding}
 use Rattle.vpf_feature_files.specs.Reading.{schema_name}
-use Rattle.vpf_featured.specs.Reading.{no_features}
-use Rattle.vpf_tile_theorem.specs.Tile.{plan_name, read_parts}
+use Rattle.vpf_library_commands.specs.Reading.{no_features}
+use Rattle.vpf_library_commands.specs.Tile.{plan_name, read_parts}
 use Rattle.vpf_drill.specs.GridCutting.Held.{read_alone}
-
--- bytes within the limits are read
-within_limits : (name bytes : List ℕ) (m : ℕ) → length bytes ≤ most_bytes → m + length bytes ≤ most_loaded
-    → read_bytes name bytes m ≡ (Ok (Some bytes), m + length bytes)
-within_limits name bytes m few sum =
-    let one : nat_le (length bytes) most_bytes ≡ true = le-leb (length bytes) most_bytes few in
-    let all : nat_le (m + length bytes) most_loaded ≡ true = le-leb (m + length bytes) most_loaded sum in
-    rw (one, all) refl
+use Rattle.vpf_library_files.specs.Inner.Loading.HeldLaws.{loads_within as within_limits}
 
 -- a tree holds the canonical file of a table whose rows are of one length, and that file is read as the table
 pub record IsThere (held : Files) (name : List ℕ) (grid : Grid) : Type 0 where

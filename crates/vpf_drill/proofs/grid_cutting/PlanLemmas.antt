@@ -13,13 +13,13 @@ use Rattle.vpf_tiling.specs.Plan.Plans.{tile_column}
 use Rattle.vpf_tiling.specs.Tileable.Planning.{named_for, planned_tile}
 use Rattle.vpf_vectors.specs.Cells.Numbers.{faces}
 use Rattle.vpf_vectors.specs.Cells.Rows.{tile_of}
-use Rattle.vpf_vectors.specs.GridCoverage.Coverage.{grid_face}
-use Rattle.vpf_vectors.proofs.grid_coverage.RowLemmas.{kth_row}
+use Rattle.vpf_vectors.specs.Inner.GridCoverage.Coverage.{grid_face}
+use Rattle.vpf_vectors.specs.Inner.GridCoverage.RowLaws.{kth_row}
 use Rattle.vpf_vectors.specs.Heads.{plan_head}
 use Rattle.vpf_vectors.specs.Library.{TablesSayGrid, coverage_tables}
 use Rattle.vpf_vectors.specs.Tables.{pair_cells}
 use Rattle.vpf_drill.specs.GridCutting.Held.{cut_plan_grid}
-use Rattle.vpf_drill.specs.GridCutting.Plans.{PlanNamesTiles}
+use Rattle.vpf_drill.specs.Inner.GridCutting.Plans.{PlanNamesTiles}
 
 -- the first row whose id is the face names its number
 names_from : (g : ℕ → ℕ) (a m f : ℕ) → a ≤ f → f < a + m

@@ -6,16 +6,16 @@ use Rattle.vpf_table.specs.Canonical.{canonical_table}
 use Rattle.vpf_table.specs.Grid.{Grid}
 use Rattle.vpf_table.specs.Reading.{table_of}
 use Rattle.vpf_write.specs.Writing.{first_limit}
-use Rattle.vpf_write.proofs.WholeTables.{within_limits}
-use Rattle.vpf_library_files.specs.Tileref.Laws.{StopsDecide}
+use Rattle.vpf_write.specs.Inner.WholeLaws.{within_limits}
+use Rattle.vpf_library_files.specs.Inner.Tileref.Laws.{StopsDecide}
 use Rattle.vpf_vectors.specs.Cells.Rows.{edge_rows, face_rows, ring_rows, node_rows, plan_rows}
-use Rattle.vpf_tile_theorem.specs.Tile.{read_parts}
+use Rattle.vpf_library_commands.specs.Tile.{read_parts}
 use Rattle.vpf_vectors.specs.Heads.{face_head, node_head, plan_head}
 use Rattle.vpf_vectors.specs.Library.{GridIsRead, grid_tables, tiles}
 use Rattle.vpf_vectors.specs.Tables.{edge_table, pair_table, ring_table}
-use Rattle.vpf_vectors.proofs.HeadLemmas.{faces_have_pairs, nodes_have_pairs, plan_has_pairs}
-use Rattle.vpf_vectors.proofs.LimitLemmas.{edges_limit, pairs_limit, rings_limit, tileref_limit}
-use Rattle.vpf_vectors.proofs.SmallLemmas.{edges_are_few, faces_are_few, homes_are_few, nodes_are_few, rings_are_few}
+use Rattle.vpf_vectors.specs.Inner.HeadLaws.{faces_have_pairs, nodes_have_pairs, plan_has_pairs}
+use Rattle.vpf_vectors.specs.Inner.LimitLaws.{edges_limit, pairs_limit, rings_limit, tileref_limit}
+use Rattle.vpf_vectors.specs.Inner.SmallLaws.{edges_are_few, faces_are_few, homes_are_few, nodes_are_few, rings_are_few}
 use Rattle.vpf_drill.specs.GridCutting.Held.{grid_held, cut_plan_grid, tileref_grid}
 use Rattle.vpf_drill.specs.GridCutting.Reading.{grid_parts, grid_request}
 use Rattle.vpf_drill.proofs.grid_cutting.LoadLemmas.{HoldsParts, parts_come}

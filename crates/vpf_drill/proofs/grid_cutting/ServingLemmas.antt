@@ -5,20 +5,20 @@ use Rattle.std.proofs.lemmas.List.FromFn.{length-map-range_with_len}
 use Rattle.vpf_darts.specs.Darts.{flip}
 use Rattle.vpf_prims.specs.Primitives.{Primitives}
 use Rattle.vpf_tiling.specs.Plans.{HasPlaces, IsPlan, IsTileable}
-use Rattle.vpf_tiling.specs.Tileable.Laws.{RefusalsDecide}
+use Rattle.vpf_tiling.specs.Inner.Tileable.Laws.{RefusalsDecide}
 use Rattle.vpf_tiling.specs.Tileable.Refusals.{first_refusal}
-use Rattle.vpf_tiler.specs.CutBy.{names_of_faces, plan_refusal}
-use Rattle.vpf_vectors.specs.Cells.Laws.{FacesHaveTiles, NextsFit}
+use Rattle.vpf_library_commands.specs.CutBy.{names_of_faces, plan_refusal}
+use Rattle.vpf_vectors.specs.Inner.Cells.Laws.{FacesHaveTiles, NextsFit}
 use Rattle.vpf_vectors.specs.Cells.Maps.{face_in, has_dart}
 use Rattle.vpf_vectors.specs.Cells.Numbers.{edges, faces}
 use Rattle.vpf_vectors.specs.Cells.Rows.{tile_of}
-use Rattle.vpf_vectors.specs.GridCoverage.Coverage.{grid_edge, grid_face, grid_primitives}
-use Rattle.vpf_vectors.specs.GridCoverage.Laws.{GridIsWellFormed}
-use Rattle.vpf_vectors.proofs.grid_coverage.DartLemmas.{face-is, few_edges, flip_there, small_edges, there_only}
+use Rattle.vpf_vectors.specs.Inner.GridCoverage.Coverage.{grid_edge, grid_face, grid_primitives}
+use Rattle.vpf_vectors.specs.Inner.GridCoverage.Laws.{GridIsWellFormed}
+use Rattle.vpf_vectors.specs.Inner.GridCoverage.DartLaws.{face-is, few_grid_edges as few_edges, flip_there, small_edges, there_only}
 use Rattle.vpf_vectors.specs.Library.{TablesSayGrid, coverage_tables, tiles}
 use Rattle.vpf_vectors.specs.Tables.{tile_cells}
 use Rattle.vpf_drill.specs.GridCutting.Held.{cut_plan_grid, tileref_grid}
-use Rattle.vpf_drill.specs.GridCutting.Plans.{grid_plan}
+use Rattle.vpf_drill.specs.Inner.GridCutting.Plans.{grid_plan}
 use Rattle.vpf_drill.proofs.grid_cutting.PlanLemmas.{plan_names}
 
 few : (n : ℕ) → n ≤ 200 → length (grid_primitives n).edges < 2 ^ 24

@@ -1,5 +1,5 @@
 -- The table of tiles of the grid is one, within the bounds.
-use Rattle.std.proofs.Common.{◌≡◌, ◌≢◌, ℕ, zero, suc, ◌+◌, ◌-◌, ◌/◌, ◌^◌, ◌<◌, ◌≤◌, false, List, [], ◌∷◌, length, get_or, map, None, refl, sym, ap, subst, ◌∙◌, arith, length-append}
+use Rattle.std.proofs.Common.{[], ◌≡◌, ◌≢◌, ℕ, zero, suc, ◌+◌, ◌-◌, ◌/◌, ◌^◌, ◌<◌, ◌≤◌, false, List, ◌∷◌, length, get_or, map, None, refl, sym, ap, subst, ◌∙◌, arith, length-append}
 use Rattle.std.specs.Prelude.{◌==◌, codes, filter}
 use Rattle.std.specs.Fmt.{decimal}
 use Rattle.std.specs.List.{AllByRecursion, range_with_len}
@@ -13,11 +13,11 @@ use Rattle.vpf_table.specs.Grid.{Row}
 use Rattle.vpf_prims.specs.Lists.{kth}
 use Rattle.vpf_prims.specs.Numbering.{IsRowOf}
 use Rattle.vpf_prims.specs.Reading.{named_cell, natural_in}
-use Rattle.vpf_library_files.specs.Tileref.Laws.{StopsDecide}
+use Rattle.vpf_library_files.specs.Inner.Tileref.Laws.{StopsDecide}
 use Rattle.vpf_library_files.specs.Tileref.Paths.{IsFolder, IsLetter, IsPath, TilePath, folders_in, is_some_name, path_of, path_text}
 use Rattle.vpf_library_files.specs.Tileref.Stops.{IsBounded, tileref_stop}
 use Rattle.vpf_library_files.specs.Tileref.Tileref.{IsTileref, name_column, paths_of, row_path}
-use Rattle.vpf_vectors.proofs.grid_coverage.RowLemmas.{kth_row}
+use Rattle.vpf_vectors.specs.Inner.GridCoverage.RowLaws.{kth_row}
 use Rattle.vpf_vectors.specs.Heads.{tileref_head}
 use Rattle.vpf_vectors.specs.Library.{tiles}
 use Rattle.vpf_vectors.specs.Tables.{padded_name, tile_cells, tile_name, grid_tileref}

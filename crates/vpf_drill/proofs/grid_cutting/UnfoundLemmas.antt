@@ -1,38 +1,29 @@
 -- Nothing is found in the coverage of the grid, since it agrees.
-use Rattle.std.proofs.Common.{◌≡◌, ℕ, zero, suc, ◌≤◌, List, [], ◌∷◌, length, map, None, Some, refl, sym, ap, subst, ◌∙◌}
+use Rattle.std.proofs.Common.{[], ◌≡◌, ℕ, ◌≤◌, List, ◌∷◌, length, map, None, Some, refl, sym, ap, subst, ◌∙◌}
 use Rattle.std.specs.List.{AllByRecursion, enumerate_from}
 use Rattle.vpf_table.specs.Grid.{Row}
 use Rattle.vpf_findings.specs.Firsts.{◌or◌}
 use Rattle.vpf_prims.specs.Coverages.{tile_at}
-use Rattle.vpf_prims.specs.Laws.{AreFilled}
+use Rattle.vpf_prims.specs.Inner.Laws.{AreFilled}
 use Rattle.vpf_prims.specs.Reading.{PrimitiveTables}
 use Rattle.vpf_prims.specs.Roles.{edge_roles, face_roles, node_roles}
 use Rattle.vpf_prims.specs.Suiting.{carried_columns}
 use Rattle.vpf_prims.specs.Tables.{TileTables}
-use Rattle.vpf_numbers.specs.Laws.{CoverageNumbersDecide}
+use Rattle.vpf_numbers.specs.Inner.Laws.{CoverageNumbersDecide}
 use Rattle.vpf_numbers.specs.TableLines.{coverage_numbers}
 use Rattle.vpf_cross.specs.CrossFinding.{topology_finding}
-use Rattle.vpf_cross.specs.Laws.{AgreementDecides, AreWhole}
+use Rattle.vpf_cross.specs.Inner.Laws.{AgreementDecides, AreWhole}
 use Rattle.vpf_vectors.specs.Cells.Rows.{edge_rows, face_rows, ring_rows, node_rows}
 use Rattle.vpf_library_files.specs.Loading.Loading.{LoadedCoverage, within}
-use Rattle.vpf_featured.specs.Finding.{featured_finding}
-use Rattle.vpf_featured.specs.Reading.{unfeatured}
-use Rattle.vpf_tile_theorem.specs.Tile.{parts_finding}
+use Rattle.vpf_library_commands.specs.Finding.{featured_finding}
+use Rattle.vpf_library_commands.specs.Reading.{unfeatured}
+use Rattle.vpf_library_commands.specs.Tile.{parts_finding}
 use Rattle.vpf_drill.specs.GridCutting.Reading.{grid_parts, grid_request}
 use Rattle.vpf_vectors.specs.Library.{coverage_tables}
 use Rattle.vpf_vectors.specs.Tables.{edge_cells, ring_cells, pair_cells}
-use Rattle.vpf_drill.specs.GridAgreement.Agreement.{GridAgrees, GridHasColumns, grid_coverage}
-
-none_some : {X : Type 0} (x : X) → None ≡ Some x → ⊥
-none_some x e = cc
-
-same_some : (x y : TileTables) → Some x ≡ Some y → x ≡ y
-same_some x y e = cc
-
--- the one tile is that of these tables
-one_tile : (n t : ℕ) (T : TileTables) → tile_at (grid_coverage n) t ≡ Some T → T.tables ≡ coverage_tables n
-one_tile n zero T e = ap (λ (x : TileTables). x.tables) (sym (same_some _ _ e))
-one_tile n (suc t) T e = absurd (none_some T e)
+use Rattle.vpf_drill.specs.Inner.GridAgreement.Agreement.{GridAgrees, GridHasColumns, grid_coverage}
+use Rattle.vpf_base.proofs.Options.{none_some}
+use Rattle.vpf_drill.proofs.grid_agreement.AgreementLemmas.{one_tile}
 
 -- the rows of these tables are whole
 each_row : {X : Type 0} (P : Row → Type 0) (f : X → Row) → ((x : X) → P (f x)) → (xs : List X) → AllByRecursion P (map f xs)

@@ -1,13 +1,10 @@
 -- Numbers that pass tests, counted; and counts that are summed over numbers.
-use Rattle.std.proofs.Common.{◌≡◌, ◌≤◌, ◌<◌, ℕ, suc, zero, ◌+◌, ◌*◌, Bool, true, false, List, [], ◌∷◌, length, refl, ap, arith, inl, inr, ◌||◌, eqb, ◌&&◌, cond, map}
+use Rattle.std.proofs.Common.{[], ◌≡◌, ◌≤◌, ◌<◌, ℕ, suc, zero, ◌+◌, ◌*◌, Bool, true, false, List, ◌∷◌, length, refl, ap, arith, inl, inr, ◌||◌, eqb, ◌&&◌, map}
 use Rattle.std.specs.Prelude.{count_by}
 use Rattle.std.specs.List.{list_any, range_with_len}
 use Rattle.std.proofs.lemmas.Bool.{cases_eq, ne_eqb}
 use Rattle.std.proofs.lemmas.List.Sums.{sum_by-cons}
-
--- what a number counts
-abbrev pub one_if : Bool → ℕ
-one_if b = cond b 1 0
+use Rattle.vpf_base.proofs.Booleans.{one_if}
 
 pub count_cons : {X : Type 0} (p : X → Bool) (x : X) (xs : List X) → count_by p (x ∷ xs) ≡ one_if (p x) + count_by p xs
 count_cons p x xs = sum_by-cons (λ y. one_if (p y)) x xs

@@ -1,5 +1,5 @@
 -- How many bytes the files of short tables have, and that few rows pass no limit.
-use Rattle.std.proofs.Common.{◌≡◌, ◌≤◌, ℕ, ◌+◌, ◌*◌, Bool, true, false, List, [], ◌∷◌, ◌++◌, length, refl, arith, None, Some}
+use Rattle.std.proofs.Common.{[], ◌≡◌, ◌≤◌, ℕ, ◌+◌, ◌*◌, Bool, true, false, List, ◌∷◌, ◌++◌, length, refl, arith, None, Some}
 use Rattle.std.specs.Prelude.{flat_map, if◌then◌else◌}
 use Rattle.std.specs.List.{AllByRecursion}
 use Rattle.vpf_head.specs.Canonical.{canonical_text}
@@ -8,8 +8,8 @@ use Rattle.vpf_varindex.specs.RowIndex.{row_index}
 use Rattle.vpf_table.specs.Canonical.{canonical_index, canonical_spans}
 use Rattle.vpf_write.specs.Made.Files.{index_files}
 use Rattle.vpf_library_files.specs.Loading.Holding.{bytes_in}
-use Rattle.vpf_library_files.proofs.loading.FileLists.{bytes_of_both}
-use Rattle.vpf_table_files.specs.Adding.{NamedTable, files_made, files_of_table, first_limit_of}
+use Rattle.vpf_library_files.specs.Inner.Loading.FileLaws.{bytes_of_both}
+use Rattle.vpf_library_files.specs.TableFiles.Adding.{NamedTable, files_made, files_of_table, first_limit_of}
 use Rattle.vpf_drill.proofs.tiled_sizes.Counting.{summed}
 use Rattle.vpf_drill.proofs.tiled_sizes.TableSizes.{IsShort, index_bytes, no_limit, table_bytes}
 

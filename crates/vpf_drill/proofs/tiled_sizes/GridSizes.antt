@@ -1,5 +1,5 @@
 -- The files of the tiled library of the grid: they pass no limit, and a run reads them all.
-use Rattle.std.proofs.Common.{◌≡◌, ◌≤◌, ℕ, ◌+◌, ◌*◌, Bool, true, false, eqb, List, [], ◌∷◌, length, map, sym, ◌∙◌, arith}
+use Rattle.std.proofs.Common.{[], ◌≡◌, ◌≤◌, ℕ, ◌+◌, ◌*◌, Bool, true, false, eqb, List, ◌∷◌, length, map, sym, ◌∙◌, arith}
 use Rattle.std.specs.Prelude.{if◌then◌else◌}
 use Rattle.std.specs.List.{AllByRecursion, range_with_len}
 use Rattle.std.proofs.lemmas.Bool.{eq-eqb, eqb-true}
@@ -11,23 +11,22 @@ use Rattle.vpf_prims.specs.References.{id_of}
 use Rattle.vpf_library_files.specs.Tileref.Stops.{path_texts}
 use Rattle.vpf_library_files.specs.Loading.Loading.{within}
 use Rattle.vpf_tiling.specs.Presence.{present_edges, present_nodes}
-use Rattle.vpf_tiling.specs.RankLaws.{numbered_many}
+use Rattle.vpf_tiling.specs.Inner.RankLaws.{numbered_many}
 use Rattle.vpf_tiling.specs.Ranks.{up_to}
 use Rattle.vpf_tiling.specs.Tiles.{is_made, tiled_rings}
 use Rattle.vpf_primitive_tables.specs.TileTables.Grids.{edges_made, faces_made, faces_of_tile, nodes_made, rings_made, tiles_made}
-use Rattle.vpf_table_files.specs.Adding.{NamedTable}
-use Rattle.vpf_tiler.specs.TileFiles.Tables.{all_tile_tables, tables_if_made, tile_tables}
+use Rattle.vpf_library_files.specs.TableFiles.Adding.{NamedTable}
+use Rattle.vpf_library_commands.specs.Tables.{all_tile_tables, tables_if_made, tile_tables}
 use Rattle.vpf_vectors.specs.Cells.Numbers.{edges, faces}
 use Rattle.vpf_vectors.specs.Cells.Rows.{edge_rows, face_rows, node_rows, ring_rows}
-use Rattle.vpf_vectors.specs.GridCoverage.Coverage.{grid_edge, grid_face, grid_primitives, grid_ring}
+use Rattle.vpf_vectors.specs.Inner.GridCoverage.Coverage.{grid_edge, grid_face, grid_primitives, grid_ring}
 use Rattle.vpf_vectors.specs.Library.{coverage_tables, tiles}
 use Rattle.vpf_vectors.specs.Tables.{tile_cells, grid_tileref}
-use Rattle.vpf_vectors.proofs.SmallLemmas.{few_edges, few_faces, few_tiles}
-use Rattle.vpf_drill.specs.TiledSizes.Sizes.{GridIsLoaded, GridPassesNoLimit, grid_library_tables}
-use Rattle.vpf_tiler.proofs.tiled_files.Pairs.{all_of_lists}
+use Rattle.vpf_vectors.specs.Inner.SmallLaws.{few_edges, few_faces, few_tiles}
+use Rattle.vpf_drill.specs.Inner.TiledSizes.Sizes.{GridIsLoaded, GridPassesNoLimit, grid_library_tables}
+use Rattle.vpf_library_commands.specs.PairLaws.{all_of_lists}
 use Rattle.vpf_drill.proofs.tiled_sizes.Counting.{count_less, count_made, count_same, summed}
-use Rattle.vpf_drill.proofs.tiled_sizes.PresentCounts.{HaveOneRing, all_darts, all_edges, all_faces, darts_few, darts_in, edges_few, edges_in, edges_many}
-use Rattle.vpf_drill.proofs.tiled_sizes.PresentCounts.{faces_few, faces_in, faces_many, nodes_few, rings_few}
+use Rattle.vpf_drill.proofs.tiled_sizes.PresentCounts.{HaveOneRing, all_darts, all_edges, all_faces, darts_few, darts_in, edges_few, edges_in, edges_many, faces_few, faces_in, faces_many, nodes_few, rings_few}
 use Rattle.vpf_drill.proofs.tiled_sizes.GridTables.{edges_short, faces_short, nodes_short, rings_short, tileref_short}
 use Rattle.vpf_drill.proofs.tiled_sizes.FileSizes.{HasFewRows, IsShortTable, loads, loads_of_lists, made_load, none_passed}
 

@@ -1,9 +1,7 @@
 -- The tables of the tiles of the grid have short headers and short rows.
-use Rattle.std.proofs.Common.{◌≡◌, ◌≤◌, ℕ, suc, zero, ◌+◌, true, List, [], ◌∷◌, length, map, refl, arith, length-append}
+use Rattle.std.proofs.Common.{[], ◌≡◌, ◌≤◌, ℕ, suc, zero, ◌+◌, true, List, ◌∷◌, length, map, refl, arith, length-append}
 use Rattle.std.specs.Prelude.{codes}
-use Rattle.std.specs.Fmt.{decimal}
 use Rattle.std.specs.List.{AllByRecursion, range_with_len}
-use Rattle.std.proofs.lemmas.Fmt.{decimal_digit}
 use Rattle.vpf_head.specs.Canonical.{canonical_text, column_text, columns_text}
 use Rattle.vpf_head.specs.Head.{Col, names_rows}
 use Rattle.vpf_table.specs.Canonical.{row_text}
@@ -11,25 +9,18 @@ use Rattle.vpf_table.specs.Grid.{Grid, Row}
 use Rattle.vpf_write.specs.Revise.Revising.{head_with_kinds, revised}
 use Rattle.vpf_prims.specs.Primitives.{Primitives}
 use Rattle.vpf_tiling.specs.Ranks.{numbered_from}
-use Rattle.vpf_primitive_tables.specs.TableForms.Forms.{id_kinds, named_value, natural_value, pair_kinds}
-use Rattle.vpf_primitive_tables.specs.TileTables.Grids.{edge_kinds, edges_made, faces_made, nodes_made}
-use Rattle.vpf_primitive_tables.specs.TableForms.Forms.{ring_kinds}
-use Rattle.vpf_primitive_tables.specs.TileTables.Grids.{rings_made, tiles_made}
+use Rattle.vpf_primitive_tables.specs.TableForms.Forms.{id_kinds, named_value, natural_value, pair_kinds, ring_kinds}
+use Rattle.vpf_primitive_tables.specs.TileTables.Grids.{edge_kinds, edges_made, faces_made, nodes_made, rings_made, tiles_made}
 use Rattle.vpf_vectors.specs.declared.cells.rows.EdgeRow.{EdgeRow}
 use Rattle.vpf_vectors.specs.declared.cells.rows.RingRow.{RingRow}
 use Rattle.vpf_vectors.specs.Heads.{edge_head, face_head, node_head, ring_head, tileref_head}
 use Rattle.vpf_vectors.specs.Tables.{edge_table, padded_name, pair_table, ring_table, tile_cells, grid_tileref}
-use Rattle.vpf_vectors.proofs.NameLemmas.{name_length}
+use Rattle.vpf_vectors.specs.Inner.StemLaws.{name_length}
 use Rattle.vpf_drill.proofs.tiled_sizes.RowSizes.{row_few}
 use Rattle.vpf_drill.proofs.tiled_sizes.TableSizes.{IsShort}
+use Rattle.vpf_vectors.specs.Inner.HeadLaws.{one, eight}
 
 -- ---- headers
-
-one : decimal 1 ≡ 49 ∷ []
-one = decimal_digit 1 (omega arith)
-
-eight : decimal 8 ≡ 56 ∷ []
-eight = decimal_digit 8 (omega arith)
 
 edge_text : length (canonical_text (head_with_kinds (edge_kinds edge_head.columns) edge_head)) ≤ 500
 unfolding canonical_text columns_text column_text

@@ -1,23 +1,23 @@
 -- How long rows of numbers and ids are, and indexes.
-use Rattle.std.proofs.Common.{◌≡◌, ◌≤◌, ℕ, ◌+◌, ◌*◌, true, List, [], ◌∷◌, ◌++◌, length, refl, arith, length-append}
+use Rattle.std.proofs.Common.{[], ◌≡◌, ◌≤◌, ℕ, ◌+◌, ◌*◌, true, List, ◌∷◌, ◌++◌, length, refl, arith, length-append}
 use Rattle.std.specs.List.{AllByRecursion}
 use Rattle.std.specs.Int.{w16, w32, cast_unsigned}
 use Rattle.vpf_triplet.specs.declared.kinds.Kind.{Kind}
 use Rattle.vpf_triplet.specs.declared.kinds.Kind.TheVariants as kinds
 use Rattle.vpf_triplet.specs.declared.kinds.Count.{Count}
-use Rattle.vpf_triplet.specs.declared.orders.Order.{Order}
+use Rattle.vpf_base.specs.declared.orders.Order.{Order}
 use Rattle.vpf_triplet.specs.Canonical.{least}
-use Rattle.vpf_triplet.specs.Numbers.{number}
-use Rattle.vpf_triplet.proofs.Canonicals.{bytes_few, length-canonical}
-use Rattle.vpf_triplet.proofs.NumberLemmas.{length-number}
+use Rattle.vpf_base.specs.Numbers.{number}
+use Rattle.vpf_triplet.specs.Inner.CanonicalLaws.{bytes_few, length-canonical}
+use Rattle.vpf_base.proofs.NumberLemmas.{length-number}
 use Rattle.vpf_value.specs.Canonical.{spelled, spelled_id, spelled_number}
 use Rattle.vpf_value.specs.Values.{Value, NumberOf, TripletOf}
-use Rattle.vpf_value.proofs.Numbers.{length-number16}
+use Rattle.vpf_value.specs.Inner.NumberLaws.{length-number16}
 use Rattle.vpf_head.specs.Head.{Col, names_rows}
 use Rattle.vpf_varindex.specs.RowIndex.{entries_text, row_index}
+use Rattle.vpf_write.specs.Writing.{index_size}
 use Rattle.vpf_table.specs.Canonical.{row_text, rows_text, spans_from}
 use Rattle.vpf_table.specs.Grid.{Row}
-use Rattle.vpf_write.specs.Writing.{index_size}
 
 -- ---- cells
 

@@ -4,8 +4,8 @@ use Rattle.std.specs.Prelude.{None, nat_lt, ◌&&◌}
 use Rattle.std.specs.Int.{w32}
 use Rattle.std.specs.List.{AllByRecursion}
 use Rattle.std.proofs.lemmas.Bool.Decides.{nat_tests}
-use Rattle.vpf_triplet.specs.Numbers.{number}
-use Rattle.vpf_triplet.proofs.NumberLemmas.{length-number}
+use Rattle.vpf_base.specs.Numbers.{number}
+use Rattle.vpf_base.proofs.NumberLemmas.{length-number}
 use Rattle.vpf_head.specs.Canonical.{canonical_header, canonical_text}
 use Rattle.vpf_head.specs.Head.{varies_in}
 use Rattle.vpf_varindex.specs.RowIndex.{row_index}

@@ -8,11 +8,11 @@ use Rattle.vpf_vectors.specs.Cells.Rows.{edge_rows, face_rows, ring_rows, node_r
 use Rattle.vpf_vectors.specs.Heads.{face_head, node_head}
 use Rattle.vpf_vectors.specs.Library.{coverage_tables}
 use Rattle.vpf_vectors.specs.Tables.{edge_table, pair_table, ring_table}
-use Rattle.vpf_tile_theorem.specs.MakeRequest.{MakeRequest}
-use Rattle.vpf_tile_theorem.specs.Check.{coverage_finding}
-use Rattle.vpf_tile_theorem.specs.Make.{make_request}
-use Rattle.vpf_tile_theorem.specs.Tile.{TileParts, parts_finding, read_parts}
-use Rattle.vpf_featured.specs.Reading.{no_features}
+use Rattle.vpf_library_commands.specs.declared.requesting.MakeRequest.{MakeRequest}
+use Rattle.vpf_library_commands.specs.Check.{coverage_finding}
+use Rattle.vpf_library_commands.specs.Make.{make_request}
+use Rattle.vpf_library_commands.specs.Tile.{TileParts, parts_finding, read_parts}
+use Rattle.vpf_library_commands.specs.Reading.{no_features}
 use Rattle.vpf_drill.specs.GridCutting.Held.{grid_held, grid_out, cut_plan_grid, read_alone, tileref_grid}
 
 -- the request that its coverage `g` is cut into tiles, as a library in the folder beside it

@@ -1,6 +1,6 @@
 //! What is so of the coverage of the grid of n by n cells.
 
-ghost use Rattle.vpf_drill.specs.GridAgreement.Agreement.{GridHasColumns, GridAgrees, GridIsSaid};
+ghost use Rattle.vpf_drill.specs.Inner.GridAgreement.Agreement.{GridHasColumns, GridAgrees, GridIsSaid};
 
 /// The tables of the grid have the columns of a coverage; what their rows say is the grid, and that agrees.
 pub fn grid_agrees()

@@ -1,7 +1,7 @@
 //! What is so of the library of the grid of n by n cells that is read to be cut into tiles.
 
 ghost use Rattle.vpf_drill.specs.GridCutting.Held.{GridHoldsBytes, GridIsMade, OutIsEmpty};
-ghost use Rattle.vpf_drill.specs.GridCutting.Plans.{GridIsTileable, GridServes, PlanNamesTiles, RowsAreTiles};
+ghost use Rattle.vpf_drill.specs.Inner.GridCutting.Plans.{GridIsTileable, GridServes, PlanNamesTiles, RowsAreTiles};
 ghost use Rattle.vpf_drill.specs.GridCutting.Reading.{GridHasTables, GridIsAsked, GridIsReadToCut, GridIsUnfound, GridPartsAreUnfound};
 
 use crate::grid_agreement::laws::grid_agrees;

@@ -3,7 +3,7 @@ use Rattle.std.proofs.Common.{◌≡◌, ℕ, zero, suc, ◌*◌, ◌<◌, Bool,
 use Rattle.std.specs.List.{list_any, All}
 use Rattle.std.specs.Prelude.{◌||◌}
 use Rattle.std.proofs.lemmas.Bool.{lt-ltb}
-use Rattle.vpf_triplet.specs.declared.orders.Order.{Order}
+use Rattle.vpf_base.specs.declared.orders.Order.{Order}
 use Rattle.vpf_triplet.specs.declared.kinds.Kind.{Kind}
 use Rattle.vpf_triplet.specs.declared.kinds.Kind.TheVariants as kinds
 use Rattle.vpf_triplet.specs.declared.kinds.Count.{Count}
@@ -12,11 +12,11 @@ use Rattle.vpf_triplet.specs.declared.places.Code.TheVariants as codes
 use Rattle.vpf_value.specs.Reading.{cell_from, counted_from, triplet_from}
 use Rattle.vpf_triplet.specs.Reading.{triplet_at}
 use Rattle.vpf_head.specs.Head.{Col, is_data, holds_data}
-use Rattle.vpf_head.specs.Soundness.{IsCounted, IsInBounds}
+use Rattle.vpf_head.specs.Inner.Soundness.{IsCounted, IsInBounds}
 use Rattle.vpf_feed.specs.declared.row_form.form.Field.{Field}
-use Rattle.vpf_feed.specs.RowForm.Form.{form_field, form_fields, extent, IsCutEmpty}
-use Rattle.vpf_feed.specs.RowForm.Told.{told, told_many}
-use Rattle.vpf_feed.specs.RowForm.Walk.{sized_end}
+use Rattle.vpf_feed.specs.Inner.RowForm.Form.{form_field, form_fields, extent, IsCutEmpty}
+use Rattle.vpf_feed.specs.Inner.RowForm.Told.{told, told_many}
+use Rattle.vpf_feed.specs.Inner.RowForm.Walk.{sized_end}
 use Rattle.vpf_feed.proofs.row_form.Sizes.{told_is}
 
 none_sized : (n : ℕ) → 0 < n → sized_end n [] ≡ Err codes.CellCut

@@ -1,11 +1,11 @@
 -- What is left of a file, walked by the form of its rows, comes to what the grammar reads there.
-use Rattle.std.proofs.Common.{◌≡◌, ℕ, zero, suc, ◌+◌, Bool, true, false, cond, leb, List, [], ◌∷◌, length, drop, Result, Ok, Err, refl, sym, ap, ◌∙◌, arith}
+use Rattle.std.proofs.Common.{[], ◌≡◌, ℕ, zero, suc, ◌+◌, Bool, true, false, cond, leb, List, ◌∷◌, length, drop, Result, Ok, Err, refl, sym, ap, ◌∙◌, arith}
 use Rattle.std.proofs.lemmas.Bool.{lt-leb, le-leb, leb-true, leb-false}
 use Rattle.std.proofs.lemmas.List.{drop-drop, length-drop}
 use Rattle.vpf_base.specs.Limits.{most_rows}
 use Rattle.vpf_base.specs.Results.{◌>>=◌}
 use Rattle.vpf_base.proofs.Results.{done}
-use Rattle.vpf_triplet.specs.declared.orders.Order.{Order}
+use Rattle.vpf_base.specs.declared.orders.Order.{Order}
 use Rattle.vpf_triplet.specs.declared.kinds.Kind.{Kind}
 use Rattle.vpf_triplet.specs.declared.kinds.Kind.TheVariants as kinds
 use Rattle.vpf_triplet.specs.declared.places.Place.{Place}
@@ -16,9 +16,9 @@ use Rattle.vpf_head.specs.Head.{Col, is_data}
 use Rattle.vpf_table.specs.Grid.{Row}
 use Rattle.vpf_table.specs.Reading.{cell_in, row_at, rows_at}
 use Rattle.vpf_table.specs.Walking.{end_of, counted}
-use Rattle.vpf_table.proofs.WalkLemmas.{cell_passed, cell_refused}
-use Rattle.vpf_feed.specs.RowForm.Form.{form_field, form_fields, extent}
-use Rattle.vpf_feed.specs.RowForm.Walk.{passed, with_rest, row_left, rows_to_come}
+use Rattle.vpf_table.specs.Inner.WalkLaws.{cell_passed, cell_refused, more_count}
+use Rattle.vpf_feed.specs.Inner.RowForm.Form.{form_field, form_fields, extent}
+use Rattle.vpf_feed.specs.Inner.RowForm.Walk.{passed, with_rest, row_left, rows_to_come}
 
 is_null : (kind : Kind) → is_data kind ≡ false → kind ≡ kinds.X
 is_null kinds.X e = refl
@@ -57,10 +57,6 @@ same_end bytes at = by (leb (length bytes) at) refl
 if_done : (b : Bool) (n : ℕ) (p : Place) → counted n (cond b (Ok []) (Err p)) ≡ cond b (Ok n) (Err p)
 if_done true n p = let z : n + 0 ≡ n = omega arith in ap (λ (k : ℕ). Ok k) z
 if_done false n p = refl
-
-more_count : (before : ℕ) (r : Row) (s : Result (List Row) Place) → counted before (s >>= λ rs. Ok (r ∷ rs)) ≡ counted (before + 1) s
-more_count before r (Ok rs) = ap (λ (k : ℕ). Ok k) (omega arith)
-more_count before r (Err p) = refl
 
 pub rows_are : (n : ℕ) (o : Order) (cs : List Col) (bytes : List ℕ) (before at : ℕ) → rows_to_come n o (form_fields cs) before at (drop at bytes) ≡ counted before (rows_at n o cs bytes at)
 unfolding rows_to_come rows_at

@@ -1,27 +1,21 @@
 -- Rows of one width are passed by their number.
-use Rattle.std.proofs.Common.{◌≡◌, ℕ, zero, suc, ◌+◌, ◌-◌, ◌*◌, ◌<◌, ◌≤◌, List, [], ◌∷◌, ◌++◌, length, drop, Option, Some, None, Result, Ok, refl, sym, ap, ◌∙◌, arith}
+use Rattle.std.proofs.Common.{[], ◌≡◌, ℕ, zero, suc, ◌+◌, ◌-◌, ◌*◌, ◌<◌, ◌≤◌, List, ◌∷◌, ◌++◌, length, drop, Option, Some, Result, Ok, refl, sym, ap, ◌∙◌, arith}
 use Rattle.std.specs.Prelude.{slice_get}
 use Rattle.std.proofs.lemmas.Bool.{lt-leb, le-ltb}
 use Rattle.std.proofs.lemmas.List.{drop-append-le, drop-drop, drop_all, length-append, length-drop}
 use Rattle.vpf_base.proofs.Lists.{next_item}
 use Rattle.vpf_base.specs.Limits.{most_rows}
 use Rattle.vpf_triplet.specs.declared.places.Place.{Place}
-use Rattle.vpf_triplet.specs.declared.orders.Order.{Order}
-use Rattle.vpf_table.specs.Widths.{add_width}
-use Rattle.vpf_table.proofs.FixedWidth.{added}
+use Rattle.vpf_base.specs.declared.orders.Order.{Order}
+use Rattle.vpf_table.specs.Inner.Widths.{add_width}
+use Rattle.vpf_table.specs.Inner.WidthLaws.{added, add_by}
 use Rattle.vpf_feed.specs.declared.row_form.form.Field.{Field}
-use Rattle.vpf_feed.specs.RowForm.Form.{cell_size}
-use Rattle.vpf_feed.specs.RowForm.Told.{told}
-use Rattle.vpf_feed.specs.RowForm.Walk.{row_left, rows_to_come, sized_end}
-use Rattle.vpf_feed.specs.RowForm.Widths.{told_row}
+use Rattle.vpf_feed.specs.Inner.RowForm.Form.{cell_size}
+use Rattle.vpf_feed.specs.Inner.RowForm.Told.{told}
+use Rattle.vpf_feed.specs.Inner.RowForm.Walk.{row_left, rows_to_come, sized_end}
+use Rattle.vpf_feed.specs.Inner.RowForm.Widths.{told_row}
 use Rattle.vpf_feed.proofs.row_form.Sizes.{told_is}
-
-some_is : (a b : ℕ) → Option.Some a ≡ Some b → a ≡ b
-some_is a b e = cc
-
-add_by : (sum x : ℕ) (w : Option ℕ) → add_width (Some (sum + x)) w ≡ add_width (Some sum) (add_width (Some x) w)
-add_by sum x None = refl
-add_by sum x (Some w) = ap (λ (k : ℕ). Some k) (omega arith)
+use Rattle.vpf_base.proofs.Options.{some_is}
 
 -- one cell more
 pub width_step : (o : Order) (sum x : ℕ) (total : Option ℕ) (f : Field) (fs : List Field) → told o f.kind f.count [] ≡ Some x → add_width (Some sum) (told_row o (f ∷ fs)) ≡ total → add_width (Some (sum + x)) (told_row o fs) ≡ total

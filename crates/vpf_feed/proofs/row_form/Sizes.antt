@@ -1,12 +1,12 @@
 -- What the first bytes of a cell tell of it.
-use Rattle.std.proofs.Common.{◌≡◌, ℕ, zero, suc, ◌+◌, ◌*◌, ◌<◌, ◌≤◌, ◌^◌, Bool, true, false, cond, ltb, List, [], ◌∷◌, ◌++◌, length, take, Option, Some, None, Ok, Err, refl, sym, ap, ◌∙◌, append-nil, arith}
+use Rattle.std.proofs.Common.{[], ◌≡◌, ℕ, zero, suc, ◌+◌, ◌*◌, ◌<◌, ◌≤◌, ◌^◌, Bool, true, false, cond, ltb, List, ◌∷◌, ◌++◌, length, take, Some, None, Ok, Err, refl, sym, ap, ◌∙◌, append-nil, arith}
 use Rattle.std.specs.Prelude.{◌≢◌}
 use Rattle.std.specs.Int.{w32}
 use Rattle.std.proofs.lemmas.Bool.{lt-ltb, le-ltb, ltb-true, ltb-false}
 use Rattle.std.proofs.lemmas.List.{length-append}
 use Rattle.vpf_base.specs.Bytes.{IsBytes}
 use Rattle.vpf_base.specs.Results.{◌>>=◌}
-use Rattle.vpf_triplet.specs.declared.orders.Order.{Order}
+use Rattle.vpf_base.specs.declared.orders.Order.{Order}
 use Rattle.vpf_triplet.specs.declared.kinds.Kind.{Kind}
 use Rattle.vpf_triplet.specs.declared.kinds.Kind.TheVariants as kinds
 use Rattle.vpf_triplet.specs.declared.kinds.Count.{Count}
@@ -18,7 +18,7 @@ use Rattle.vpf_triplet.specs.declared.sizes.Size.TheVariants.{Absent, One, Two, 
 use Rattle.vpf_triplet.specs.Faults as triplets
 use Rattle.vpf_triplet.specs.Faults.{FirstTripletFault}
 use Rattle.vpf_triplet.specs.Sizes.{size_bytes}
-use Rattle.vpf_triplet.specs.Numbers.{number_of}
+use Rattle.vpf_base.specs.Numbers.{number_of}
 use Rattle.vpf_value.specs.declared.coords.WordWidth.{WordWidth}
 use Rattle.vpf_value.specs.declared.coords.WordWidth.TheVariants as widths
 use Rattle.vpf_value.specs.declared.coords.Tuple.{Tuple}
@@ -27,13 +27,14 @@ use Rattle.vpf_value.specs.Faults.{FirstCellFault}
 use Rattle.vpf_value.specs.Values.{Value, TextOf}
 use Rattle.vpf_value.specs.Words.{word_bytes, tuple_len}
 use Rattle.vpf_value.specs.Reading.{CellAnswer, sized, text_from, tuples_from, counted_from, many_from, cell_from}
-use Rattle.vpf_table.specs.Lower.{CellAndHeaderLaws}
+use Rattle.vpf_table.specs.Inner.Lower.{CellAndHeaderLaws}
 use Rattle.vpf_feed.proofs.staying.Staying.{number4_stays, cell_goes_on, cell_stays_refused}
 use Rattle.vpf_feed.specs.declared.row_form.form.Field.{Field}
 use Rattle.vpf_feed.specs.declared.row_form.looking.Look.TheVariants as looks
-use Rattle.vpf_feed.specs.RowForm.Form.{extent, cell_size, IsCutEmpty}
-use Rattle.vpf_feed.specs.RowForm.Told.{told_many, told}
-use Rattle.vpf_feed.specs.RowForm.Walk.{sized_end, TellsCell}
+use Rattle.vpf_feed.specs.Inner.RowForm.Form.{extent, cell_size, IsCutEmpty}
+use Rattle.vpf_feed.specs.Inner.RowForm.Told.{told_many, told}
+use Rattle.vpf_feed.specs.Inner.RowForm.Walk.{sized_end, TellsCell}
+use Rattle.vpf_base.proofs.Options.{some_is}
 
 -- ---- sizes that are told
 
@@ -77,9 +78,6 @@ counted_is o read size (a ∷ b ∷ c ∷ d ∷ rest) each h =
 counted_cut : (o : Order) (read : ℕ → List ℕ → CellAnswer) (bytes : List ℕ) → length bytes < 4 → extent (counted_from o read bytes) ≡ Err codes.CellCut
 unfolding counted_from
 counted_cut o read bytes h = rw (lt-ltb (length bytes) 4 h) refl
-
-some_is : (a b : ℕ) → Option.Some a ≡ Some b → a ≡ b
-some_is a b e = cc
 
 told_star : (o : Order) (size : ℕ) (bytes : List ℕ) (n : ℕ) → told_many o size Star bytes ≡ Some n → (4 ≤ length bytes) × (4 + size * number_of o w32 bytes ≡ n)
 told_star o size bytes n e = by (ltb (length bytes) 4) refl e

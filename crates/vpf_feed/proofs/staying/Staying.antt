@@ -4,8 +4,8 @@ use Rattle.std.specs.Prelude.{◌≢◌}
 use Rattle.std.specs.Int.{w32}
 use Rattle.std.proofs.lemmas.List.{drop-append-le, take-append-le, take-append-drop, length-append, length-drop, length-take-le}
 use Rattle.vpf_base.specs.Bytes.{IsBytes}
-use Rattle.vpf_triplet.specs.declared.orders.Order.{Order}
-use Rattle.vpf_triplet.specs.declared.orders.Order.TheVariants.{Little, Big}
+use Rattle.vpf_base.specs.declared.orders.Order.{Order}
+use Rattle.vpf_base.specs.declared.orders.Order.TheVariants.{Little, Big}
 use Rattle.vpf_triplet.specs.declared.kinds.Kind.{Kind}
 use Rattle.vpf_triplet.specs.declared.kinds.Kind.TheVariants as kinds
 use Rattle.vpf_triplet.specs.declared.kinds.Count.{Count}
@@ -17,7 +17,7 @@ use Rattle.vpf_triplet.specs.declared.sizes.Size.{Size}
 use Rattle.vpf_triplet.specs.declared.sizes.Size.TheVariants.{Absent, One, Two, Four}
 use Rattle.vpf_triplet.specs.Faults as triplets
 use Rattle.vpf_triplet.specs.Faults.{FirstTripletFault, IsLarge}
-use Rattle.vpf_triplet.specs.Numbers.{number_of}
+use Rattle.vpf_base.specs.Numbers.{number_of}
 use Rattle.vpf_triplet.specs.Places.{fault}
 use Rattle.vpf_triplet.specs.Sizes.{size_bytes}
 use Rattle.vpf_value.specs.Faults.{FirstCellFault, AreCut}
@@ -30,8 +30,8 @@ use Rattle.vpf_head.specs.Reading.{header_of, order_of}
 use Rattle.vpf_table.specs.Faults as faults
 use Rattle.vpf_table.specs.Faults.{Begins, Stops, TableFault, FirstFault}
 use Rattle.vpf_table.specs.Grid.{Row}
-use Rattle.vpf_table.specs.Lower.{CellAndHeaderLaws}
-use Rattle.vpf_feed.specs.Staying.Staying.{order_bytes}
+use Rattle.vpf_table.specs.Inner.Lower.{CellAndHeaderLaws}
+use Rattle.vpf_feed.specs.Inner.Staying.Staying.{order_bytes}
 
 -- ---- numbers at the front
 

@@ -2,10 +2,10 @@
 
 ghost use Rattle.std.specs.Prelude.{◌≡◌, ◌<◌, ◌^◌, ◌∷◌, ◌++◌, ℕ, List, IfOk, OnOk, Some};
 ghost use Rattle.vpf_head.specs.Head.{Col};
-ghost use Rattle.vpf_head.specs.Views.{col};
-ghost use Rattle.vpf_feed.specs.RowForm.Form.{form_fields};
-ghost use Rattle.vpf_feed.specs.RowForm.Rows.{IsForm};
-ghost use Rattle.vpf_feed.specs.RowForm.Widths.{told_row};
+ghost use Rattle.vpf_head.specs.Inner.Views.{col};
+ghost use Rattle.vpf_feed.specs.Inner.RowForm.Form.{form_fields};
+ghost use Rattle.vpf_feed.specs.Inner.RowForm.Rows.{IsForm};
+ghost use Rattle.vpf_feed.specs.Inner.RowForm.Widths.{told_row};
 
 use crate::row_form::widths::row_width;
 use std::alloc::{AllocError, Global};

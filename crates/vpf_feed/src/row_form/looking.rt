@@ -3,9 +3,9 @@
 ghost use Rattle.std.specs.Prelude.{◌≡◌, ◌<◌, ◌≤◌, ◌^◌, Err, IfSome, length};
 ghost use Rattle.vpf_base.specs.Bytes.{IsBytes};
 ghost use Rattle.vpf_triplet.specs.declared.places.Code.TheVariants as codes;
-ghost use Rattle.vpf_feed.specs.RowForm.Form.{cell_size, IsCutEmpty};
-ghost use Rattle.vpf_feed.specs.RowForm.Told.{value_size, told_many, told};
-ghost use Rattle.vpf_feed.specs.RowForm.Walk.{TellsCell};
+ghost use Rattle.vpf_feed.specs.Inner.RowForm.Form.{cell_size, IsCutEmpty};
+ghost use Rattle.vpf_feed.specs.Inner.RowForm.Told.{value_size, told_many, told};
+ghost use Rattle.vpf_feed.specs.Inner.RowForm.Walk.{TellsCell};
 
 use crate::row_form::form::Field;
 use crate::staying::laws::cells_and_headers;

@@ -2,8 +2,8 @@
 
 ghost use Rattle.std.specs.Prelude.{IfSome};
 ghost use Rattle.std.specs.List.{All};
-ghost use Rattle.vpf_feed.specs.RowForm.Form.{IsCutEmpty};
-ghost use Rattle.vpf_feed.specs.RowForm.Walk.{IsWholeCell, IsWholeRow};
+ghost use Rattle.vpf_feed.specs.Inner.RowForm.Form.{IsCutEmpty};
+ghost use Rattle.vpf_feed.specs.Inner.RowForm.Walk.{IsWholeCell, IsWholeRow};
 
 use crate::row_form::form::{Field, RowForm};
 use crate::row_form::looking::{Look, look_at, told};

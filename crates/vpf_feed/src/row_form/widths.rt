@@ -1,7 +1,7 @@
 //! Rows of one width.
 
 ghost use Rattle.std.specs.Prelude.{◌≡◌, ◌<◌, ◌^◌, ℕ, IfSome, Some};
-ghost use Rattle.vpf_feed.specs.RowForm.Widths.{told_row};
+ghost use Rattle.vpf_feed.specs.Inner.RowForm.Widths.{told_row};
 
 use crate::row_form::form::Field;
 use crate::row_form::looking::told;

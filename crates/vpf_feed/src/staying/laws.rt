@@ -2,7 +2,7 @@
 
 ghost use Rattle.std.specs.Prelude.{◌≡◌, ◌≤◌, ◌≢◌, ◌⊎◌, ◌++◌, ℕ, List, None, Ok, Err, length};
 ghost use Rattle.vpf_base.specs.Bytes.{IsBytes};
-ghost use Rattle.vpf_triplet.specs.declared.orders.Order.{Order};
+ghost use Rattle.vpf_base.specs.declared.orders.Order.{Order};
 ghost use Rattle.vpf_triplet.specs.declared.kinds.Kind.{Kind};
 ghost use Rattle.vpf_triplet.specs.declared.kinds.Count.{Count};
 ghost use Rattle.vpf_triplet.specs.declared.places.Place.{Place};
@@ -13,8 +13,8 @@ ghost use Rattle.vpf_value.specs.Reading.{cell_from};
 ghost use Rattle.vpf_head.specs.Head.{Head};
 ghost use Rattle.vpf_head.specs.Reading.{header_of};
 ghost use Rattle.vpf_table.specs.Faults.{FirstFault};
-ghost use Rattle.vpf_table.specs.Lower.{CellAndHeaderLaws};
-ghost use Rattle.vpf_feed.specs.Staying.Staying.{order_bytes, MayGoOn};
+ghost use Rattle.vpf_table.specs.Inner.Lower.{CellAndHeaderLaws};
+ghost use Rattle.vpf_feed.specs.Inner.Staying.Staying.{order_bytes, MayGoOn};
 
 use vpf_head::laws as headers;
 use vpf_value::laws as cells;

@@ -119,7 +119,7 @@ struct Words<'a> {
 
 impl fmt::Display for Words<'_> {
     ghost use Rattle.std.specs.Prelude.{Some};
-    ghost use Rattle.vpf_value.specs.Coordinates.{words, words_width};
+    ghost use Rattle.vpf_value.specs.Inner.Coordinates.{words, words_width};
     ghost use Rattle.vpf_findings.specs.Text.Cells.{words_text};
 
     ghost output = { λ w. Some (words_text (tuple_len_of w.kind) (words_width w.coords) 0 (words w.coords)) };
@@ -144,7 +144,7 @@ struct Tuples<'a>(Words<'a>);
 
 impl fmt::Display for Tuples<'_> {
     ghost use Rattle.std.specs.Prelude.{Some};
-    ghost use Rattle.vpf_value.specs.Coordinates.{words, words_width};
+    ghost use Rattle.vpf_value.specs.Inner.Coordinates.{words, words_width};
     ghost use Rattle.vpf_findings.specs.Text.Cells.{coords_text};
 
     ghost output = { λ t. Some (coords_text (tuple_len_of t.0.kind) (words_width t.0.coords) (words t.0.coords)) };

@@ -1,5 +1,5 @@
 -- The tables of edges and of nodes, by the darts that their rows are of.
-use Rattle.std.proofs.Common.{◌≡◌, ℕ, Bool, true, false, cond, eqb, List, [], ◌∷◌, length, codes, Some, None, sym, ap, ◌∙◌, subst, inl, inr}
+use Rattle.std.proofs.Common.{[], ◌≡◌, ℕ, Bool, true, false, cond, eqb, List, ◌∷◌, length, codes, Some, None, sym, ap, ◌∙◌, subst, inl, inr}
 use Rattle.std.specs.Prelude.{filter}
 use Rattle.std.specs.List.{AllByRecursion}
 use Rattle.std.proofs.lemmas.Bool.{and_parts, cases_Bool}
@@ -17,17 +17,17 @@ use Rattle.vpf_prims.specs.Primitives.{EdgePrimitive, Library, NodePrimitive, ab
 use Rattle.vpf_prims.specs.Reading.{PrimitiveTables, edge_in_row, node_in_row}
 use Rattle.vpf_prims.specs.References.{id_of, plain}
 use Rattle.vpf_write.specs.Revise.Revising.{revised}
-use Rattle.vpf_wing.specs.DartLaws.{flip-edge, flip-tile, has-there}
+use Rattle.vpf_wing.specs.Inner.DartLaws.{flip-edge, flip-tile, has-there}
 use Rattle.vpf_wing.specs.Links.{DartLinks, edge_of_dart, is_minus, links_of, node_by, tail_node}
 use Rattle.vpf_follow.specs.Following.{is_home}
 use Rattle.vpf_tiling.specs.Ranks.{is_least}
 use Rattle.vpf_tiling.specs.Tiles.{first_edge_at}
 use Rattle.vpf_renumbering.specs.Glued.{first_darts, glued_edge, glued_edges, glued_node, plus_darts}
 use Rattle.vpf_primitive_tables.specs.TableForms.Forms.{EdgeValues, edge_values_of, pair_values}
-use Rattle.vpf_primitive_tables.proofs.tile_reading.NumberLemmas.{read_numbered}
-use Rattle.vpf_primitive_tables.proofs.tile_reading.OwnLemmas.{all_passing}
+use Rattle.vpf_primitive_tables.specs.Inner.TileReading.NumberLaws.{read_numbered}
+use Rattle.vpf_primitive_tables.specs.Inner.TileReading.OwnLaws.{all_passing}
 use Rattle.vpf_glue.specs.GluedTables.Grids.{glued_edge_row, glued_node_row, number_values, whole_in}
-use Rattle.vpf_glue.specs.GluedReading.Laws.{AreJoined, EdgesAreRead, NodesAreRead, glued_edge_columns, edge_with, pair_columns}
+use Rattle.vpf_glue.specs.Inner.GluedReading.Laws.{AreJoined, EdgesAreRead, NodesAreRead, glued_edge_columns, edge_with, pair_columns}
 use Rattle.vpf_glue.proofs.glued_reading.RowLemmas.{edge_rows_say, node_rows_say}
 use Rattle.vpf_glue.proofs.glued_reading.TileLemmas.{IsThere, edge_read, edge_there, edges_of, node_read, node_there, nodes_of, row_is, row_whole, tables_there}
 

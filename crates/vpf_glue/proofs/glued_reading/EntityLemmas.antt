@@ -1,5 +1,5 @@
 -- The table of entity nodes: those of all tiles, where any tile has a table of them.
-use Rattle.std.proofs.Common.{◌≡◌, ℕ, zero, suc, ◌+◌, ◌<◌, ◌≤◌, Bool, true, false, cond, List, [], ◌∷◌, ◌++◌, length, map, codes, get_or, Option, Some, None, refl, sym, ap, ◌∙◌, subst, inl, inr, arith}
+use Rattle.std.proofs.Common.{[], ◌≡◌, ℕ, zero, suc, ◌+◌, ◌<◌, ◌≤◌, Bool, true, false, cond, List, ◌∷◌, ◌++◌, length, map, codes, get_or, Option, Some, None, refl, sym, ap, ◌∙◌, subst, inl, inr, arith}
 use Rattle.std.specs.Prelude.{flat_map, is_some}
 use Rattle.std.specs.List.{AllByRecursion, list_any, range_with_len}
 use Rattle.std.specs.Option.{option_and_then, option_map, option_or, unwrap_or}
@@ -18,12 +18,13 @@ use Rattle.vpf_tiling.specs.Ranks.{numbered, numbered_from, up_to}
 use Rattle.vpf_renumbering.specs.TilingLawsWhole.{WholeEntity, face_here, has_entities, tiles_in, whole_entities}
 use Rattle.vpf_renumbering.specs.Glued.{glued_entity}
 use Rattle.vpf_glue.specs.GluedTables.Grids.{EntitySource, entity_source, entity_sources, first_end, glued_entity_grid, glued_entity_row, sources_in_table, whole_in}
-use Rattle.vpf_glue.specs.GluedTables.Laws.{AreOfTiles}
-use Rattle.vpf_glue.specs.GluedReading.Laws.{AreJoined, GluedTablesAreRead, pair_columns}
+use Rattle.vpf_glue.specs.Inner.GluedTables.Laws.{AreOfTiles}
+use Rattle.vpf_glue.specs.Inner.GluedReading.Laws.{AreJoined, GluedTablesAreRead, pair_columns}
 use Rattle.vpf_glue.proofs.glued_reading.DartLemmas.{edges_are_read, nodes_are_read}
 use Rattle.vpf_glue.proofs.glued_reading.FaceLemmas.{faces_are_read}
 use Rattle.vpf_glue.proofs.glued_reading.RowLemmas.{entity_rows_say, rings_are_read}
 use Rattle.vpf_glue.proofs.glued_reading.TileLemmas.{first_is}
+use Rattle.vpf_base.proofs.Lists.{within}
 
 -- ---- the first table
 
@@ -73,11 +74,6 @@ any_range p a (suc n) t low high e = elim (cases_eq a t) [
 none_any : (p : ℕ → Bool) (xs : List ℕ) → ((x : ℕ) → p x ≡ false) → list_any p xs ≡ false
 none_any p [] none = refl
 none_any p (x ∷ xs) none = rw (none x, none_any p xs none) refl
-
-within : {X : Type 0} (xs : List (Option X)) (t : ℕ) (x : X) → get_or xs t None ≡ Some x → t < length xs
-within [] t x e = absurd cc
-within (y ∷ xs) zero x e = omega arith
-within (y ∷ xs) (suc t) x e = (let r = within xs t x e in omega (arith, r))
 
 any_tile : (p : ℕ → Bool) (last t : ℕ) → t ≤ last → p t ≡ true → list_any p (0 ∷ up_to last) ≡ true
 any_tile p last zero h e = rw e refl

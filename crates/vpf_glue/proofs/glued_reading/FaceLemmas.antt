@@ -1,6 +1,6 @@
 -- The table of faces: the universe, and the faces of all tiles.
-use Rattle.std.proofs.Common.{◌≡◌, ℕ, suc, ◌+◌, ◌<◌, List, [], ◌∷◌, ◌++◌, length, map, codes, get_or, Option, Some, refl, sym, ap, ◌∙◌, subst, arith}
-use Rattle.std.specs.Prelude.{flat_map, ◌==◌}
+use Rattle.std.proofs.Common.{[], ◌≡◌, ℕ, suc, ◌+◌, ◌<◌, List, ◌∷◌, length, map, codes, get_or, Option, Some, refl, sym, ap, ◌∙◌, subst, arith}
+use Rattle.std.specs.Prelude.{◌==◌}
 use Rattle.std.specs.List.{AllByRecursion}
 use Rattle.std.specs.Option.{option_map, unwrap_or}
 use Rattle.vpf_value.specs.Values.{Value}
@@ -21,11 +21,12 @@ use Rattle.vpf_tiling.specs.Tiles.{Ring}
 use Rattle.vpf_renumbering.specs.TilingLawsWhole.{WholeFace, rest_of, tiles_in, whole_face, whole_faces}
 use Rattle.vpf_renumbering.specs.Glued.{glued_face, glued_rings}
 use Rattle.vpf_primitive_tables.specs.TableForms.Forms.{pair_values}
-use Rattle.vpf_primitive_tables.proofs.tile_reading.NumberLemmas.{read_numbered}
+use Rattle.vpf_primitive_tables.specs.Inner.TileReading.NumberLaws.{read_numbered}
 use Rattle.vpf_glue.specs.GluedTables.Grids.{glued_face_row, row_in, whole_in}
-use Rattle.vpf_glue.specs.GluedReading.Laws.{AreJoined, FacesAreRead, pair_columns}
+use Rattle.vpf_glue.specs.Inner.GluedReading.Laws.{AreJoined, FacesAreRead, pair_columns}
 use Rattle.vpf_glue.proofs.glued_reading.RowLemmas.{face_rows_say}
 use Rattle.vpf_glue.proofs.glued_reading.TileLemmas.{IsThere, face_read, face_there, faces_of, first_is, row_is, row_whole, tables_there}
+use Rattle.vpf_base.proofs.Lists.{all_flat}
 
 -- ---- lists
 
@@ -33,14 +34,6 @@ use Rattle.vpf_glue.proofs.glued_reading.TileLemmas.{IsThere, face_read, face_th
 numbered_map : (X Y R : Type 0) (n : ℕ) (f : ℕ → Y → R) (g : X → Y) (xs : List X) → numbered_from n f (map g xs) ≡ numbered_from n (λ k x. f k (g x)) xs
 numbered_map X Y R n f g [] = refl
 numbered_map X Y R n f g (x ∷ xs) = ap (λ (rows : List R). f n (g x) ∷ rows) (numbered_map X Y R (suc n) f g xs)
-
-all_joined : {X : Type 0} (P : X → Type 0) (xs ys : List X) → AllByRecursion P xs → AllByRecursion P ys → AllByRecursion P (xs ++ ys)
-all_joined P [] ys all rest = rest
-all_joined P (x ∷ xs) ys all rest = (all.0, all_joined P xs ys all.1 rest)
-
-all_flat : {X Y : Type 0} (P : Y → Type 0) (f : X → List Y) (xs : List X) → ((x : X) → AllByRecursion P (f x)) → AllByRecursion P (flat_map f xs)
-all_flat P f [] each = tt
-all_flat P f (x ∷ xs) each = all_joined P (f x) (flat_map f xs) (each x) (all_flat P f xs each)
 
 -- the items of the one list are those of the other from a number on
 abbrev AreFrom : (xs ys : List FacePrimitive) → ℕ → Type 0

@@ -1,5 +1,5 @@
 -- What rows of tiles with new values say in the glued tables.
-use Rattle.std.proofs.Common.{◌≡◌, ℕ, List, [], ◌∷◌, ◌++◌, length, Some, codes, append-nil, refl, sym, ap, ◌∙◌, subst, inl, inr}
+use Rattle.std.proofs.Common.{[], ◌≡◌, ℕ, List, ◌∷◌, ◌++◌, length, Some, codes, append-nil, refl, sym, ap, ◌∙◌, subst, inl, inr}
 use Rattle.std.specs.Prelude.{◌⊎◌}
 use Rattle.std.specs.List.{AllByRecursion}
 use Rattle.std.proofs.lemmas.List.{length-map}
@@ -16,15 +16,15 @@ use Rattle.vpf_prims.specs.Suiting.{HasRoles}
 use Rattle.vpf_tiling.specs.Tiles.{Ring, numbered_ring}
 use Rattle.vpf_renumbering.specs.Glued.{glued_rings}
 use Rattle.vpf_primitive_tables.specs.TableForms.Forms.{EdgeValues, bare_row, edge_kinds_of, edge_values_of, named_value, natural_value, pair_kinds, ring_kinds, ring_values}
-use Rattle.vpf_primitive_tables.proofs.tile_reading.CarriedLemmas.{carried_kept}
-use Rattle.vpf_primitive_tables.proofs.tile_reading.CellLemmas.{cell_new, mark_kept, values_said}
-use Rattle.vpf_primitive_tables.proofs.tile_reading.NumberLemmas.{read_numbered}
-use Rattle.vpf_primitive_tables.proofs.tile_reading.RowLemmas.{SuitRoles, entity_said, face_said, node_said, ring_said}
+use Rattle.vpf_primitive_tables.specs.Inner.TileReading.CarriedLaws.{carried_kept}
+use Rattle.vpf_primitive_tables.specs.Inner.TileReading.CellLaws.{cell_new, mark_kept, values_said}
+use Rattle.vpf_primitive_tables.specs.Inner.TileReading.NumberLaws.{read_numbered}
+use Rattle.vpf_primitive_tables.specs.Inner.TileReading.RowLaws.{SuitRoles, entity_said, face_said, node_said, ring_row_said as ring_said}
 use Rattle.vpf_glue.specs.GluedTables.Grids.{whole_in}
 use Rattle.vpf_glue.proofs.glued_tables.LikeRows.{AreAlike, stand_alike}
 use Rattle.vpf_glue.proofs.glued_tables.PlaceLemmas.{as_many}
 use Rattle.vpf_glue.proofs.glued_tables.TileRows.{edges_alike, entities_alike, faces_alike, nodes_alike}
-use Rattle.vpf_glue.specs.GluedReading.Laws.{EdgeRowsSay, EntityRowsSay, FaceRowsSay, NodeRowsSay, RingsAreRead, edge_with}
+use Rattle.vpf_glue.specs.Inner.GluedReading.Laws.{EdgeRowsSay, EntityRowsSay, FaceRowsSay, NodeRowsSay, RingsAreRead, edge_with}
 use Rattle.vpf_glue.proofs.glued_reading.CarriedLemmas.{carried_alike}
 
 -- ---- two tables

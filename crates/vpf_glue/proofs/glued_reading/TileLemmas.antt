@@ -1,22 +1,22 @@
 -- Rows of tiles by their numbers, and what they say.
-use Rattle.std.proofs.Common.{◌≡◌, ℕ, true, [], length, Option, Some, None, refl, ap, ◌∙◌, subst, arith}
+use Rattle.std.proofs.Common.{[], ◌≡◌, ℕ, true, length, Option, Some, None, refl, ap, ◌∙◌, subst, arith}
 use Rattle.std.specs.Option.{option_map, unwrap_or}
 use Rattle.std.proofs.lemmas.List.{length-map}
 use Rattle.vpf_table.specs.Grid.{Grid, Row}
 use Rattle.vpf_prims.specs.Coverages.{CoverageTables, tile_at}
-use Rattle.vpf_prims.specs.Laws.{IsFilled}
+use Rattle.vpf_prims.specs.Inner.Laws.{IsFilled}
 use Rattle.vpf_prims.specs.Libraries.{library_of, primitives_in}
 use Rattle.vpf_prims.specs.Lists.{kth}
 use Rattle.vpf_prims.specs.Numbering.{IsRowOf}
 use Rattle.vpf_prims.specs.Primitives.{absent_edge, absent_face, absent_node, edge_count, edges_in, face_count, faces_in, has_tables, is_there, node_count, nodes_in, tile_edges, tile_faces, tile_nodes}
 use Rattle.vpf_prims.specs.Reading.{PrimitiveTables, edge_in_row, face_in_row, node_in_row}
 use Rattle.vpf_prims.specs.Tables.{TileTables}
-use Rattle.vpf_library_files.specs.Loading.Laws.{IsNamedApart}
+use Rattle.vpf_library_files.specs.Inner.Loading.Laws.{IsNamedApart}
 use Rattle.vpf_cross.specs.CarriedLines.{first_tile}
-use Rattle.vpf_primitive_tables.proofs.tile_reading.NumberLemmas.{kth_has, kth_map}
+use Rattle.vpf_primitive_tables.specs.Inner.TileReading.NumberLaws.{kth_has, kth_map}
 use Rattle.vpf_glue.specs.GluedTables.Grids.{first_tables, row_in}
-use Rattle.vpf_glue.specs.GluedTables.Laws.{AreOfTiles}
-use Rattle.vpf_glue.specs.GluedReading.Laws.{AreJoined}
+use Rattle.vpf_glue.specs.Inner.GluedTables.Laws.{AreOfTiles}
+use Rattle.vpf_glue.specs.Inner.GluedReading.Laws.{AreJoined}
 
 -- the tables of the first tile
 pub record IsFirst (c : CoverageTables) (first : PrimitiveTables) : Type 0 where

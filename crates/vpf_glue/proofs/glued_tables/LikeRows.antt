@@ -1,5 +1,5 @@
 -- A row that fits a table fits another one with the same columns, but for the columns that get new values.
-use Rattle.std.proofs.Common.{◌≡◌, ℕ, zero, suc, Bool, true, false, List, [], ◌∷◌, ◌++◌, length, Option, Some, None, slice_get, refl, sym, ap, ◌∙◌, subst, inl, inr}
+use Rattle.std.proofs.Common.{[], ◌≡◌, ℕ, zero, suc, Bool, true, false, List, ◌∷◌, ◌++◌, length, Option, Some, None, slice_get, refl, sym, ap, ◌∙◌, subst, inl, inr}
 use Rattle.std.specs.Prelude.{find, ◌==◌}
 use Rattle.std.specs.List.{AllByRecursion, IsDistinct}
 use Rattle.std.specs.Option.{option_and_then, option_map, option_or}
@@ -7,7 +7,7 @@ use Rattle.std.proofs.lemmas.Bool.{cases_Bool, eq-eqb}
 use Rattle.std.proofs.lemmas.List.Folds.{find-append}
 use Rattle.vpf_triplet.specs.declared.kinds.Kind.{Kind}
 use Rattle.vpf_triplet.specs.declared.kinds.Count.{Count}
-use Rattle.vpf_value.specs.Fitting.{FitsCell}
+use Rattle.vpf_value.specs.Inner.Fitting.{FitsCell}
 use Rattle.vpf_value.specs.Values.{Value}
 use Rattle.vpf_head.specs.Folding.{same_name}
 use Rattle.vpf_head.specs.Head.{Col, names, place_of}
@@ -21,7 +21,7 @@ use Rattle.vpf_write.specs.declared.revise.changes.NewKind.{NewKind}
 use Rattle.vpf_write.specs.Revise.Revising.{FitsElsewhere, NewValue, revised_column, value_for, with_kinds}
 use Rattle.vpf_primitive_tables.specs.TableForms.Forms.{named_value}
 use Rattle.vpf_glue.proofs.glued_tables.PlaceLemmas.{StandAlike, as_many, beside, stands_at}
-use Rattle.vpf_primitive_tables.proofs.table_forms.ColumnLemmas.{same_names}
+use Rattle.vpf_primitive_tables.specs.Inner.TableForms.ColumnLaws.{same_names}
 
 -- two tables whose columns are like those of a third
 pub record AreAlike (roles : List Role) (like there : List Col) : Type 0 where

@@ -1,5 +1,5 @@
 -- Columns that stand at the same places in two tables.
-use Rattle.std.proofs.Common.{◌≡◌, ℕ, zero, suc, ◌<◌, Bool, true, List, [], ◌∷◌, length, get_or, Some, slice_get, refl, sym, ap, ◌∙◌, inl, inr, arith}
+use Rattle.std.proofs.Common.{[], ◌≡◌, ℕ, zero, suc, ◌<◌, Bool, true, List, ◌∷◌, length, get_or, Some, slice_get, refl, sym, ap, ◌∙◌, inl, inr, arith}
 use Rattle.std.specs.Prelude.{nat_lt}
 use Rattle.std.specs.List.{IsDistinct, position_or_len}
 use Rattle.std.proofs.lemmas.Bool.{cases_Bool, lt-ltb}
@@ -10,7 +10,7 @@ use Rattle.vpf_head.specs.Folding.{same_name}
 use Rattle.vpf_head.specs.Head.{Col, names, place_of}
 use Rattle.vpf_prims.specs.Reading.{has_role}
 use Rattle.vpf_prims.specs.Roles.{Role}
-use Rattle.vpf_primitive_tables.proofs.table_forms.ColumnLemmas.{place_is, same_names}
+use Rattle.vpf_primitive_tables.specs.Inner.TableForms.ColumnLaws.{place_is, same_names}
 
 -- there is a first item that passes where one does
 first_within : {X : Type 0} (p : X → Bool) (xs : List X) (k : ℕ) (d : X) → k < length xs → p (get_or xs k d) ≡ true → position_or_len p xs < length xs

@@ -1,8 +1,8 @@
 -- The rows of the tables of a coverage's tiles fit the tables that are written like another tile's.
-use Rattle.std.proofs.Common.{◌≡◌, ℕ, zero, suc, ◌<◌, Bool, true, false, List, [], ◌∷◌, length, map, get_or, Option, Some, None, slice_get, refl, sym, ap, ◌∙◌, subst, inl, inr, arith}
+use Rattle.std.proofs.Common.{[], ◌≡◌, ℕ, zero, suc, Bool, true, false, List, ◌∷◌, get_or, Option, Some, None, slice_get, refl, sym, ap, ◌∙◌, subst, inl, inr, arith}
 use Rattle.std.specs.Prelude.{All, codes, ◌⊎◌}
 use Rattle.std.specs.List.{IsDistinct}
-use Rattle.std.specs.Option.{option_and_then, option_map}
+use Rattle.std.specs.Option.{option_and_then}
 use Rattle.std.proofs.lemmas.Bool.{cases_Bool, false≢true}
 use Rattle.std.proofs.lemmas.List.Elements.{All-get_or}
 use Rattle.std.proofs.lemmas.Option.{get_or_from_slice_get, slice_get_within}
@@ -12,7 +12,7 @@ use Rattle.vpf_triplet.specs.declared.kinds.Kind.TheVariants as kinds
 use Rattle.vpf_triplet.specs.Kinds.{allows}
 use Rattle.vpf_head.specs.Folding.{same_name}
 use Rattle.vpf_head.specs.Head.{Col, names}
-use Rattle.vpf_head.specs.Soundness.{IsCounted}
+use Rattle.vpf_head.specs.Inner.Soundness.{IsCounted}
 use Rattle.vpf_table.specs.Canonical.{FitsRow}
 use Rattle.vpf_table.specs.Grid.{Grid, Row}
 use Rattle.vpf_prims.specs.Columns.{column_of}
@@ -26,15 +26,15 @@ use Rattle.vpf_numbers.specs.Matching.{AreLike, HaveSameColumns, form_of}
 use Rattle.vpf_write.specs.declared.revise.changes.NewKind.{NewKind}
 use Rattle.vpf_write.specs.Revise.Revising.{FitsElsewhere, NewValue, with_kinds}
 use Rattle.vpf_primitive_tables.specs.TableForms.Forms.{EdgeValues, edge_kinds_of, edge_values_of, named_value, natural_value, pair_kinds, pair_values}
-use Rattle.vpf_primitive_tables.proofs.table_forms.ColumnLemmas.{one_value}
-use Rattle.vpf_glue.specs.GluedTables.Laws.{AreOfTiles, FitThere}
+use Rattle.vpf_primitive_tables.specs.Inner.TableForms.ColumnLaws.{one_value}
+use Rattle.vpf_glue.specs.Inner.GluedTables.Laws.{AreOfTiles, FitThere}
 use Rattle.vpf_glue.proofs.glued_tables.LikeRows.{AreAlike, KeepForms, PlacesColumns, carried_forms, fits_alike, none_of_both, stand_alike, unnamed}
 use Rattle.vpf_glue.proofs.glued_tables.PlaceLemmas.{StandAlike, role_alike, same_too, stands_at}
+use Rattle.vpf_base.proofs.Booleans.{either}
+use Rattle.vpf_base.proofs.Lists.{within}
+use Rattle.vpf_cross.specs.Inner.LikeLaws.{tables_of_tiles}
 
 -- ---- two tiles
-
-abbrev tables_of_tiles : List (Option TileTables) → List (Option PrimitiveTables)
-tables_of_tiles tiles = map (option_map (λ (T : TileTables). T.tables)) tiles
 
 some_columns : (o : Option Grid) (rest : Option (List Col)) (g : Grid) → o ≡ Some g → columns_or o rest ≡ Some g.head.columns
 some_columns None rest g e = absurd cc
@@ -77,11 +77,6 @@ alike_of roles of c like there a tiled one other =
       apart_there = a.apart_there;
     }
 
-within : {X : Type 0} (xs : List (Option X)) (t : ℕ) (x : X) → get_or xs t None ≡ Some x → t < length xs
-within [] t x e = absurd cc
-within (y ∷ xs) zero x e = omega arith
-within (y ∷ xs) (suc t) x e = (let r = within xs t x e in omega (arith, r))
-
 same_some : {X : Type 0} (x y : X) → Some x ≡ Some y → x ≡ y
 same_some x y e = cc
 
@@ -94,10 +89,6 @@ only_table of c like there a untiled =
     let same : a.tile ≡ a.other = omega (arith, one, low, other) in
     let tiles : a.T ≡ a.U = same_some a.T a.U (sym a.has ∙ ap (tile_at c) same ∙ a.has_other) in
     same_some like there (sym a.table ∙ ap (λ (T : TileTables). of T.tables) tiles ∙ a.table_there)
-
-either : (b : Bool) {P : Type 0} → (b ≡ true → P) → (b ≡ false → P) → P
-either true f g = f refl
-either false f g = g refl
 
 -- two tables are alike, or one
 alike_or_one : (roles : List Role) (of : PrimitiveTables → Option Grid) (c : CoverageTables) (like there : Grid) → AreOfTiles of c like there

@@ -1,6 +1,6 @@
 //! What is so of the rows of the tables of every glued coverage.
 
-ghost use Rattle.vpf_glue.specs.GluedReading.Laws.{EdgeRowsSay, EntityRowsSay, FaceRowsSay, GluedTablesAreRead, NodeRowsSay, RingsAreRead};
+ghost use Rattle.vpf_glue.specs.Inner.GluedReading.Laws.{EdgeRowsSay, EntityRowsSay, FaceRowsSay, GluedTablesAreRead, NodeRowsSay, RingsAreRead};
 
 /// A row of a tile's table with new values says, in the glued table, the new number and the new references, and the mark and all that it
 /// carries in its own table. The table of rings says the rings of the glued coverage.

@@ -7,7 +7,7 @@ ghost use Rattle.vpf_table.specs.Grid.{Grid};
 ghost use Rattle.vpf_prims.specs.Roles.{entity_roles};
 ghost use Rattle.vpf_prims.specs.Suiting.{HasColumns, HasRoles};
 ghost use Rattle.vpf_prims.specs.Tables.{table_named};
-ghost use Rattle.vpf_primitive_tables.specs.TableForms.Models.{PairsLike};
+ghost use Rattle.vpf_primitive_tables.specs.Inner.TableForms.Models.{PairsLike};
 
 use std::alloc::AllocError;
 use vpf_findings::TableName;

@@ -1,6 +1,6 @@
 //! What is so of the tables of the tiles of every coverage.
 
-ghost use Rattle.vpf_glue.specs.GluedTables.Laws.{EdgeRowsFit, EntityRowsFit, FaceRowsFit, NodeRowsFit};
+ghost use Rattle.vpf_glue.specs.Inner.GluedTables.Laws.{EdgeRowsFit, EntityRowsFit, FaceRowsFit, NodeRowsFit};
 
 use vpf_primitive_tables::table_forms::laws::own_rows_fit;
 use vpf_write::revise::laws::columns_by_position;

@@ -4,9 +4,9 @@ ghost use Rattle.std.specs.Prelude.{◌≡◌};
 ghost use Rattle.vpf_triplet.specs.declared.kinds.Kind.TheVariants.{I};
 ghost use Rattle.vpf_prims.specs.Primitives.{EdgePrimitive};
 ghost use Rattle.vpf_primitive_tables.specs.TableForms.Forms.{AreOfKind};
-ghost use Rattle.vpf_primitive_tables.specs.TableForms.Models.{values_of_edge};
+ghost use Rattle.vpf_primitive_tables.specs.Inner.TableForms.Models.{values_of_edge};
 ghost use Rattle.vpf_glue.specs.GluedTables.Grids.{number_values};
-ghost use Rattle.vpf_glue.specs.GluedTables.Numbers.{AreSmall, row_numbers};
+ghost use Rattle.vpf_glue.specs.Inner.GluedTables.Numbers.{AreSmall, row_numbers};
 
 use vpf_primitive_tables::table_forms::{EdgeCells, number_cell};
 use vpf_write::revise::laws::numbers_and_ids_fit;

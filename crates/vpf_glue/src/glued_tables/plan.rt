@@ -2,7 +2,7 @@
 
 ghost use Rattle.std.specs.Prelude.{◌≡◌, ◌<◌, ◌^◌, ◌+◌, ◌++◌, ◌∷◌, [], All, List, OnOk, length};
 ghost use Rattle.vpf_table.specs.Grid.{Row};
-ghost use Rattle.vpf_write.specs.Tallies.{Holds};
+ghost use Rattle.vpf_write.specs.Inner.Tallies.{Holds};
 ghost use Rattle.vpf_write.specs.Writing.{Writes};
 ghost use Rattle.vpf_vectors.specs.Heads.{plan_head};
 ghost use Rattle.vpf_vectors.specs.Tables.{pair_cells, pair_table};

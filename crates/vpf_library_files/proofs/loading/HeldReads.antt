@@ -1,8 +1,7 @@
 -- A coverage that a tree holds is read.
-use Rattle.std.proofs.Common.{◌≡◌, ◌∙◌, inl, inr, ℕ, ◌+◌, ◌≤◌, true, false, List, [], ◌∷◌, ◌++◌, length, Option, None, Some, Ok, Err, nat_le, refl, sym, ap, subst, arith}
+use Rattle.std.proofs.Common.{[], ◌≡◌, ◌∙◌, inl, inr, ℕ, ◌+◌, ◌≤◌, true, false, List, ◌∷◌, ◌++◌, length, Option, None, Some, Ok, Err, refl, sym, ap, subst, arith}
 use Rattle.std.specs.Prelude.{codes, drop, is_some}
 use Rattle.std.specs.List.{list_any}
-use Rattle.std.proofs.lemmas.Bool.{le-leb}
 use Rattle.vpf_base.specs.Limits.{most_bytes}
 use Rattle.vpf_source.specs.Files.{Files}
 use Rattle.vpf_source.specs.declared.file.File.{File}
@@ -13,34 +12,23 @@ use Rattle.vpf_table.specs.Spans.{IsOpened}
 use Rattle.vpf_prims.specs.Coverages.{CoverageTables, tile_at, tiled_coverage}
 use Rattle.vpf_prims.specs.Reading.{PrimitiveTables}
 use Rattle.vpf_prims.specs.Tables.{TileTables}
-use Rattle.vpf_library_files.specs.Tileref.Laws.{StopsDecide}
+use Rattle.vpf_library_files.specs.Inner.Tileref.Laws.{StopsDecide}
 use Rattle.vpf_library_files.specs.Tileref.Stops.{path_texts, tileref_stop}
 use Rattle.vpf_library_files.specs.declared.loading.loading.LoadStop.TheVariants as stops
-use Rattle.vpf_library_files.specs.Loading.Loading.{Read, LoadedCoverage, LoadedTable, LoadedTile, ◌and_then◌, files_in, grid_in, has_some, loaded_file, loaded_tile, most_loaded, placed, read_bytes, read_coverage, read_optional, read_optional_table, read_required, read_table, read_table_in, read_tile, read_tileref, read_tiles, required, tabled, tiled_loaded, tileref_name, tiles_files, untiled_loaded, within}
+use Rattle.vpf_library_files.specs.Loading.Loading.{Read, LoadedCoverage, LoadedTable, LoadedTile, ◌and_then◌, files_in, grid_in, has_some, loaded_file, loaded_tile, most_loaded, placed, read_coverage, read_optional, read_optional_table, read_required, read_table, read_table_in, read_tile, read_tileref, read_tiles, required, tabled, tiled_loaded, tileref_name, tiles_files, untiled_loaded, within}
 use Rattle.vpf_library_files.specs.Loading.Holding.{AreFilesOf, AreFilesOfOption, AreHeld, AreTileFiles, AreTiledFiles, AreTilesFiles, AreUntiledFiles, HoldsCoverage, IsIndexedTable, IsPlainTable, LacksOfTile, LacksOfTiles, bytes_in}
-use Rattle.vpf_library_files.specs.Loading.Laws.{HeldIsRead}
-use Rattle.vpf_library_files.proofs.loading.FileLists.{both_held, bytes_of_both}
-use Rattle.vpf_library_files.proofs.loading.ReadSteps.{gives, no_value}
+use Rattle.vpf_library_files.specs.Inner.Loading.Laws.{HeldIsRead}
+use Rattle.vpf_library_files.specs.Inner.Loading.FileLaws.{both_held, bytes_of_both}
+use Rattle.vpf_library_files.specs.Inner.Loading.StepLaws.{gives, no_value}
 use Rattle.vpf_library_files.proofs.loading.TableLaws.{SpelledIsOpened, OpenedIsRead}
 use Rattle.vpf_library_files.proofs.loading.TileLemmas.{rest_read, tile_read}
 use Rattle.vpf_library_files.proofs.loading.TiledLemmas.{none_own, own_read, placed_some, tiled_read}
-
--- bytes within the limits are read
-within_limits : (name bytes : List ℕ) (m : ℕ) → length bytes ≤ most_bytes → m + length bytes ≤ most_loaded
-    → read_bytes name bytes m ≡ (Ok (Some bytes), m + length bytes)
-within_limits name bytes m few sum =
-    let one : nat_le (length bytes) most_bytes ≡ true = le-leb (length bytes) most_bytes few in
-    let all : nat_le (m + length bytes) most_loaded ≡ true = le-leb (m + length bytes) most_loaded sum in
-    rw (one, all) refl
+use Rattle.vpf_library_files.specs.Inner.Loading.HeldLaws.{loads_within as within_limits, counted_so}
 
 -- a file that is held is read
 file_read : (held : Files) (name bytes : List ℕ) (m : ℕ) → held name ≡ Some bytes → length bytes ≤ most_bytes → m + length bytes ≤ most_loaded
     → read_required held name m ≡ (Ok bytes, m + length bytes)
 file_read held name bytes m e few sum = rw (e, within_limits name bytes m few sum) refl
-
--- what was read, with the count in other words
-counted_so : {V : Type 0} (read : Read V) (v : V) (n k : ℕ) → read ≡ (Ok v, n) → n ≡ k → read ≡ (Ok v, k)
-counted_so read v n k e same = rw (e, same) refl
 
 -- a table whose rows have one length
 plain_alone : SpelledIsOpened → (held : Files) (name bytes : List ℕ) (grid : Grid) (m : ℕ) → IsOpened grid bytes None → varies_in grid.head.columns ≡ false
@@ -118,7 +106,7 @@ files_same name None files p = sym p
 files_same name (Some grid) files p = refl
 
 -- what is loaded is the tile
-abbrev table_from : Grid → List File → LoadedTable
+abbrev pub table_from : Grid → List File → LoadedTable
 table_from grid files = record { grid = grid; files = files }
 
 abbrev tile_from : PrimitiveTables → List File → LoadedTile

@@ -10,7 +10,7 @@ use Rattle.vpf_prims.specs.Reading.{edge_in_row}
 use Rattle.vpf_prims.specs.Tables.{TileTables}
 use Rattle.vpf_library_files.specs.Tileref.Stops.{path_texts}
 use Rattle.vpf_library_files.specs.Loading.Holding.{AreCoverageFiles}
-use Rattle.vpf_library_files.specs.Loading.Laws.{FilesAreLibraries}
+use Rattle.vpf_library_files.specs.Inner.Loading.Laws.{FilesAreLibraries}
 use Rattle.vpf_library_files.proofs.loading.WholeFiles.{FilesOfTile, files_have, tile_few}
 
 few_in : (tile : Option TileTables) → ((T : TileTables) → tile ≡ Some T → FilesOfTile T) → length (edges_in (primitives_in tile)) < 2 ^ 24

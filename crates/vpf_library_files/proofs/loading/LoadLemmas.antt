@@ -1,5 +1,5 @@
 -- What the files of a coverage are, and what reading them comes to, step by step.
-use Rattle.std.proofs.Common.{Vec, Global, ◌≡◌, inr, ◌∙◌, ℕ, List, [], ◌∷◌, Option, Some, None, Ok, Err, Bool, true, false, nat_le, length, cond, refl, sym, ap}
+use Rattle.std.proofs.Common.{[], Vec, Global, ◌≡◌, inr, ◌∙◌, ℕ, List, ◌∷◌, Option, Some, None, Ok, Err, Bool, true, false, nat_le, length, cond, refl, sym, ap}
 use Rattle.std.specs.Prelude.{IfOk, IfSome, Result}
 use Rattle.vpf_base.specs.Limits.{most_bytes}
 use Rattle.vpf_base.specs.Results.{Meets, Told}
@@ -17,7 +17,7 @@ use Rattle.vpf_library_files.specs.declared.loading.loading.LoadStop.TheVariants
 use Rattle.vpf_library_files.specs.Loading.Loading.{Read, LoadedCoverage, ◌and_then◌, CountsAs, loaded_file, loaded_read, read_coverage, stop_seen}
 use Rattle.vpf_library_files.specs.Loading.Holding.{AreCoverageFiles, AreFilesOf, AreOfCoverage}
 use Rattle.vpf_library_files.specs.Loading.Loads.{LoadsAs, LoadsCoverage, ReadsStop}
-use Rattle.vpf_library_files.proofs.loading.ReadSteps.{value_is}
+use Rattle.vpf_library_files.specs.Inner.Loading.StepLaws.{value_is}
 
 -- what a load gave is the file
 loaded_within : (b : Bool) (bytes found : List ℕ) (n : ℕ) → cond b (done {E = ℕ} (Some bytes)) (Err n) ≡ Ok (Some found) → bytes ≡ found

@@ -1,5 +1,5 @@
 -- Files are of one table alone, and a table that is read is that of its files.
-use Rattle.std.proofs.Common.{Vec, Global, ◌≡◌, ◌∙◌, ◌⊎◌, inl, inr, ℕ, Bool, true, false, not, ◌==◌, List, [], ◌∷◌, ◌++◌, length, Option, None, Some, Ok, refl, sym, ap, subst}
+use Rattle.std.proofs.Common.{[], Vec, Global, ◌≡◌, ◌∙◌, ◌⊎◌, inl, inr, ℕ, Bool, true, false, not, ◌==◌, List, ◌∷◌, ◌++◌, length, Option, None, Some, Ok, refl, sym, ap, subst}
 use Rattle.std.specs.Prelude.{if◌then◌else◌, is_some}
 use Rattle.vpf_source.specs.Files.{Files}
 use Rattle.vpf_source.specs.declared.file.File.{File}
@@ -12,8 +12,9 @@ use Rattle.vpf_base.proofs.Results.{ok_is}
 use Rattle.vpf_library_files.specs.Loading.Loading.{LoadedTable, ◌and_then◌, loaded_file, files_in, grid_in, read_optional, read_optional_table, read_required, read_table, read_table_in, tabled, with_its_index, with_own_index}
 use Rattle.vpf_library_files.specs.Loading.Holding.{AreFilesOf, AreFilesOfOption}
 use Rattle.vpf_library_files.specs.Loading.Loads.{AddsOption, AddsTable, Comes, ReadsValue}
-use Rattle.vpf_library_files.proofs.loading.ReadSteps.{gives, graded_is, steps, value_is}
+use Rattle.vpf_library_files.specs.Inner.Loading.StepLaws.{gives, graded_is, steps, value_is}
 use Rattle.vpf_library_files.proofs.loading.TableLaws.{OpenedIsRead, SpelledIsOpened}
+use Rattle.vpf_library_files.proofs.loading.HeldReads.{table_from}
 
 -- lists of files that begin with a file of one name
 same_file : (a b : File) (r s : List File) → a ∷ r ≡ b ∷ s → a ≡ b
@@ -97,9 +98,6 @@ same_last name None None a b p q e = refl
 same_last name None (Some y) a b p q e = absurd (some_file name y b q (sym e ∙ p))
 same_last name (Some x) None a b p q e = absurd (some_file name x a p (e ∙ q))
 same_last name (Some x) (Some y) a b p q e = ap Some (same_table name x y a b [] [] p q (ap (λ files. files ++ []) e)).0
-
-abbrev table_from : Grid → List File → LoadedTable
-table_from grid files = record { grid = grid; files = files }
 
 same_so : (name : List ℕ) (x t : LoadedTable) → x ≡ t → AreRead name x.grid x.files → AreRead name t.grid t.files
 same_so name x t e h = rw e at h

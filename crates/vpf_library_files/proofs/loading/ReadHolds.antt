@@ -1,5 +1,5 @@
 -- A coverage that is read from a tree is one that it holds.
-use Rattle.std.proofs.Common.{◌≡◌, ◌∙◌, inl, inr, ℕ, ◌+◌, ◌≤◌, Bool, true, false, List, [], ◌∷◌, ◌++◌, length, Option, None, Some, Ok, nat_le, refl, sym, ap, subst, arith}
+use Rattle.std.proofs.Common.{[], ◌≡◌, ◌∙◌, inl, inr, ℕ, ◌+◌, ◌≤◌, Bool, true, false, List, ◌∷◌, ◌++◌, length, Option, None, Some, Ok, nat_le, refl, sym, ap, subst, arith}
 use Rattle.std.specs.Prelude.{codes, if◌then◌else◌}
 use Rattle.std.proofs.lemmas.Bool.{leb-true}
 use Rattle.vpf_base.specs.Bytes.{IsBytes}
@@ -13,18 +13,21 @@ use Rattle.vpf_table.specs.Grid.{Grid}
 use Rattle.vpf_table.specs.Reading.{table_of}
 use Rattle.vpf_table.specs.Opening.{opened_of}
 use Rattle.vpf_base.proofs.Results.{ok_is}
-use Rattle.vpf_library_files.specs.Tileref.Laws.{StopsDecide}
+use Rattle.vpf_library_files.specs.Inner.Tileref.Laws.{StopsDecide}
 use Rattle.vpf_library_files.specs.Tileref.Stops.{TilerefStop, path_texts, tileref_stop}
 use Rattle.vpf_library_files.specs.declared.loading.loading.LoadStop.{LoadStop}
 use Rattle.vpf_library_files.specs.declared.loading.loading.LoadStop.TheVariants as stops
 use Rattle.vpf_library_files.specs.Loading.Loading.{LoadedTable, LoadedTile, LoadedCoverage, ◌and_then◌, decided, has_some, loaded_file, loaded_tile, files_in, grid_in, most_loaded, placed, read_bytes, read_found, read_optional, read_optional_table, read_required, read_rest, read_table, read_table_in, read_tile, read_tiled, read_tileref, read_tiles, required, tabled, tiled_loaded, tileref_name, tileref_stopped, tiles_files, unless_stopped, untiled_loaded, untiled_or_tiled, with_its_index, with_own_index, within}
 use Rattle.vpf_library_files.specs.Loading.Holding.{AreFilesOf, AreFilesOfOption, AreHeld, AreTileFiles, HoldsBytes, HoldsCoverage, LacksOfTiles, bytes_in}
 use Rattle.vpf_library_files.specs.Loading.Loads.{AreFilesOfTiles}
-use Rattle.vpf_library_files.specs.Loading.Laws.{ReadIsHeld}
-use Rattle.vpf_library_files.proofs.loading.FileLists.{held_both, bytes_of_both}
-use Rattle.vpf_library_files.proofs.loading.ReadSteps.{count_is, gives, graded_is, no_value, steps, stopped, value_is}
+use Rattle.vpf_library_files.specs.Inner.Loading.Laws.{ReadIsHeld}
+use Rattle.vpf_library_files.proofs.loading.FileLists.{held_both}
+use Rattle.vpf_library_files.specs.Inner.Loading.FileLaws.{bytes_of_both}
+use Rattle.vpf_library_files.proofs.loading.ReadSteps.{count_is}
+use Rattle.vpf_library_files.specs.Inner.Loading.StepLaws.{gives, graded_is, no_value, steps, stopped, value_is}
 use Rattle.vpf_library_files.proofs.loading.TableLaws.{OpenedIsRead, OpenedIsSpelled}
 use Rattle.vpf_library_files.proofs.loading.TiledLemmas.{are_tiles, placed_some}
+use Rattle.vpf_library_files.proofs.loading.HeldReads.{table_from}
 
 -- a file that was read: it is there, within both limits, and counted
 record WasRead (file : Option (List ℕ)) (bytes : List ℕ) (m k : ℕ) : Type 0 where
@@ -101,9 +104,6 @@ record TableRead (held : Files) (name : List ℕ) (t : LoadedTable) (m k : ℕ) 
   there : AreHeld held t.files
   sum : k ≡ m + bytes_in t.files
   most : k ≤ most_loaded
-
-abbrev table_from : Grid → List File → LoadedTable
-table_from grid files = record { grid = grid; files = files }
 
 -- a table whose rows have one length
 plain_is : OpenedIsSpelled → (held : Files) (name bytes : List ℕ) (grid : Grid) (t : LoadedTable) (m n k : ℕ) → HoldsBytes held

@@ -1,5 +1,5 @@
 -- What reading the folders of tiles comes to, tile by tile.
-use Rattle.std.proofs.Common.{◌≡◌, ◌∙◌, ℕ, zero, suc, ◌+◌, ◌≤◌, ◌<◌, Bool, false, ◌||◌, List, [], ◌∷◌, ◌++◌, length, take, Option, Some, None, Ok, refl, sym, ap, subst, append_assoc, arith}
+use Rattle.std.proofs.Common.{[], ◌≡◌, ◌∙◌, ℕ, zero, suc, ◌+◌, ◌≤◌, ◌<◌, Bool, false, ◌||◌, List, ◌∷◌, ◌++◌, length, take, Option, Some, None, Ok, refl, sym, ap, subst, append_assoc, arith}
 use Rattle.std.specs.Prelude.{is_some, slice_get}
 use Rattle.std.proofs.lemmas.List.{append-nil, take_all}
 use Rattle.vpf_source.specs.Files.{Files}
@@ -9,7 +9,8 @@ use Rattle.vpf_library_files.specs.declared.loading.loading.LoadStop.{LoadStop}
 use Rattle.vpf_library_files.specs.Loading.Loading.{LoadedTile, has_some, read_tile, read_tiles, tiles_files, within}
 use Rattle.vpf_library_files.specs.Loading.Loads.{AddsTile, AddsTiles, AreFilesOfTile, AreFilesOfTiles, Comes, ReadsStop}
 use Rattle.vpf_library_files.proofs.loading.LoadLemmas.{stops_all}
-use Rattle.vpf_library_files.proofs.loading.ReadSteps.{count_is, gives, steps, value_is}
+use Rattle.vpf_library_files.proofs.loading.ReadSteps.{count_is}
+use Rattle.vpf_library_files.specs.Inner.Loading.StepLaws.{gives, steps, value_is}
 
 -- the paths of the tiles before tile t
 abbrev pub before_tile : List (List ℕ) → ℕ → List (List ℕ)

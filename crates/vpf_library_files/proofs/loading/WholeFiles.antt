@@ -5,23 +5,23 @@ use Rattle.std.specs.List.{AllByRecursion}
 use Rattle.std.proofs.lemmas.List.{append-nil}
 use Rattle.vpf_base.specs.Limits.{most_rows}
 use Rattle.vpf_source.specs.declared.file.File.{File}
-use Rattle.vpf_triplet.specs.declared.orders.Order.{Order}
-use Rattle.vpf_head.specs.Deciding.{BeginsHeader}
+use Rattle.vpf_base.specs.declared.orders.Order.{Order}
+use Rattle.vpf_head.specs.Inner.Deciding.{BeginsHeader}
 use Rattle.vpf_head.specs.Head.{Col, Head}
 use Rattle.vpf_head.specs.Reading.{header_of}
-use Rattle.vpf_head.specs.Soundness.{IsSound}
+use Rattle.vpf_head.specs.Inner.Soundness.{IsSound}
 use Rattle.vpf_head.specs.Spelling.{IsHeader}
 use Rattle.vpf_table.specs.Grid.{Grid, Row}
 use Rattle.vpf_table.specs.Spans.{AreSpans, IsOpened}
 use Rattle.vpf_table.specs.Spelling.{IsRow, IsRows}
 use Rattle.vpf_prims.specs.Coverages.{CoverageTables, tile_at}
-use Rattle.vpf_prims.specs.Laws.{AreFilled, IsFilled}
+use Rattle.vpf_prims.specs.Inner.Laws.{AreFilled, IsFilled}
 use Rattle.vpf_prims.specs.Reading.{PrimitiveTables}
 use Rattle.vpf_prims.specs.Tables.{TileTables}
 use Rattle.vpf_library_files.specs.Tileref.Stops.{path_texts}
 use Rattle.vpf_library_files.specs.Loading.Loading.{within}
 use Rattle.vpf_library_files.specs.Loading.Holding.{AreCoverageFiles, AreFilesOf, AreFilesOfOption, AreTileFiles, AreTilesFiles}
-use Rattle.vpf_library_files.specs.Loading.Laws.{AreNamedApart, FilesAreWhole, IsNamedApart}
+use Rattle.vpf_library_files.specs.Inner.Loading.Laws.{AreNamedApart, FilesAreWhole, IsNamedApart}
 
 -- headers that are spelled are read
 abbrev pub HeadIsRead : Type 0

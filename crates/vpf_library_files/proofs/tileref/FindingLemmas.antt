@@ -5,7 +5,7 @@ use Rattle.vpf_findings.specs.declared.errors.FindError.{FindError}
 use Rattle.vpf_findings.specs.declared.errors.FindError.TheVariants as errors
 use Rattle.vpf_findings.specs.Findings.{Disagreement}
 use Rattle.vpf_findings.specs.Firsts.{◌or◌, Tells}
-use Rattle.vpf_findings.specs.FirstLaws.{or-none}
+use Rattle.vpf_findings.specs.Inner.FirstLaws.{or-none}
 use Rattle.vpf_prims.specs.declared.roles.Role.{Role as LentRole}
 use Rattle.vpf_prims.specs.Columns.{columns_finding, role_line}
 use Rattle.vpf_prims.specs.Roles.{role_of}

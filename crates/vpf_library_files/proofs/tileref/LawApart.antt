@@ -1,5 +1,5 @@
 -- No path is taken by an earlier tile exactly where no two tiles have the same.
-use Rattle.std.proofs.Common.{◌≡◌, ℕ, zero, suc, ◌-◌, ◌<◌, ◌≤◌, Bool, true, false, List, [], ◌∷◌, length, take, map, get_or, refl, sym, ◌∙◌, arith, inl, inr}
+use Rattle.std.proofs.Common.{[], ◌≡◌, ℕ, zero, suc, ◌-◌, ◌<◌, ◌≤◌, Bool, true, false, List, ◌∷◌, length, take, map, get_or, refl, sym, ◌∙◌, arith, inl, inr}
 use Rattle.std.specs.Prelude.{◌↔◌}
 use Rattle.std.specs.List.{list_any}
 use Rattle.std.proofs.lemmas.Bool.{cases_lt}
@@ -10,7 +10,7 @@ use Rattle.vpf_prims.specs.Lists.{kth}
 use Rattle.vpf_prims.specs.Numbering.{IsRowOf}
 use Rattle.vpf_library_files.specs.Tileref.Paths.{TilePath, same_path}
 use Rattle.vpf_library_files.specs.Tileref.Tileref.{is_taken}
-use Rattle.vpf_library_files.proofs.tileref.PathDecides.{same_decides}
+use Rattle.vpf_library_files.specs.Inner.Tileref.PathLaws.{same_decides}
 
 -- the place of an element that passes
 place_behind : {X : Type 0} (p : X → Bool) (x : X) (xs : List X) (d : X)

@@ -1,5 +1,5 @@
 -- Lines on columns and cells find nothing exactly where these are what they are to be.
-use Rattle.std.proofs.Common.{◌≡◌, ℕ, zero, suc, ◌+◌, ◌<◌, ◌≤◌, pos, negsuc, Bool, true, false, Option, Some, None, List, [], ◌∷◌, length, get_or, refl, arith}
+use Rattle.std.proofs.Common.{◌≡◌, ℕ, zero, suc, ◌+◌, ◌≤◌, pos, negsuc, Bool, true, false, Option, Some, None, List, length, refl, arith}
 use Rattle.std.specs.Prelude.{◌↔◌, ◌==◌, not, codes}
 use Rattle.std.specs.List.{AllByRecursion}
 use Rattle.std.proofs.lemmas.Bool.Decides.{nat_tests}
@@ -7,22 +7,18 @@ use Rattle.vpf_value.specs.Values.{Value, TextOf, Word4Of, Word8Of, NumberOf, Da
 use Rattle.vpf_head.specs.Head.{Col}
 use Rattle.vpf_table.specs.Grid.{Row}
 use Rattle.vpf_findings.specs.Firsts.{◌or◌, unless, first_of_rows}
-use Rattle.vpf_findings.specs.FirstLaws.{rows_none}
+use Rattle.vpf_findings.specs.Inner.FirstLaws.{rows_none, rows_silent}
 use Rattle.vpf_prims.specs.Roles.{Role, suits, number_role, text_role, tileref_roles}
 use Rattle.vpf_prims.specs.Columns.{RoleAt, column_of, placed_line, role_line}
-use Rattle.vpf_prims.specs.Lines.{id_line}
+use Rattle.vpf_prims.specs.Lines.{id_line, no_rows_line}
 use Rattle.vpf_prims.specs.Lists.{kth}
 use Rattle.vpf_prims.specs.Numbering.{IsRowOf}
 use Rattle.vpf_prims.specs.Reading.{natural_in}
 use Rattle.vpf_prims.specs.References.{cell_at, is_same, signed_in}
 use Rattle.vpf_prims.specs.Suiting.{SuitsRole}
-use Rattle.vpf_prims.specs.Lines.{no_rows_line}
 use Rattle.vpf_library_files.specs.Tileref.Numbered.{most_tiles}
 use Rattle.vpf_library_files.specs.Tileref.Tileref.{tile_columns_finding, tileref_at}
-
--- one fact as another, and that as a third
-pub through : {P Q R : Type 0} → (P ↔ Q) → (Q ↔ R) → P ↔ R
-through f g = (λ p. g.0 (f.0 p), λ r. f.1 (g.1 r))
+use Rattle.vpf_base.proofs.Booleans.{through}
 
 -- two facts as two others
 pub paired : {P Q R S : Type 0} → (P ↔ R) → (Q ↔ S) → (P × Q) ↔ (R × S)
@@ -83,14 +79,6 @@ number_is (WordsOf w s) k low = no_number k low
 -- the line on the id of row k
 pub id_is : (k : ℕ) (column : RoleAt) (row : Row) → 1 ≤ k → (id_line tileref_at k column row ≡ None) ↔ (natural_in (cell_at row column.place) ≡ Some k)
 id_is k column row low = through (unless_passes (is_same (signed_in (cell_at row column.place)) k) _) (number_is (cell_at row column.place) k low)
-
-rows_silent : {F R : Type 0} (lines : ℕ → R → Option F) (k : ℕ) (rows : List R) (d : R)
-    → ((i : ℕ) → i < length rows → lines (k + i) (get_or rows i d) ≡ None) → first_of_rows lines k rows ≡ None
-rows_silent lines k [] d each = refl
-rows_silent lines k (row ∷ rows) d each =
-    let e : k + zero ≡ k = omega arith in
-    let first : lines k row ≡ None = rw e at (each zero (omega arith)) in
-    rw first (rows_silent lines (suc k) rows d (λ i h. let f : suc k + i ≡ k + suc i = omega arith in rw f (each (suc i) (omega arith))))
 
 -- the lines on rows, by the numbers of these
 pub rows_by_number : {F R : Type 0} (lines : ℕ → R → Option F) (rows : List R) (d : R)

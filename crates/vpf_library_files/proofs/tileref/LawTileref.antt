@@ -1,29 +1,28 @@
 -- A table has no finding exactly where it is a table of tiles, and nothing ends its reading exactly where it is one within the bounds.
-use Rattle.std.proofs.Common.{◌≡◌, ℕ, ◌≤◌, Bool, true, false, Option, Some, None, List, [], ◌∷◌, length, refl, sym, subst, arith}
+use Rattle.std.proofs.Common.{[], ◌≡◌, ℕ, ◌≤◌, Bool, true, false, Option, Some, None, List, ◌∷◌, length, refl, sym, subst, arith}
 use Rattle.std.specs.Prelude.{◌↔◌, ◌&&◌, not, nat_le, All}
 use Rattle.std.specs.Option.{option_map}
 use Rattle.std.proofs.lemmas.Bool.Decides.{nat_tests}
-use Rattle.std.proofs.lemmas.List.{length-map}
 use Rattle.std.proofs.lemmas.List.Elements.{All-nil, All-cons, All-head, All-tail}
 use Rattle.vpf_base.specs.Limits.{longest_name}
 use Rattle.vpf_table.specs.Grid.{Row, Grid}
-use Rattle.vpf_prims.specs.Columns.{RoleAt}
+use Rattle.vpf_prims.specs.Columns.{RoleAt, id_column}
 use Rattle.vpf_prims.specs.Lines.{id_line}
 use Rattle.vpf_prims.specs.Lists.{kth}
 use Rattle.vpf_prims.specs.Numbering.{IsRowOf}
 use Rattle.vpf_prims.specs.Reading.{natural_in}
 use Rattle.vpf_prims.specs.References.{cell_at}
-use Rattle.vpf_prims.specs.Columns.{id_column}
 use Rattle.vpf_library_files.specs.Tileref.Paths.{TilePath, is_path, IsPath}
 use Rattle.vpf_library_files.specs.Tileref.Numbered.{most_tiles}
-use Rattle.vpf_library_files.specs.Tileref.Tileref.{is_taken, name_column, paths_of, row_path}
-use Rattle.vpf_library_files.specs.Tileref.Tileref.{path_line, tile_columns_finding, tile_row_lines, tile_rows_finding, tileref_finding}
+use Rattle.vpf_library_files.specs.Tileref.Tileref.{is_taken, name_column, paths_of, row_path, path_line, tile_columns_finding, tile_row_lines, tile_rows_finding, tileref_finding}
 use Rattle.vpf_library_files.specs.Tileref.Bounds.{length_bound, lengths_bound, rows_bound}
 use Rattle.vpf_library_files.specs.Tileref.Stops.{path_texts, tileref_stop, LimitStop, FindingStop}
-use Rattle.vpf_library_files.specs.Tileref.Laws.{TilerefDecides, StopsDecide}
-use Rattle.vpf_library_files.proofs.tileref.PathDecides.{path_decides}
-use Rattle.vpf_library_files.proofs.tileref.LawLines.{through, paired, neither_line, unless_passes, columns_suit, id_is, rows_by_number}
+use Rattle.vpf_library_files.specs.Inner.Tileref.Laws.{TilerefDecides, StopsDecide}
+use Rattle.vpf_library_files.specs.Inner.Tileref.PathLaws.{path_decides}
+use Rattle.vpf_library_files.proofs.tileref.LawLines.{paired, neither_line, unless_passes, columns_suit, id_is, rows_by_number}
+use Rattle.vpf_base.proofs.Booleans.{through}
 use Rattle.vpf_library_files.proofs.tileref.LawApart.{free_decides, kth-map}
+use Rattle.vpf_library_files.specs.Inner.Tileref.CountLaws.{paths_counted as counted}
 
 same_fact : {P : Type 0} → P ↔ P
 same_fact = (λ p. p, λ p. p)
@@ -69,10 +68,6 @@ rows_are grid =
       λ h k l. subst (P k) (sym (kth-map (row_path name) grid.rows k [] [] l)) ((row_is id name paths k (kth grid.rows k []) l.0).0 (h k l)),
       λ h k l. (row_is id name paths k (kth grid.rows k []) l.0).1 (subst (P k) (kth-map (row_path name) grid.rows k [] [] l) (h k l)),
     )
-
--- there is a path for each row
-counted : (grid : Grid) → length (paths_of grid) ≡ length grid.rows
-counted grid = length-map grid.rows (row_path (name_column grid.head.columns))
 
 pub tileref_decides : TilerefDecides
 unfolding tileref_finding

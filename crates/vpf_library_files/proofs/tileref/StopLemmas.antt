@@ -6,7 +6,7 @@ use Rattle.vpf_table.specs.Grid.{Grid}
 use Rattle.vpf_table.specs.declared.limit.Limit.{Limit}
 use Rattle.vpf_prims.specs.declared.placing.RoleColumn.{RoleColumn}
 use Rattle.vpf_prims.specs.Columns.{RoleAt, role_at}
-use Rattle.vpf_prims.specs.Placed.{IsColumnOf}
+use Rattle.vpf_prims.specs.Inner.Placed.{IsColumnOf}
 use Rattle.vpf_prims.specs.Roles.{number_role, text_role}
 use Rattle.vpf_library_files.specs.Tileref.Paths.{path_text}
 use Rattle.vpf_library_files.specs.Tileref.Bounds.{lengths_bound, rows_bound}

@@ -1,6 +1,5 @@
 -- Rows of tiles, looked at one after another.
-use Rattle.std.proofs.Common.{◌≡◌, ℕ, suc, ◌+◌, ◌-◌, ◌<◌, Bool, true, false, Option, Some, None, Err, arith}
-use Rattle.std.proofs.Common.{List, [], ◌∷◌, ◌++◌, length, map, take, drop, get_or, refl, sym, ap, subst, ◌∙◌, add-one}
+use Rattle.std.proofs.Common.{[], ◌≡◌, ℕ, suc, ◌+◌, ◌-◌, ◌<◌, Bool, true, false, Option, Some, None, Err, arith, List, ◌∷◌, ◌++◌, length, map, take, drop, get_or, refl, sym, ap, subst, ◌∙◌, add-one}
 use Rattle.std.specs.Prelude.{◌&&◌, ◌||◌, not}
 use Rattle.std.specs.List.{list_all, list_any}
 use Rattle.std.specs.Str.{bytes_eq}
@@ -16,10 +15,10 @@ use Rattle.vpf_prims.specs.Columns.{RoleAt}
 use Rattle.vpf_prims.specs.Lines.{id_line}
 use Rattle.vpf_library_files.specs.Tileref.Paths.{TilePath, is_path, path_text, same_path, text_of_path}
 use Rattle.vpf_library_files.specs.Tileref.Tileref.{row_path, tile_row_lines, tileref_at}
-use Rattle.vpf_library_files.specs.Tileref.Taking.{is_new, name_line, next_tile_lines}
+use Rattle.vpf_library_files.specs.Inner.Tileref.Taking.{is_new, name_line, next_tile_lines}
 use Rattle.vpf_library_files.proofs.tileref.FindingLemmas.{stops_first}
 use Rattle.vpf_library_files.proofs.tileref.LawLines.{neither_line, unless_passes}
-use Rattle.vpf_library_files.proofs.tileref.TextLemmas.{text_tells}
+use Rattle.vpf_library_files.specs.Inner.Tileref.TextLaws.{text_tells}
 
 -- where a path has a text, it is one
 text_some : (path : TilePath) (text : List ℕ) (b : Bool) → is_path path ≡ b → Some text ≡ text_of_path path → (is_path path ≡ true) × (text ≡ path_text path)

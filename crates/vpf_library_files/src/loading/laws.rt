@@ -1,6 +1,6 @@
 //! What is so of the files of every coverage.
 
-ghost use Rattle.vpf_library_files.specs.Loading.Laws.{FilesAreLibraries, FilesAreWhole, HeldIsRead, ReadIsHeld};
+ghost use Rattle.vpf_library_files.specs.Inner.Loading.Laws.{FilesAreLibraries, FilesAreWhole, HeldIsRead, ReadIsHeld};
 
 use crate::tileref::laws::stops_decide;
 use vpf_head::laws as headers;

@@ -3,7 +3,7 @@
 ghost use Rattle.std.specs.Prelude.{◌≡◌, IfOk, codes, length};
 ghost use Rattle.vpf_findings.specs.Firsts.{Tells};
 ghost use Rattle.vpf_prims.specs.Columns.{IsWithin, role_at, role_column, role_line};
-ghost use Rattle.vpf_prims.specs.Placed.{IsColumnOf};
+ghost use Rattle.vpf_prims.specs.Inner.Placed.{IsColumnOf};
 ghost use Rattle.vpf_prims.specs.Roles.{number_role, role_of, text_role};
 ghost use Rattle.vpf_library_files.specs.Tileref.Tileref.{tile_columns_finding, tileref_at};
 

@@ -43,7 +43,7 @@ impl<'a> From<Finding<'a>> for TilerefError<'a> {
 
 impl<'a> From<FindError<'a>> for TilerefError<'a> {
     ghost use Rattle.std.specs.Prelude.{◌≡◌};
-    ghost use Rattle.vpf_library_files.specs.Tileref.Errors.{of_find};
+    ghost use Rattle.vpf_library_files.specs.Inner.Tileref.Errors.{of_find};
 
     ghost from_gives = { λ found e. e ≡ of_find found };
 

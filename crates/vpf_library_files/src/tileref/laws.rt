@@ -1,6 +1,6 @@
 //! What is so of every table of tiles.
 
-ghost use Rattle.vpf_library_files.specs.Tileref.Laws.{StopsDecide, TilerefDecides};
+ghost use Rattle.vpf_library_files.specs.Inner.Tileref.Laws.{StopsDecide, TilerefDecides};
 
 /// There is no finding on the table exactly where it is a table of tiles: its columns are there, it has rows, which are numbered from
 /// 1, each names a path, and no two the same.

@@ -14,7 +14,7 @@ pub struct TilePaths {
 impl Model for TilePaths {
     ghost use Rattle.std.specs.Prelude.{◌≤◌, ℕ, List, length};
     ghost use Rattle.vpf_library_files.specs.Tileref.Numbered.{most_tiles};
-    ghost use Rattle.vpf_library_files.specs.Tileref.Texts.{texts_in};
+    ghost use Rattle.vpf_library_files.specs.Inner.Tileref.Texts.{texts_in};
 
     ghost Value = { List (List ℕ) };
 
@@ -28,7 +28,7 @@ impl TilePaths {
     ghost use Rattle.std.specs.Option.{option_map};
     ghost use Rattle.vpf_prims.specs.Coverages.{numbered_path};
     ghost use Rattle.vpf_library_files.specs.Tileref.Numbered.{most_tiles};
-    ghost use Rattle.vpf_library_files.specs.Tileref.Texts.{texts_in};
+    ghost use Rattle.vpf_library_files.specs.Inner.Tileref.Texts.{texts_in};
 
     /// These paths, of at most 65,535 tiles.
     pub(crate) fn new(paths: IndexSet<String>) -> TilePaths

@@ -9,8 +9,8 @@ ghost use Rattle.vpf_prims.specs.Columns.{IsWithin, in_table, role_at};
 ghost use Rattle.vpf_prims.specs.References.{cell_at};
 ghost use Rattle.vpf_library_files.specs.Tileref.Paths.{path_of, path_text};
 ghost use Rattle.vpf_library_files.specs.Tileref.Tileref.{row_path, text_bytes, tile_rows_finding, tileref_at};
-ghost use Rattle.vpf_library_files.specs.Tileref.Texts.{texts_in};
-ghost use Rattle.vpf_library_files.specs.Tileref.Taking.{is_new, next_tile_lines};
+ghost use Rattle.vpf_library_files.specs.Inner.Tileref.Texts.{texts_in};
+ghost use Rattle.vpf_library_files.specs.Inner.Tileref.Taking.{is_new, next_tile_lines};
 
 use crate::tileref::columns::{TILEREF, TileColumns};
 use crate::tileref::naming::path_in;

@@ -1,11 +1,8 @@
 -- Rows that are made and put one after another.
-use Rattle.std.proofs.Common.{◌≡◌, ℕ, zero, suc, ◌+◌, ◌<◌, ◌≤◌, Bool, List, [], ◌∷◌, ◌++◌, length, map, take, get_or, refl, sym, ap, subst, arith}
+use Rattle.std.proofs.Common.{[], ◌≡◌, ℕ, zero, suc, ◌+◌, ◌<◌, ◌≤◌, Bool, List, ◌∷◌, length, map, get_or, refl, ap, arith}
 use Rattle.std.specs.Prelude.{All, filter}
 use Rattle.std.specs.List.{AllByRecursion, range_with_len}
-use Rattle.std.proofs.lemmas.List.{take_all}
 use Rattle.std.proofs.lemmas.List.Elements.{All-filter, All-from_recursion, All-get_or}
-use Rattle.vpf_table.specs.Grid.{Row}
-use Rattle.vpf_write.specs.Tallies.{Tally, Holds}
 use Rattle.vpf_prims.specs.Lists.{kth}
 use Rattle.vpf_prims.specs.Numbering.{IsRowOf}
 use Rattle.vpf_tiling.specs.Ranks.{numbered, numbered_from, up_to}
@@ -14,29 +11,6 @@ use Rattle.vpf_tiling.specs.Ranks.{numbered, numbered_from, up_to}
 pub kth_all : {X : Type 0} (P : X → Type 0) (xs : List X) (k : ℕ) (d : X) → IsRowOf (length xs) k → All P xs → P (kth xs k d)
 kth_all P xs zero d row all = absurd (omega (arith, row.0))
 kth_all P xs (suc k) d row all = let high : suc k ≤ length xs = row.1 in All-get_or P xs k d (omega arith) all
-
--- one more item makes one more row
-from_more : (X R : Type 0) (n : ℕ) (f : ℕ → X → R) (xs : List X) (k : ℕ) (d : X) → k < length xs
-    → numbered_from n f (take (suc k) xs) ≡ numbered_from n f (take k xs) ++ f (n + k) (get_or xs k d) ∷ []
-from_more X R n f [] k d h = absurd (omega arith)
-from_more X R n f (x ∷ xs) zero d h = let e : n + 0 ≡ n = omega arith in rw e refl
-from_more X R n f (x ∷ xs) (suc k) d h =
-    let e : n + suc k ≡ suc n + k = omega arith in
-    let rest = from_more X R (suc n) f xs k d (omega arith) in
-    rw e (ap (λ (rows : List R). f n x ∷ rows) rest)
-
--- with the row of one more item they are those of the items so far
-pub put_more : {X : Type 0} (w v : Tally) (f : ℕ → X → Row) (xs : List X) (k : ℕ) (d : X) → k < length xs
-    → ((rows : List Row) → Holds w rows → Holds v (rows ++ f (k + 1) (get_or xs k d) ∷ [])) → Holds w (numbered f (take k xs)) → Holds v (numbered f (take (k + 1) xs))
-put_more {X} w v f xs k d h put done =
-    let e : 1 + k ≡ k + 1 = omega arith in
-    let s : suc k ≡ k + 1 = omega arith in
-    let more = rw (e, s) at (from_more X Row 1 f xs k d h) in
-    subst (Holds v) (sym more) (put (numbered f (take k xs)) done)
-
--- all rows are put
-pub put_all : {X : Type 0} (w : Tally) (f : ℕ → X → Row) (xs : List X) (k : ℕ) → length xs ≤ k → Holds w (numbered f (take k xs)) → Holds w (numbered f xs)
-put_all w f xs k h done = rw (take_all k xs h) at done
 
 -- what is made of the item at a place
 from_at : {X R : Type 0} (n : ℕ) (f : ℕ → X → R) (xs : List X) (k : ℕ) (d : X) (e : R) → k < length xs → get_or (numbered_from n f xs) k e ≡ f (n + k) (get_or xs k d)
@@ -72,19 +46,3 @@ range_rows a (suc n) m low high = ((low, (let top : a ≤ m = omega arith in top
 
 pub rows_within : (p : ℕ → Bool) (n : ℕ) → All (IsRowOf n) (filter p (up_to n))
 rows_within p n = All-filter p (IsRowOf n) (up_to n) (All-from_recursion (IsRowOf n) (up_to n) (range_rows 1 n n (omega arith) (omega arith)))
-
--- what is made of items of items
-from_map : (X Y R : Type 0) (n : ℕ) (f : ℕ → Y → R) (g : X → Y) (xs : List X) → numbered_from n f (map g xs) ≡ numbered_from n (λ k x. f k (g x)) xs
-from_map X Y R n f g [] = refl
-from_map X Y R n f g (x ∷ xs) = ap (λ (rows : List R). f n (g x) ∷ rows) (from_map X Y R (suc n) f g xs)
-
-pub numbered-map : {X Y R : Type 0} (f : ℕ → Y → R) (g : X → Y) (xs : List X) → numbered f (map g xs) ≡ numbered (λ k x. f k (g x)) xs
-numbered-map {X} {Y} {R} f g xs = from_map X Y R 1 f g xs
-
--- there are as many
-from_length : (X R : Type 0) (n : ℕ) (f : ℕ → X → R) (xs : List X) → length (numbered_from n f xs) ≡ length xs
-from_length X R n f [] = refl
-from_length X R n f (x ∷ xs) = ap suc (from_length X R (suc n) f xs)
-
-pub length-numbered : {X R : Type 0} (f : ℕ → X → R) (xs : List X) → length (numbered f xs) ≡ length xs
-length-numbered {X} {R} f xs = from_length X R 1 f xs

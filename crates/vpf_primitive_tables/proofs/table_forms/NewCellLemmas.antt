@@ -1,5 +1,5 @@
 -- New values in the columns of a table, and that they fit its columns with their new kinds.
-use Rattle.std.proofs.Common.{◌≡◌, ◌≢◌, ℕ, zero, suc, ◌<◌, ◌^◌, false, List, [], ◌∷◌, length, map, get_or, Option, Some, None, slice_get, unwrap_or, refl, sym, ap, ◌∙◌, subst, inl, inr, arith}
+use Rattle.std.proofs.Common.{[], ◌≡◌, ◌≢◌, ℕ, zero, suc, ◌<◌, ◌^◌, false, List, ◌∷◌, length, map, get_or, Option, Some, None, slice_get, unwrap_or, refl, sym, ap, ◌∙◌, subst, inl, inr, arith}
 use Rattle.std.specs.Prelude.{All, IsTrue, codes}
 use Rattle.std.specs.List.{AllByRecursion}
 use Rattle.std.specs.Option.{IsSomeAnd, option_map}
@@ -11,7 +11,7 @@ use Rattle.vpf_triplet.specs.declared.kinds.Kind.{Kind}
 use Rattle.vpf_triplet.specs.declared.kinds.Kind.TheVariants as kinds
 use Rattle.vpf_triplet.specs.declared.triplets.Triplet.{Triplet}
 use Rattle.vpf_triplet.specs.Reading.{is_small}
-use Rattle.vpf_value.specs.Fitting.{FitsCell}
+use Rattle.vpf_value.specs.Inner.Fitting.{FitsCell}
 use Rattle.vpf_value.specs.Values.{TripletOf, Value}
 use Rattle.vpf_head.specs.Folding.{same_name}
 use Rattle.vpf_head.specs.Head.{Col, Head}
@@ -23,8 +23,8 @@ use Rattle.vpf_primitive_tables.specs.declared.table_forms.places.EdgePlaces.{Ed
 use Rattle.vpf_primitive_tables.specs.declared.table_forms.places.PairPlaces.{PairPlaces}
 use Rattle.vpf_primitive_tables.specs.declared.table_forms.places.RingPlaces.{RingPlaces}
 use Rattle.vpf_primitive_tables.specs.TableForms.Forms.{AreOfKind, EdgeValues, edge_kinds_of, edge_values_of, id_kinds, named_value, natural_value, pair_kinds, pair_values, ring_kinds, ring_values}
-use Rattle.vpf_primitive_tables.specs.TableForms.Places.{AreEdgePlaces, ArePairPlaces, AreRingPlaces, IsColumnAt}
-use Rattle.vpf_primitive_tables.proofs.table_forms.ColumnLemmas.{places_differ}
+use Rattle.vpf_primitive_tables.specs.Inner.TableForms.Places.{AreEdgePlaces, ArePairPlaces, AreRingPlaces, IsColumnAt}
+use Rattle.vpf_primitive_tables.specs.Inner.TileReading.ChangeLaws.{places_differ}
 use Rattle.vpf_tiling.specs.Tiles.{Ring}
 
 -- a new kind for a column, and a new value

@@ -1,5 +1,5 @@
 -- Rows of rings: all their columns have new values, so it doesn't matter what stood there.
-use Rattle.std.proofs.Common.{◌≡◌, ◌≢◌, ℕ, zero, suc, ◌<◌, Bool, true, false, not, ◌||◌, List, [], ◌∷◌, length, map, get_or, Option, Some, None, slice_get, unwrap_or, refl, sym, ap, ◌∙◌, subst, inl, inr, arith}
+use Rattle.std.proofs.Common.{[], ◌≡◌, ◌≢◌, ℕ, zero, suc, ◌<◌, Bool, true, false, not, ◌||◌, List, ◌∷◌, length, map, get_or, Option, Some, None, slice_get, unwrap_or, refl, sym, ap, ◌∙◌, subst, inl, inr, arith}
 use Rattle.std.specs.Prelude.{codes, filter}
 use Rattle.std.specs.List.{IsDistinct}
 use Rattle.std.specs.Option.{option_map}
@@ -23,8 +23,8 @@ use Rattle.vpf_write.specs.Revise.Revising.{FitsElsewhere, NewValue, revised, re
 use Rattle.vpf_tiling.specs.Tiles.{Ring}
 use Rattle.vpf_primitive_tables.specs.declared.table_forms.places.RingPlaces.{RingPlaces}
 use Rattle.vpf_primitive_tables.specs.TableForms.Forms.{bare_row, natural_value, ring_values}
-use Rattle.vpf_primitive_tables.specs.TableForms.Places.{AreRingPlaces}
-use Rattle.vpf_primitive_tables.proofs.table_forms.ColumnLemmas.{place_is}
+use Rattle.vpf_primitive_tables.specs.Inner.TableForms.Places.{AreRingPlaces}
+use Rattle.vpf_primitive_tables.specs.Inner.TableForms.ColumnLaws.{place_is}
 use Rattle.vpf_primitive_tables.proofs.table_forms.NewCellLemmas.{number_put, ring_values_are}
 
 -- a row with these new values, of several for one column the first

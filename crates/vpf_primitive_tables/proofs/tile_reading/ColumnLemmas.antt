@@ -1,5 +1,5 @@
 -- The tables of tiles have their columns, of kinds that their roles allow, and the same ones in all tiles.
-use Rattle.std.proofs.Common.{◌≡◌, ℕ, Bool, true, false, cond, List, [], ◌∷◌, ◌++◌, codes, append-nil, Option, Some, None, refl, sym, ap, ◌∙◌, subst}
+use Rattle.std.proofs.Common.{[], ◌≡◌, ℕ, Bool, true, false, cond, List, ◌∷◌, ◌++◌, codes, append-nil, Option, Some, None, refl, sym, ap, ◌∙◌, subst}
 use Rattle.std.specs.List.{AllByRecursion, IsDistinct}
 use Rattle.std.specs.Option.{option_map}
 use Rattle.vpf_triplet.specs.declared.kinds.Kind.{Kind}
@@ -9,7 +9,7 @@ use Rattle.vpf_head.specs.Head.{Col, names}
 use Rattle.vpf_table.specs.Grid.{Grid}
 use Rattle.vpf_write.specs.declared.revise.changes.NewKind.{NewKind}
 use Rattle.vpf_write.specs.Revise.Revising.{revised_column, with_kinds}
-use Rattle.vpf_library_files.specs.Loading.Laws.{AreNamedApart}
+use Rattle.vpf_library_files.specs.Inner.Loading.Laws.{AreNamedApart}
 use Rattle.vpf_numbers.specs.Around.{around_of, model_end}
 use Rattle.vpf_numbers.specs.Matching.{AreLike, ColumnsMatch, HaveColumns}
 use Rattle.vpf_prims.specs.Coverages.{CoverageTables, tile_at}
@@ -20,10 +20,10 @@ use Rattle.vpf_prims.specs.Tables.{TileTables}
 use Rattle.vpf_tiling.specs.Tiles.{is_made}
 use Rattle.vpf_primitive_tables.specs.TableForms.Forms.{named_kind, pair_kinds, ring_kinds}
 use Rattle.vpf_primitive_tables.specs.TileTables.Grids.{edge_kinds, entities_made}
-use Rattle.vpf_primitive_tables.specs.TileReading.Cuts.{IsCutInto, tables_of_tile}
+use Rattle.vpf_primitive_tables.specs.Inner.TileReading.Cuts.{IsCutInto, tables_of_tile}
 use Rattle.vpf_primitive_tables.proofs.tile_reading.KindLemmas.{Allows, bare_kept, kinds_said, roles_suit}
-use Rattle.vpf_primitive_tables.proofs.tile_reading.EachLemmas.{each_kept}
-use Rattle.vpf_primitive_tables.proofs.tile_reading.RowLemmas.{SuitRoles}
+use Rattle.vpf_base.proofs.Lists.{each_kept}
+use Rattle.vpf_primitive_tables.specs.Inner.TileReading.RowLaws.{SuitRoles}
 use Rattle.vpf_primitive_tables.proofs.tile_reading.SameLemmas.{HasThese, like_first}
 
 -- the new kinds of the columns of edges by their names

@@ -1,5 +1,5 @@
 -- Columns with new kinds: they have the roles that they had, where the new kinds are such as the roles allow.
-use Rattle.std.proofs.Common.{◌≡◌, ℕ, ◌+◌, Bool, true, false, cond, not, List, [], ◌∷◌, map, slice_get, IfSome, Option, Some, None, refl, sym, subst, arith}
+use Rattle.std.proofs.Common.{[], ◌≡◌, ℕ, ◌+◌, Bool, true, false, cond, not, List, ◌∷◌, map, slice_get, IfSome, Option, Some, None, refl, sym, subst, arith}
 use Rattle.std.specs.List.{AllByRecursion, enumerate_from}
 use Rattle.std.specs.Option.{option_map, option_and_then, unwrap_or}
 use Rattle.vpf_triplet.specs.declared.kinds.Kind.{Kind}
@@ -10,9 +10,10 @@ use Rattle.vpf_prims.specs.Columns.{column_of}
 use Rattle.vpf_prims.specs.Reading.{has_role}
 use Rattle.vpf_prims.specs.Roles.{Role, suits}
 use Rattle.vpf_prims.specs.Suiting.{SuitsRole, carried_columns}
-use Rattle.vpf_primitive_tables.proofs.tile_reading.ChangeLemmas.{found, said, said_of}
+use Rattle.vpf_primitive_tables.specs.Inner.TileReading.ChangeLaws.{found}
+use Rattle.vpf_primitive_tables.specs.Inner.TileReading.ChangeLaws.{said_of, said_anew as said}
 use Rattle.vpf_primitive_tables.proofs.tile_reading.EachLemmas.{slice_get_each}
-use Rattle.vpf_primitive_tables.proofs.tile_reading.CellLemmas.{place_kept}
+use Rattle.vpf_primitive_tables.specs.Inner.TileReading.CellLaws.{place_kept}
 
 -- the new kinds of the columns of these names
 abbrev pub kinds_said : List Col → List (List ℕ × Kind) → List NewKind

@@ -1,6 +1,5 @@
 -- Columns whose names are apart stand where their names do.
-use Rattle.std.proofs.Common.{◌≡◌, ℕ, suc, ◌<◌, Bool, true, false, cond, ltb, lt-ltb, List, []}
-use Rattle.std.proofs.Common.{◌∷◌, length, filter, get_or, slice_get, Some, None, refl, sym, ap, ◌∙◌, arith}
+use Rattle.std.proofs.Common.{[], ◌≡◌, ℕ, suc, ◌<◌, cond, ltb, lt-ltb, List, ◌∷◌, length, get_or, slice_get, Some, None, refl, sym, ap, ◌∙◌, arith}
 use Rattle.std.specs.List.{AllByRecursion, IsDistinct, position_or_len}
 use Rattle.std.specs.Option.{option_and_then}
 use Rattle.std.proofs.lemmas.List.{get_or-map, length-map}
@@ -10,22 +9,12 @@ use Rattle.std.proofs.lemmas.Option.{get_or_from_slice_get, slice_get_within}
 use Rattle.vpf_head.specs.Folding.{same_name}
 use Rattle.vpf_head.specs.Head.{Col, names, place_of}
 use Rattle.vpf_prims.specs.Columns.{column_of}
-use Rattle.vpf_primitive_tables.proofs.tile_reading.ChangeLemmas.{same_names}
+use Rattle.vpf_primitive_tables.specs.Inner.TableForms.ColumnLaws.{same_names}
 
 -- what holds of each element by its place holds of all
 pub all_by_place : {X : Type 0} (Q : X → Type 0) (xs : List X) → ((i : ℕ) (x : X) → slice_get xs i ≡ Some x → Q x) → AllByRecursion Q xs
 all_by_place Q [] h = tt
 all_by_place Q (x ∷ xs) h = (h 0 x refl, all_by_place Q xs (λ i y e. h (suc i) y e))
-
--- one element more, which passes or not
-kept_one : {X : Type 0} (Q : X → Type 0) (b : Bool) (x : X) (xs : List X) → Q x → AllByRecursion Q xs → AllByRecursion Q (cond b (x ∷ xs) xs)
-kept_one Q true x xs q h = (q, h)
-kept_one Q false x xs q h = h
-
--- what holds of all holds of those that pass a test
-pub all_passing : {X : Type 0} (Q : X → Type 0) (p : X → Bool) (xs : List X) → AllByRecursion Q xs → AllByRecursion Q (filter p xs)
-all_passing Q p [] h = tt
-all_passing Q p (x ∷ xs) h = kept_one Q (p x) x (filter p xs) h.0 (all_passing Q p xs h.1)
 
 -- where names are apart, the name of a column stands where the column does
 place_own : (columns : List Col) → IsDistinct same_name (names columns) → (i : ℕ) (column : Col) → slice_get columns i ≡ Some column

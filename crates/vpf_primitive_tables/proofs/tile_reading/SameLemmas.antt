@@ -1,5 +1,5 @@
 -- The columns of a table in the first tile that has it, where all tiles have the same.
-use Rattle.std.proofs.Common.{◌≡◌, ℕ, Bool, true, false, not, cond, List, [], ◌∷◌, map, slice_get, IfSome, Option, Some, None, refl, sym, ap, ◌∙◌, subst}
+use Rattle.std.proofs.Common.{[], ◌≡◌, ℕ, Bool, true, false, not, cond, List, ◌∷◌, map, slice_get, IfSome, Option, Some, None, refl, sym, ap, ◌∙◌, subst}
 use Rattle.std.specs.List.{AllByRecursion, IsDistinct}
 use Rattle.std.specs.Option.{option_map}
 use Rattle.std.proofs.Math.ListN.{get_or-map}
@@ -14,9 +14,10 @@ use Rattle.vpf_prims.specs.Roles.{Role}
 use Rattle.vpf_prims.specs.Tables.{TileTables}
 use Rattle.vpf_numbers.specs.Around.{around_of, columns_or, first_having, model_in}
 use Rattle.vpf_numbers.specs.Matching.{AreLike, HaveSameColumns, form_of}
-use Rattle.vpf_primitive_tables.specs.TileReading.Cuts.{IsCutInto, tables_if_any, tables_of_tile}
+use Rattle.vpf_primitive_tables.specs.Inner.TileReading.Cuts.{IsCutInto, tables_if_any, tables_of_tile}
 use Rattle.vpf_tiling.specs.Tiles.{is_made}
-use Rattle.vpf_primitive_tables.proofs.tile_reading.OwnLemmas.{all_by_place, all_passing, column_own}
+use Rattle.vpf_primitive_tables.proofs.tile_reading.OwnLemmas.{all_by_place, column_own}
+use Rattle.vpf_primitive_tables.specs.Inner.TileReading.OwnLaws.{all_passing}
 
 -- columns whose names are apart are like themselves
 pub like_itself : (roles : List Role) (columns : List Col) → IsDistinct same_name (names columns) → HaveSameColumns roles columns columns

@@ -1,5 +1,5 @@
 -- What the tables of tiles say is what the tiled library has in those tiles.
-use Rattle.std.proofs.Common.{◌≡◌, ◌==◌, ℕ, Bool, true, false, cond, List, [], ◌∷◌, length, codes, Option, Some, None, refl, sym, ap, ◌∙◌, subst, arith}
+use Rattle.std.proofs.Common.{[], ◌≡◌, ◌==◌, ℕ, Bool, true, false, cond, List, ◌∷◌, length, codes, Option, Some, None, refl, sym, ap, ◌∙◌, subst, arith}
 use Rattle.std.specs.List.{AllByRecursion}
 use Rattle.std.specs.Option.{option_map, unwrap_or}
 use Rattle.std.proofs.lemmas.List.{length-map}
@@ -7,7 +7,7 @@ use Rattle.vpf_head.specs.Head.{Col}
 use Rattle.vpf_table.specs.Grid.{Grid, Row}
 use Rattle.vpf_write.specs.Revise.Revising.{with_kinds, revised}
 use Rattle.vpf_prims.specs.Coverages.{CoverageTables, tile_at}
-use Rattle.vpf_prims.specs.Laws.{AreFilled, IsFilled}
+use Rattle.vpf_prims.specs.Inner.Laws.{AreFilled, IsFilled}
 use Rattle.vpf_prims.specs.Libraries.{library_of, primitives_in}
 use Rattle.vpf_prims.specs.Lists.{first_item, kth}
 use Rattle.vpf_prims.specs.Numbering.{IsRowOf}
@@ -18,18 +18,16 @@ use Rattle.vpf_prims.specs.Roles.{entity_roles}
 use Rattle.vpf_prims.specs.Suiting.{HasColumns, HasRoles}
 use Rattle.vpf_prims.specs.Tables.{TileTables}
 use Rattle.vpf_wing.specs.WellFormed.{IsWellFormed}
-use Rattle.vpf_tiling.specs.Presence.{containing_face, has_edge, has_node, held_entities, held_faces}
-use Rattle.vpf_tiling.specs.Presence.{holds_entity, holds_face, local_face, present_edges, present_nodes}
+use Rattle.vpf_tiling.specs.Presence.{containing_face, has_edge, has_node, held_entities, held_faces, holds_entity, holds_face, local_face, present_edges, present_nodes}
 use Rattle.vpf_tiling.specs.Ranks.{numbered}
-use Rattle.vpf_tiling.specs.Tiles.{Ring, first_edge_at, is_made, numbered_entity, numbered_face, numbered_node}
-use Rattle.vpf_tiling.specs.Tiles.{numbered_ring, tiled_edge, tiled_edges, tiled_library, tiled_primitives, tiled_rings}
-use Rattle.vpf_primitive_tables.specs.TableForms.Forms.{bare_row}
-use Rattle.vpf_primitive_tables.specs.TileTables.Grids.{edge_kinds, edge_values, edges_made, entities_made, faces_made}
-use Rattle.vpf_primitive_tables.specs.TableForms.Forms.{pair_kinds, pair_values, ring_kinds, ring_values}
-use Rattle.vpf_primitive_tables.specs.TileTables.Grids.{nodes_made, rings_made}
-use Rattle.vpf_primitive_tables.specs.TileReading.Cuts.{IsCutInto, tables_of_tile}
-use Rattle.vpf_primitive_tables.proofs.tile_reading.NumberLemmas.{kth_has, kth_map, read_numbered, rows_passing}
-use Rattle.vpf_primitive_tables.proofs.tile_reading.RowLemmas.{edge_like, edge_said, entity_said, face_said, node_said, ring_said}
+use Rattle.vpf_tiling.specs.Tiles.{Ring, first_edge_at, is_made, numbered_entity, numbered_face, numbered_node, numbered_ring, tiled_edge, tiled_edges, tiled_library, tiled_primitives, tiled_rings}
+use Rattle.vpf_primitive_tables.specs.TableForms.Forms.{bare_row, pair_kinds, pair_values, ring_kinds, ring_values}
+use Rattle.vpf_primitive_tables.specs.TileTables.Grids.{edge_kinds, edge_values, edges_made, entities_made, faces_made, nodes_made, rings_made}
+use Rattle.vpf_primitive_tables.specs.Inner.TileReading.Cuts.{IsCutInto, tables_of_tile}
+use Rattle.vpf_primitive_tables.proofs.tile_reading.NumberLemmas.{rows_passing}
+use Rattle.vpf_primitive_tables.specs.Inner.TileReading.NumberLaws.{kth_has, kth_map, read_numbered}
+use Rattle.vpf_primitive_tables.proofs.tile_reading.RowLemmas.{edge_like, edge_said}
+use Rattle.vpf_primitive_tables.specs.Inner.TileReading.RowLaws.{entity_said, face_said, node_said, ring_row_said as ring_said}
 
 -- the row of a number is whole
 whole_row : (grid : Grid) → IsFilled grid → (k : ℕ) → IsRowOf (length grid.rows) k → length (kth grid.rows k []) ≡ length grid.head.columns

@@ -9,9 +9,9 @@ use Rattle.vpf_write.specs.declared.writing.Written.{Written}
 use Rattle.vpf_prims.specs.Primitives.{Primitives, entities_in}
 use Rattle.vpf_prims.specs.Reading.{PrimitiveTables, edge_in_row, entity_in_row, face_in_row, node_in_row, primitives_of, rows_said}
 use Rattle.vpf_primitive_tables.specs.declared.tile_tables.forms.Forms.TheInside.{Inside}
-use Rattle.vpf_primitive_tables.specs.TableForms.Models.{PairsLike}
+use Rattle.vpf_primitive_tables.specs.Inner.TableForms.Models.{PairsLike}
 use Rattle.vpf_primitive_tables.specs.TileTables.Grids.{pairs_made}
-use Rattle.vpf_primitive_tables.specs.TileTables.Models.{tables_like}
+use Rattle.vpf_primitive_tables.specs.Inner.TileTables.Models.{tables_like}
 
 -- the primitives are those of the tables
 same_source : (source : Primitives) (f : Inside) (t : PrimitiveTables) → source ≡ primitives_of t → tables_like f ≡ t → source ≡ primitives_of (tables_like f)

@@ -5,7 +5,7 @@ use Rattle.vpf_head.specs.Head.{Col}
 use Rattle.vpf_table.specs.Grid.{Row}
 use Rattle.vpf_write.specs.Revise.Revising.{revised}
 use Rattle.vpf_tiling.specs.Ranks.{numbered, numbered_from}
-use Rattle.vpf_write.specs.Tallies.{Tally, Holds}
+use Rattle.vpf_write.specs.Inner.Tallies.{Tally, Holds}
 use Rattle.vpf_primitive_tables.specs.TableForms.Forms.{named_value, natural_value}
 
 -- row k of the table of tiles

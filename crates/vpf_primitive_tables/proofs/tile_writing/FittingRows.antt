@@ -7,7 +7,7 @@ use Rattle.vpf_triplet.specs.Canonical.{HasSmallParts}
 use Rattle.vpf_triplet.specs.declared.kinds.Count.TheVariants.{Fixed}
 use Rattle.vpf_triplet.specs.declared.kinds.Kind.TheVariants as kinds
 use Rattle.vpf_triplet.specs.declared.triplets.Triplet.{Triplet}
-use Rattle.vpf_value.specs.Fitting.{FitsCell}
+use Rattle.vpf_value.specs.Inner.Fitting.{FitsCell}
 use Rattle.vpf_value.specs.Values.{TripletOf}
 use Rattle.vpf_head.specs.Folding.{same_name}
 use Rattle.vpf_head.specs.Head.{Col, names}
@@ -22,7 +22,7 @@ use Rattle.vpf_tiling.specs.Ranks.{numbered, numbered_from}
 use Rattle.vpf_tiling.specs.Tiles.{Ring}
 use Rattle.vpf_primitive_tables.specs.TableForms.Forms.{AreOfKind, bare_row, id_kinds, named_value, natural_value, pair_kinds, pair_values, ring_kinds, ring_values}
 use Rattle.vpf_primitive_tables.specs.TileTables.Grids.{id_values, edge_kinds, edge_values}
-use Rattle.vpf_primitive_tables.specs.TableForms.Places.{AreEdgePlaces, ArePairPlaces, AreRingPlaces, IsColumnAt}
+use Rattle.vpf_primitive_tables.specs.Inner.TableForms.Places.{AreEdgePlaces, ArePairPlaces, AreRingPlaces, IsColumnAt}
 use Rattle.vpf_primitive_tables.proofs.table_forms.NewCellLemmas.{IdsFit, KeepsOthers, NumbersFit, PlacesColumns, edge_fits, edge_kinds_are, edge_puts, edge_values_are, id_fits, id_kinds_are, id_values_are, number_put, pair_fits, pair_kinds_are, pair_values_are, ring_fits, ring_values_are}
 use Rattle.vpf_primitive_tables.proofs.table_forms.RingLemmas.{others_covered, ring_puts}
 use Rattle.vpf_primitive_tables.proofs.tile_writing.SmallReferences.{HasSmall}

@@ -2,13 +2,14 @@
 use Rattle.std.proofs.Common.{◌≡◌, ℕ, List, codes, Option, Some, None, refl}
 use Rattle.std.specs.Prelude.{All}
 use Rattle.vpf_head.specs.Head.{Col, place_of}
-use Rattle.vpf_head.specs.Soundness.{IsCounted, IsSound}
+use Rattle.vpf_head.specs.Inner.Soundness.{IsCounted, IsSound}
 use Rattle.vpf_prims.specs.Columns.{column_of}
 use Rattle.vpf_prims.specs.Roles.{edge_roles, entity_roles, face_roles, node_roles, number_role, reference_role, ring_roles}
 use Rattle.vpf_prims.specs.Suiting.{HasRoles, SuitsRole}
 use Rattle.vpf_table.specs.Grid.{Grid}
-use Rattle.vpf_primitive_tables.specs.TableForms.Places.{AreEdgePlaces, ArePairPlaces, AreRingPlaces, IsColumnAt, NamesRows}
-use Rattle.vpf_primitive_tables.proofs.table_forms.ColumnLemmas.{is_there, number_names, reference_names, stands}
+use Rattle.vpf_primitive_tables.specs.Inner.TableForms.Places.{AreEdgePlaces, ArePairPlaces, AreRingPlaces, IsColumnAt, NamesRows}
+use Rattle.vpf_primitive_tables.proofs.table_forms.ColumnLemmas.{is_there, number_names, stands}
+use Rattle.vpf_primitive_tables.specs.Inner.TableForms.ColumnLaws.{reference_names}
 
 -- the place of a column that is there, which has one value
 pub record HasPlace (columns : List Col) (name : List ℕ) : Type 0 where

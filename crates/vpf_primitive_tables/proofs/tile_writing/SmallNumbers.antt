@@ -7,11 +7,11 @@ use Rattle.vpf_darts.specs.Darts.{code, edge_in, tile_in}
 use Rattle.vpf_prims.specs.Lists.{first_from, first_item}
 use Rattle.vpf_prims.specs.Numbering.{IsRowOf}
 use Rattle.vpf_prims.specs.Primitives.{Primitives, edge_count, untiled}
-use Rattle.vpf_wing.specs.DartLaws.{IsThere, has-there}
+use Rattle.vpf_wing.specs.Inner.DartLaws.{IsThere, has-there}
 use Rattle.vpf_wing.specs.WellFormed.{IsWellFormed}
 use Rattle.vpf_tiling.specs.Presence.{has_edge, has_node, holds_face, local_edge, local_face, local_node}
-use Rattle.vpf_tiling.specs.PresenceLaws.{AtNode, at_node, present_has, tail_in_nodes}
-use Rattle.vpf_tiling.specs.RankLaws.{rank-step, weight}
+use Rattle.vpf_tiling.specs.Inner.PresenceLaws.{AtNode, at_node, present_has, tail_in_nodes}
+use Rattle.vpf_tiling.specs.Inner.RankLaws.{rank-step, weight}
 use Rattle.vpf_tiling.specs.Ranks.{rank, up_to}
 
 -- ---- ranks

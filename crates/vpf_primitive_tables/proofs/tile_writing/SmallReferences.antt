@@ -1,5 +1,5 @@
 -- What the edges and rings of a tile name has small numbers, in this tile and in others.
-use Rattle.std.proofs.Common.{◌≡◌, ◌≢◌, ℕ, ◌+◌, ◌<◌, ◌≤◌, ◌^◌, Bool, true, false, cond, eqb, Some, List, [], ◌∷◌, ◌++◌, length, map, refl, sym, subst, inl, inr, arith}
+use Rattle.std.proofs.Common.{[], ◌≡◌, ◌≢◌, ℕ, ◌+◌, ◌<◌, ◌≤◌, ◌^◌, Bool, true, false, cond, eqb, Some, List, ◌∷◌, length, map, refl, sym, subst, inl, inr, arith}
 use Rattle.std.specs.Prelude.{IsTrue, flat_map}
 use Rattle.std.specs.List.{AllByRecursion}
 use Rattle.std.proofs.lemmas.Bool.{cases_eq, eq-eqb, lt-ltb, ne_eqb}
@@ -9,13 +9,14 @@ use Rattle.vpf_triplet.specs.Reading.{is_small}
 use Rattle.vpf_darts.specs.Darts.{code, edge_in, flip}
 use Rattle.vpf_prims.specs.Primitives.{EdgePrimitive, Primitives, cross, untiled}
 use Rattle.vpf_prims.specs.References.{id_of, plain}
-use Rattle.vpf_wing.specs.DartLaws.{flip-flip, flip-has}
+use Rattle.vpf_wing.specs.Inner.DartLaws.{flip-flip, flip-has}
 use Rattle.vpf_wing.specs.WellFormed.{IsWellFormed}
 use Rattle.vpf_tiling.specs.Plans.{IsTileable}
 use Rattle.vpf_tiling.specs.Presence.{face_of, has_edge, head_of, held_faces, home, local_edge, local_face, local_node, next_of, tile_map, untiled_links}
-use Rattle.vpf_tiling.specs.PresenceLaws.{InFaces, in_faces, other-code, present_has, source_next}
+use Rattle.vpf_tiling.specs.Inner.PresenceLaws.{InFaces, in_faces, other-code, present_has, source_next}
 use Rattle.vpf_tiling.specs.Tiles.{Ring, face_rings, outer_rings, reference_to, tiled_edge, tiled_face, tiled_node, tiled_rings, tiled_wing}
 use Rattle.vpf_primitive_tables.proofs.tile_writing.SmallNumbers.{local_edge_few, local_face_few, local_node_few}
+use Rattle.vpf_base.proofs.Lists.{all_joined, all_flat}
 
 -- a coverage that may be tiled, whose things and tiles have small numbers
 pub record IsFew (c : Primitives) (plan : ℕ → ℕ) (tiles : ℕ) : Type 0 where
@@ -163,14 +164,6 @@ pub record IsSmallRing (r : Ring) : Type 0 where
 all_map : {X Y : Type 0} (P : Y → Type 0) (f : X → Y) (xs : List X) → ((x : X) → P (f x)) → AllByRecursion P (map f xs)
 all_map P f [] each = tt
 all_map P f (x ∷ xs) each = (each x, all_map P f xs each)
-
-all_joined : {X : Type 0} (P : X → Type 0) (xs ys : List X) → AllByRecursion P xs → AllByRecursion P ys → AllByRecursion P (xs ++ ys)
-all_joined P [] ys all others = others
-all_joined P (x ∷ xs) ys all others = (all.0, all_joined P xs ys all.1 others)
-
-all_flat : {X Y : Type 0} (P : Y → Type 0) (f : X → List Y) (xs : List X) → ((x : X) → AllByRecursion P (f x)) → AllByRecursion P (flat_map f xs)
-all_flat P f [] each = tt
-all_flat P f (x ∷ xs) each = all_joined P (f x) (flat_map f xs) (each x) (all_flat P f xs each)
 
 pub rings_small : (c : Primitives) (plan : ℕ → ℕ) (tiles : ℕ) → IsFew c plan tiles → (t : ℕ) → AllByRecursion IsSmallRing (tiled_rings c plan t)
 rings_small c plan tiles few t =

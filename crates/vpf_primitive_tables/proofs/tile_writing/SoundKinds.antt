@@ -7,7 +7,7 @@ use Rattle.std.proofs.lemmas.Bool.{eq-eqb, ne_eqb}
 use Rattle.vpf_triplet.specs.declared.kinds.Count.TheVariants.{Fixed}
 use Rattle.vpf_triplet.specs.declared.kinds.Kind.{Kind}
 use Rattle.vpf_head.specs.Head.{Col, Head, names_rows, with_kind}
-use Rattle.vpf_head.specs.Soundness.{IsSound}
+use Rattle.vpf_head.specs.Inner.Soundness.{IsSound}
 use Rattle.vpf_write.specs.declared.revise.changes.NewKind.{NewKind}
 use Rattle.vpf_write.specs.Revise.Revising.{head_with_kinds, kind_for, revised_column, with_kinds}
 use Rattle.vpf_primitive_tables.proofs.table_forms.NewCellLemmas.{PlacesColumns}

@@ -1,5 +1,5 @@
 -- The table of tiles that is made: its ids have another kind and say what they said, and everything else stays.
-use Rattle.std.proofs.Common.{◌≡◌, ◌≢◌, ℕ, zero, suc, ◌+◌, ◌<◌, ◌≤◌, pos, negsuc, true, List, [], ◌∷◌, length, map, codes, get_or, Option, Some, None, slice_get, unwrap_or, refl, sym, ap, ◌∙◌, subst, arith}
+use Rattle.std.proofs.Common.{[], ◌≡◌, ◌≢◌, ℕ, zero, suc, ◌+◌, ◌<◌, ◌≤◌, pos, negsuc, true, List, ◌∷◌, length, map, codes, get_or, Option, Some, None, slice_get, unwrap_or, refl, sym, ap, ◌∙◌, subst, arith}
 use Rattle.std.specs.Prelude.{position}
 use Rattle.std.specs.List.{AllByRecursion, enumerate_from}
 use Rattle.std.specs.Option.{option_and_then, option_map, option_to_list}
@@ -10,7 +10,7 @@ use Rattle.vpf_triplet.specs.declared.kinds.Kind.TheVariants as kinds
 use Rattle.vpf_value.specs.Values.{NumberOf, Value, Nothing}
 use Rattle.vpf_head.specs.Folding.{same_name}
 use Rattle.vpf_head.specs.Head.{Col, place_of}
-use Rattle.vpf_head.specs.Soundness.{IsSound}
+use Rattle.vpf_head.specs.Inner.Soundness.{IsSound}
 use Rattle.vpf_table.specs.Canonical.{FitsRow}
 use Rattle.vpf_table.specs.Grid.{Grid, Row}
 use Rattle.vpf_prims.specs.Columns.{column_of}
@@ -23,18 +23,19 @@ use Rattle.vpf_prims.specs.declared.roles.Wants.TheVariants as wants
 use Rattle.vpf_prims.specs.Suiting.{HasRoles, SuitsRole}
 use Rattle.vpf_library_files.specs.Tileref.Paths.{IsPath, TilePath, path_of, path_text}
 use Rattle.vpf_library_files.specs.Tileref.Tileref.{IsTileref, paths_of, text_bytes}
-use Rattle.vpf_wing.specs.DartLaws.{none_is_some, same_some}
+use Rattle.vpf_wing.specs.Inner.DartLaws.{none_is_some, same_some}
 use Rattle.vpf_write.specs.declared.revise.changes.NewKind.{NewKind}
 use Rattle.vpf_write.specs.Revise.Revising.{kind_for, revised, revised_column, revised_value, value_for, with_kinds}
 use Rattle.vpf_tiling.specs.Ranks.{numbered_from}
-use Rattle.vpf_primitive_tables.specs.TableForms.Forms.{id_kinds, named_value, natural_value}
+use Rattle.vpf_primitive_tables.specs.TableForms.Forms.{id_kinds, natural_value}
 use Rattle.vpf_primitive_tables.specs.TileTables.Grids.{tiles_made}
-use Rattle.vpf_primitive_tables.proofs.table_forms.ColumnLemmas.{places_differ}
+use Rattle.vpf_primitive_tables.specs.Inner.TileReading.ChangeLaws.{places_differ}
 use Rattle.vpf_primitive_tables.proofs.table_forms.NewCellLemmas.{id_kinds_are, kind_at, value_put}
-use Rattle.vpf_primitive_tables.specs.TileWriting.Laws.{TilerefIsRead, TilerefIsWritable}
+use Rattle.vpf_primitive_tables.specs.Inner.TileWriting.Laws.{TilerefIsRead, TilerefIsWritable}
 use Rattle.vpf_primitive_tables.proofs.tile_writing.FittingRows.{MadeLaws, id_row, numbered_all}
 use Rattle.vpf_primitive_tables.proofs.tile_writing.PlacedColumns.{HasPlace, number_at}
 use Rattle.vpf_primitive_tables.proofs.tile_writing.SoundKinds.{TakesRows, shown_sound}
+use Rattle.vpf_primitive_tables.proofs.tile_tables.TileLemmas.{tile_row}
 
 -- ---- rows: each id is the number that it was
 
@@ -80,10 +81,6 @@ row_same : (row : Row) (k : ℕ) (o : Option ℕ) → natural_in (cell_at row o)
     → revised (option_to_list (option_map (λ c. value_put c (natural_value k)) o)) row ≡ row
 row_same row k None e = absurd (none_is_some k e)
 row_same row k (Some c) e = own_value c (natural_value k) 0 c row (omega arith) (number_in (cell_at row (Some c)) k e)
-
--- row k of the table of tiles
-abbrev tile_row : List Col → ℕ → Row → Row
-tile_row columns k row = revised (named_value columns (codes "id") (natural_value k)) row
 
 rows_from : (columns : List Col) (n : ℕ) (rows : List Row)
     → ((j : ℕ) → j < length rows → natural_in (named_cell columns (codes "id") (get_or rows j [])) ≡ Some (n + j))

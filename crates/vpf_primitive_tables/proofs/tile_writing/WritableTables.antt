@@ -1,5 +1,5 @@
 -- The tables of a tile are writable.
-use Rattle.std.proofs.Common.{◌≡◌, ℕ, ◌+◌, ◌<◌, ◌≤◌, ◌^◌, Bool, unwrap_or, List, [], ◌∷◌, length, codes, Option, Some, None, refl, ap, ◌∙◌, subst, arith}
+use Rattle.std.proofs.Common.{[], ◌≡◌, ℕ, ◌+◌, ◌<◌, ◌≤◌, ◌^◌, Bool, unwrap_or, List, ◌∷◌, length, codes, Option, Some, None, refl, ap, ◌∙◌, subst, arith}
 use Rattle.std.specs.Prelude.{filter, ◌==◌}
 use Rattle.std.specs.List.{AllByRecursion}
 use Rattle.std.specs.Option.{option_map}
@@ -7,7 +7,7 @@ use Rattle.std.proofs.lemmas.List.{length-map}
 use Rattle.vpf_base.specs.Limits.{most_rows}
 use Rattle.vpf_triplet.specs.declared.kinds.Kind.TheVariants as kinds
 use Rattle.vpf_head.specs.Head.{Col}
-use Rattle.vpf_head.specs.Soundness.{IsSound}
+use Rattle.vpf_head.specs.Inner.Soundness.{IsSound}
 use Rattle.vpf_table.specs.Canonical.{FitsRow, IsWritable}
 use Rattle.vpf_table.specs.Grid.{Grid, Row}
 use Rattle.vpf_prims.specs.Lists.{first_item, kth}
@@ -15,7 +15,7 @@ use Rattle.vpf_prims.specs.Numbering.{IsRowOf}
 use Rattle.vpf_prims.specs.Primitives.{EntityPrimitive, Primitives, tile_entities, untiled}
 use Rattle.vpf_prims.specs.Reading.{PrimitiveTables, edge_in_row, entity_in_row, face_in_row, node_in_row, primitives_of, rows_said}
 use Rattle.vpf_prims.specs.Suiting.{HasColumns}
-use Rattle.vpf_wing.specs.DartLaws.{none_is_some, same_some}
+use Rattle.vpf_wing.specs.Inner.DartLaws.{none_is_some, same_some}
 use Rattle.vpf_write.specs.declared.revise.changes.NewKind.{NewKind}
 use Rattle.vpf_write.specs.Revise.Revising.{head_with_kinds, with_kinds}
 use Rattle.vpf_tiling.specs.Presence.{containing_face, has_edge, has_node, held_entities, holds_entity, holds_face, present_edges, present_nodes}
@@ -23,12 +23,13 @@ use Rattle.vpf_tiling.specs.Ranks.{numbered, up_to}
 use Rattle.vpf_tiling.specs.Tiles.{Ring, first_edge_at, tiled_edge, tiled_edges, tiled_rings}
 use Rattle.vpf_primitive_tables.specs.TableForms.Forms.{pair_kinds, ring_kinds}
 use Rattle.vpf_primitive_tables.specs.TileTables.Grids.{edge_kinds, edges_made, entities_made, faces_made, faces_of_tile, nodes_made, pairs_made, rings_made}
-use Rattle.vpf_primitive_tables.specs.TableForms.Places.{AreEdgePlaces, ArePairPlaces, AreRingPlaces}
-use Rattle.vpf_primitive_tables.proofs.table_forms.CountedRows.{kth_all, length-numbered}
+use Rattle.vpf_primitive_tables.specs.Inner.TableForms.Places.{AreEdgePlaces, ArePairPlaces, AreRingPlaces}
+use Rattle.vpf_primitive_tables.proofs.table_forms.CountedRows.{kth_all}
+use Rattle.vpf_primitive_tables.specs.Inner.TableForms.CountedLaws.{length-numbered}
 use Rattle.vpf_primitive_tables.proofs.table_forms.NewCellLemmas.{edge_kinds_are, kind_at, reference_kinds, pair_kinds_are, ring_kinds_are}
-use Rattle.vpf_primitive_tables.specs.TileReading.Cuts.{tables_of_tile}
-use Rattle.vpf_primitive_tables.specs.TileWriting.Laws.{TilesAreWritable}
-use Rattle.vpf_primitive_tables.specs.TileWriting.Writable.{AreWritable, HaveFewRows}
+use Rattle.vpf_primitive_tables.specs.Inner.TileReading.Cuts.{tables_of_tile}
+use Rattle.vpf_primitive_tables.specs.Inner.TileWriting.Laws.{TilesAreWritable}
+use Rattle.vpf_primitive_tables.specs.Inner.TileWriting.Writable.{AreWritable, HaveFewRows}
 use Rattle.vpf_primitive_tables.proofs.tile_writing.FittingRows.{MadeLaws, edge_row, numbered_all, pair_row, ring_row}
 use Rattle.vpf_primitive_tables.proofs.tile_writing.PlacedColumns.{HasEdgePlaces, HasPairPlaces, HasRingPlaces, edge_places, entity_places, face_places, node_places, ring_places}
 use Rattle.vpf_primitive_tables.proofs.tile_writing.SmallNumbers.{IsPassing, all_passing, first_item_few}

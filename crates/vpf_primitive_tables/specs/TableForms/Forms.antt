@@ -5,7 +5,7 @@ use Rattle.std.specs.Option.{option_map, option_to_list}
 use Rattle.vpf_triplet.specs.declared.kinds.Count.TheVariants.{Fixed}
 use Rattle.vpf_triplet.specs.declared.kinds.Kind.{Kind}
 use Rattle.vpf_triplet.specs.declared.kinds.Kind.TheVariants as kinds
-use Rattle.vpf_value.specs.Fitting.{FitsCell}
+use Rattle.vpf_value.specs.Inner.Fitting.{FitsCell}
 use Rattle.vpf_value.specs.Values.{Value, NumberOf, Nothing}
 use Rattle.vpf_head.specs.Head.{Col, Head, place_of}
 use Rattle.vpf_table.specs.Grid.{Row, Grid}

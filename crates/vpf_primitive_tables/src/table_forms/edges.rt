@@ -4,8 +4,8 @@ ghost use Rattle.std.specs.Prelude.{◌≡◌, ◌<◌, ◌^◌, List, map};
 ghost use Rattle.vpf_head.specs.Head.{Col};
 ghost use Rattle.vpf_write.specs.Revise.Revising.{new_value};
 ghost use Rattle.vpf_primitive_tables.specs.TableForms.Forms.{edge_values_of};
-ghost use Rattle.vpf_primitive_tables.specs.TableForms.Models.{values_of_edge};
-ghost use Rattle.vpf_primitive_tables.specs.TableForms.Places.{AreEdgePlaces};
+ghost use Rattle.vpf_primitive_tables.specs.Inner.TableForms.Models.{values_of_edge};
+ghost use Rattle.vpf_primitive_tables.specs.Inner.TableForms.Places.{AreEdgePlaces};
 
 use crate::table_forms::places::EdgePlaces;
 use crate::table_forms::rows::{new_cell, new_number};
@@ -46,11 +46,11 @@ pub struct EdgeForm<'t, 'a> {
 }
 
 impl<'t, 'a> Model for EdgeForm<'t, 'a> {
-    ghost use Rattle.vpf_primitive_tables.specs.TableForms.Models.{EdgesLike};
+    ghost use Rattle.vpf_primitive_tables.specs.Inner.TableForms.Models.{EdgesLike};
 
     ghost Value = { EdgesLike };
 
-    ghost use Rattle.vpf_primitive_tables.specs.TableForms.Models.{IsEdgeForm, edges_like};
+    ghost use Rattle.vpf_primitive_tables.specs.Inner.TableForms.Models.{IsEdgeForm, edges_like};
 
     ghost view = { edges_like };
 
@@ -77,12 +77,12 @@ impl<'t, 'a> EdgeForm<'t, 'a> {
     ghost use Rattle.std.specs.Prelude.{◌≡◌, ◌<◌, ◌^◌, ◌++◌, ◌∷◌, [], List, IfOk, IsTrue, OnOk};
     ghost use Rattle.vpf_head.specs.Head.{names_rows};
     ghost use Rattle.vpf_table.specs.Grid.{Row};
-    ghost use Rattle.vpf_write.specs.Tallies.{Holds};
+    ghost use Rattle.vpf_write.specs.Inner.Tallies.{Holds};
     ghost use Rattle.vpf_write.specs.Revise.Revising.{FitsElsewhere, revised};
     ghost use Rattle.vpf_prims.specs.Roles.{edge_roles};
     ghost use Rattle.vpf_prims.specs.Suiting.{HasRoles};
     ghost use Rattle.vpf_primitive_tables.specs.TableForms.Forms.{AreOfKind, edge_kinds_of, edge_values_of, head_like};
-    ghost use Rattle.vpf_primitive_tables.specs.TableForms.Models.{values_of_edge};
+    ghost use Rattle.vpf_primitive_tables.specs.Inner.TableForms.Models.{values_of_edge};
 
     /// How tables of edges are written like this one, with references of a kind that can name rows. Fails where memory for the header runs out.
     pub fn new(table: &'t TableView<'a>, references: Kind) -> Result<EdgeForm<'t, 'a>, AllocError>

@@ -4,7 +4,7 @@ ghost use Rattle.std.specs.Prelude.{◌≡◌, ◌<◌, ◌^◌, ℕ, List, map}
 ghost use Rattle.vpf_head.specs.Head.{Col};
 ghost use Rattle.vpf_write.specs.Revise.Revising.{new_value};
 ghost use Rattle.vpf_primitive_tables.specs.TableForms.Forms.{pair_values};
-ghost use Rattle.vpf_primitive_tables.specs.TableForms.Places.{ArePairPlaces};
+ghost use Rattle.vpf_primitive_tables.specs.Inner.TableForms.Places.{ArePairPlaces};
 
 use crate::table_forms::places::PairPlaces;
 use crate::table_forms::rows::new_number;
@@ -26,11 +26,11 @@ pub struct PairForm<'t, 'a> {
 }
 
 impl<'t, 'a> Model for PairForm<'t, 'a> {
-    ghost use Rattle.vpf_primitive_tables.specs.TableForms.Models.{PairsLike};
+    ghost use Rattle.vpf_primitive_tables.specs.Inner.TableForms.Models.{PairsLike};
 
     ghost Value = { PairsLike };
 
-    ghost use Rattle.vpf_primitive_tables.specs.TableForms.Models.{IsPairForm, pairs_like};
+    ghost use Rattle.vpf_primitive_tables.specs.Inner.TableForms.Models.{IsPairForm, pairs_like};
 
     ghost view = { pairs_like };
 
@@ -52,10 +52,10 @@ fn new_cells<'a>(places: PairPlaces, number: u32, reference: u32) -> [NewCell<'a
 impl<'t, 'a> PairForm<'t, 'a> {
     ghost use Rattle.std.specs.Prelude.{◌≡◌, ◌<◌, ◌^◌, ◌++◌, ◌∷◌, [], List, IfOk, OnOk, codes};
     ghost use Rattle.vpf_table.specs.Grid.{Row};
-    ghost use Rattle.vpf_write.specs.Tallies.{Holds};
+    ghost use Rattle.vpf_write.specs.Inner.Tallies.{Holds};
     ghost use Rattle.vpf_write.specs.Revise.Revising.{FitsElsewhere, revised};
     ghost use Rattle.vpf_primitive_tables.specs.TableForms.Forms.{head_like, pair_kinds, pair_values};
-    ghost use Rattle.vpf_primitive_tables.specs.TableForms.Places.{NamesRows};
+    ghost use Rattle.vpf_primitive_tables.specs.Inner.TableForms.Places.{NamesRows};
 
     /// How tables are written like this one, whose column of references has this name. Fails where memory for the header runs out.
     pub fn new(

@@ -5,7 +5,7 @@ ghost use Rattle.vpf_head.specs.Head.{Col};
 ghost use Rattle.vpf_prims.specs.Roles.{edge_roles, ring_roles};
 ghost use Rattle.vpf_prims.specs.Suiting.{HasRoles};
 ghost use Rattle.vpf_primitive_tables.specs.TableForms.Forms.{edge_kinds_of, pair_kinds, ring_kinds};
-ghost use Rattle.vpf_primitive_tables.specs.TableForms.Places.{AreEdgePlaces, ArePairPlaces, AreRingPlaces, NamesRows, IsColumnAt};
+ghost use Rattle.vpf_primitive_tables.specs.Inner.TableForms.Places.{AreEdgePlaces, ArePairPlaces, AreRingPlaces, NamesRows, IsColumnAt};
 
 use vpf_head::Header;
 use vpf_table::TableView;

@@ -3,7 +3,7 @@
 ghost use Rattle.std.specs.Prelude.{◌≡◌, ◌<◌, ◌^◌, length, map};
 ghost use Rattle.vpf_value.specs.Values.{view};
 ghost use Rattle.vpf_primitive_tables.specs.TableForms.Forms.{ring_row};
-ghost use Rattle.vpf_primitive_tables.specs.TableForms.Models.{IsSmallRing};
+ghost use Rattle.vpf_primitive_tables.specs.Inner.TableForms.Models.{IsSmallRing};
 
 use crate::table_forms::places::RingPlaces;
 use crate::table_forms::rows::number_cell;
@@ -32,7 +32,7 @@ impl<'t, 'a> Model for RingForm<'t, 'a> {
 
     ghost Value = { Grid };
 
-    ghost use Rattle.vpf_primitive_tables.specs.TableForms.Models.{IsRingForm};
+    ghost use Rattle.vpf_primitive_tables.specs.Inner.TableForms.Models.{IsRingForm};
 
     ghost view = { λ f. f.table.now };
 
@@ -49,11 +49,11 @@ pub struct RingTable<'f, 't, 'a> {
 }
 
 impl<'f, 't, 'a> Model for RingTable<'f, 't, 'a> {
-    ghost use Rattle.vpf_primitive_tables.specs.TableForms.Models.{RingsPut};
+    ghost use Rattle.vpf_primitive_tables.specs.Inner.TableForms.Models.{RingsPut};
 
     ghost Value = { RingsPut };
 
-    ghost use Rattle.vpf_primitive_tables.specs.TableForms.Models.{IsRingTable, rings_put};
+    ghost use Rattle.vpf_primitive_tables.specs.Inner.TableForms.Models.{IsRingTable, rings_put};
 
     ghost view = { rings_put };
 
@@ -64,7 +64,7 @@ impl<'t, 'a> RingForm<'t, 'a> {
     ghost use Rattle.std.specs.Prelude.{◌≡◌, ◌<◌, ◌^◌, ◌++◌, ◌∷◌, [], List, IfOk, OnOk, length, map};
     ghost use Rattle.vpf_value.specs.Values.{view};
     ghost use Rattle.vpf_table.specs.Grid.{Row};
-    ghost use Rattle.vpf_write.specs.Tallies.{Holds};
+    ghost use Rattle.vpf_write.specs.Inner.Tallies.{Holds};
     ghost use Rattle.vpf_prims.specs.Roles.{ring_roles};
     ghost use Rattle.vpf_prims.specs.Suiting.{HasRoles, carried_columns};
     ghost use Rattle.vpf_primitive_tables.specs.TableForms.Forms.{head_like, ring_kinds, ring_row};
@@ -151,10 +151,10 @@ impl<'t, 'a> RingForm<'t, 'a> {
 impl<'f, 't, 'a> RingTable<'f, 't, 'a> {
     ghost use Rattle.std.specs.Prelude.{◌≡◌, ◌<◌, ◌^◌, ◌++◌, ◌∷◌, [], List, OnOk};
     ghost use Rattle.vpf_table.specs.Grid.{Row};
-    ghost use Rattle.vpf_write.specs.Tallies.{Holds};
+    ghost use Rattle.vpf_write.specs.Inner.Tallies.{Holds};
     ghost use Rattle.vpf_write.specs.Writing.{Writes};
     ghost use Rattle.vpf_primitive_tables.specs.TableForms.Forms.{ring_kinds, ring_row, table_like};
-    ghost use Rattle.vpf_primitive_tables.specs.TableForms.Models.{IsSmallRing};
+    ghost use Rattle.vpf_primitive_tables.specs.Inner.TableForms.Models.{IsSmallRing};
 
     /// Appends a ring: its number, the number of its face, and that of the edge where its walk starts. Fails only where memory runs out, and
     /// then each later call does, and `finish`.

@@ -1,6 +1,6 @@
 //! What is so of the tables of the tiles of every coverage.
 
-ghost use Rattle.vpf_primitive_tables.specs.TileReading.Laws.{CutsAreRead, CutsHaveColumns};
+ghost use Rattle.vpf_primitive_tables.specs.Inner.TileReading.Laws.{CutsAreRead, CutsHaveColumns};
 
 /// What the tables of the tiles say is the tiled library of what the coverage says: each primitive with its new id and its new references, its
 /// mark, and all that it carries.

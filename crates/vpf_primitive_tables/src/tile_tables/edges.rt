@@ -4,10 +4,10 @@ ghost use Rattle.std.specs.Prelude.{◌≡◌, length};
 ghost use Rattle.vpf_triplet.specs.declared.kinds.Kind.TheVariants.{K};
 ghost use Rattle.vpf_write.specs.Writing.{Writes};
 ghost use Rattle.vpf_prims.specs.Primitives.{EdgePrimitive};
-ghost use Rattle.vpf_cutting.specs.Cuts.{plan_by};
-ghost use Rattle.vpf_cutting.specs.Rows.{HasSmallReferences, references_of};
+ghost use Rattle.vpf_cutting.specs.Inner.Cuts.{plan_by};
+ghost use Rattle.vpf_cutting.specs.Inner.Rows.{HasSmallReferences, references_of};
 ghost use Rattle.vpf_primitive_tables.specs.TableForms.Forms.{AreOfKind};
-ghost use Rattle.vpf_primitive_tables.specs.TableForms.Models.{values_of_edge};
+ghost use Rattle.vpf_primitive_tables.specs.Inner.TableForms.Models.{values_of_edge};
 ghost use Rattle.vpf_primitive_tables.specs.TileTables.Grids.{edges_made, id_values};
 
 use crate::table_forms::laws::own_rows_fit;

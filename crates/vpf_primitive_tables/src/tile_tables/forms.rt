@@ -7,8 +7,8 @@ ghost use Rattle.vpf_prims.specs.Roles.{entity_roles};
 ghost use Rattle.vpf_prims.specs.Suiting.{HasRoles};
 ghost use Rattle.vpf_prims.specs.Tables.{table_named};
 ghost use Rattle.vpf_tiling.specs.Presence.{containing_face, held_entities, local_face};
-ghost use Rattle.vpf_cutting.specs.Cuts.{plan_by};
-ghost use Rattle.vpf_primitive_tables.specs.TileTables.Models.{NamesFaces};
+ghost use Rattle.vpf_cutting.specs.Inner.Cuts.{plan_by};
+ghost use Rattle.vpf_primitive_tables.specs.Inner.TileTables.Models.{NamesFaces};
 
 use crate::table_forms::{EdgeForm, PairForm, RingForm};
 use crate::tile_tables::edges::write_edges;
@@ -42,7 +42,7 @@ impl<'t, 'a> Model for Forms<'t, 'a> {
 
     ghost Value = { PrimitiveTables };
 
-    ghost use Rattle.vpf_primitive_tables.specs.TileTables.Models.{AreForms, tables_like};
+    ghost use Rattle.vpf_primitive_tables.specs.Inner.TileTables.Models.{AreForms, tables_like};
 
     ghost view = { tables_like };
 
@@ -102,9 +102,9 @@ impl<'t, 'a> Forms<'t, 'a> {
     ghost use Rattle.vpf_prims.specs.Reading.{primitives_of};
     ghost use Rattle.vpf_prims.specs.Suiting.{HasColumns};
     ghost use Rattle.vpf_tiling.specs.Tiles.{tiled_rings};
-    ghost use Rattle.vpf_cutting.specs.Cuts.{plan_by};
+    ghost use Rattle.vpf_cutting.specs.Inner.Cuts.{plan_by};
     ghost use Rattle.vpf_primitive_tables.specs.TileTables.Grids.{WritesWhere, edges_made, entities_made, faces_made, nodes_made, rings_made};
-    ghost use Rattle.vpf_cut_rings.specs.Rings.{HasSmallNumbers, ring_of};
+    ghost use Rattle.vpf_cut_rings.specs.Inner.Rings.{HasSmallNumbers, ring_of};
 
     /// The tables of an untiled coverage, in their files. Fails where memory for their headers runs out.
     pub fn new(tile: &'t Tile<'a>) -> Result<Forms<'t, 'a>, AllocError>

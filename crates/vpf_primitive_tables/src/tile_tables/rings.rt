@@ -2,7 +2,7 @@
 
 ghost use Rattle.std.specs.Prelude.{◌<◌, ◌^◌, All, length, map};
 ghost use Rattle.vpf_write.specs.Writing.{Writes};
-ghost use Rattle.vpf_cut_rings.specs.Rings.{HasSmallNumbers, ring_of};
+ghost use Rattle.vpf_cut_rings.specs.Inner.Rings.{HasSmallNumbers, ring_of};
 ghost use Rattle.vpf_primitive_tables.specs.TableForms.Forms.{rings_like};
 
 use crate::table_forms::RingForm;

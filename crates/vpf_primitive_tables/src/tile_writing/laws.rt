@@ -1,6 +1,6 @@
 //! What is so of the tables of the tiles of every coverage, and of the table of tiles.
 
-ghost use Rattle.vpf_primitive_tables.specs.TileWriting.Laws.{TilerefIsRead, TilerefIsWritable, TilesAreWritable};
+ghost use Rattle.vpf_primitive_tables.specs.Inner.TileWriting.Laws.{TilerefIsRead, TilerefIsWritable, TilesAreWritable};
 
 use vpf_head::laws::sound_headers_stay_sound;
 use vpf_write::revise::laws::{columns_by_position, numbers_and_ids_fit, revised_rows_fit};

@@ -1,18 +1,18 @@
 -- The edges of a library, counted tile by tile by their + darts.
-use Rattle.std.proofs.Common.{◌≡◌, ℕ, zero, suc, ◌+◌, Bool, cond, eqb, refl, sym, ap, ◌∙◌, inl, inr, arith, List, [], ◌∷◌, ◌++◌, length, append-nil, length-append}
+use Rattle.std.proofs.Common.{[], ◌≡◌, ℕ, zero, suc, ◌+◌, Bool, cond, eqb, refl, sym, ap, ◌∙◌, inl, inr, arith, List, ◌∷◌, ◌++◌, length, append-nil, length-append}
 use Rattle.std.specs.Prelude.{filter}
 use Rattle.std.proofs.lemmas.Bool.{cases_Bool}
 use Rattle.std.proofs.lemmas.List.Elements.{filter-append}
 use Rattle.vpf_darts.specs.Darts.{code, sign_in}
 use Rattle.vpf_prims.specs.Primitives.{Library, edge_count}
 use Rattle.vpf_wing.specs.Links.{links_of, row_darts, tile_darts}
-use Rattle.vpf_wing.specs.DartLaws.{code-sign}
+use Rattle.vpf_wing.specs.Inner.DartLaws.{code-sign}
 use Rattle.vpf_follow.specs.Following.{is_home}
-use Rattle.vpf_follow.specs.Homes.{darts_to}
-use Rattle.vpf_follow.proofs.ListLemmas.{to_end, to_tile}
+use Rattle.vpf_follow.specs.Inner.Homes.{darts_to}
+use Rattle.vpf_follow.specs.Inner.ListLaws.{to_end, to_tile}
 use Rattle.vpf_tiling_laws.specs.Gluing.Whole.{whole_of}
 use Rattle.vpf_tiling_laws.specs.Gluing.Glued.{plus_darts}
-use Rattle.vpf_renumbering.specs.GluedEdges.Counting.{plus_count}
+use Rattle.vpf_renumbering.specs.Inner.GluedEdges.Counting.{plus_count}
 
 plus_join : (L : Library) (xs ys : List ℕ) → plus_count L (xs ++ ys) ≡ plus_count L xs + plus_count L ys
 unfolding plus_count

@@ -1,7 +1,7 @@
 -- The row of the edge of a dart of a coverage, and the face that it names.
 use Rattle.std.proofs.Common.{◌≡◌, ℕ, ◌^◌, ◌<◌, ◌≤◌, Bool, Some, None, ap, ◌∙◌, subst, arith, length}
 use Rattle.vpf_darts.specs.declared.darts.TileDart.{TileDart}
-use Rattle.vpf_darts.specs.Darts.{edge_in, sign_of, tile_dart_code, tile_in}
+use Rattle.vpf_darts.specs.Darts.{edge_in, tile_dart_code}
 use Rattle.vpf_prims.specs.Coverages.{CoverageTables, tile_at}
 use Rattle.vpf_prims.specs.Libraries.{library_of, primitives_in}
 use Rattle.vpf_prims.specs.Lists.{kth}
@@ -9,16 +9,11 @@ use Rattle.vpf_prims.specs.Numbering.{IsRowOf}
 use Rattle.vpf_prims.specs.Primitives.{absent_edge, edge_count, edges_in}
 use Rattle.vpf_prims.specs.Reading.{primitives_of}
 use Rattle.vpf_prims.specs.Tables.{TileTables}
-use Rattle.vpf_wing.specs.DartLaws.{IsThere, code-edge, code-tile, has-there, minus-code, sign-small}
+use Rattle.vpf_wing.specs.Inner.DartLaws.{IsThere, has-there, minus-code}
 use Rattle.vpf_wing.specs.Links.{face_by, is_minus, link_of, links_of}
 use Rattle.vpf_follow.specs.Following.{face_beyond, face_name}
-use Rattle.vpf_follow.specs.Homes.{IsDartIn}
-
-tile_is : (d : TileDart) → d.edge < 2 ^ 32 → tile_in (tile_dart_code d) ≡ d.tile
-tile_is d few = code-tile d.tile d.edge (sign_of d.minus) few (sign-small d.minus)
-
-edge_is : (d : TileDart) → d.edge < 2 ^ 32 → edge_in (tile_dart_code d) ≡ d.edge
-edge_is d few = code-edge d.tile d.edge (sign_of d.minus) few (sign-small d.minus)
+use Rattle.vpf_follow.specs.Inner.Homes.{IsDartIn}
+use Rattle.vpf_renumbering.specs.Inner.GluedEdges.FaceLaws.{tile_is, edge_is}
 
 -- the edge of a dart of the coverage is one of its tile
 there : (c : CoverageTables) (d : TileDart) → d.edge < 2 ^ 32 → IsDartIn c d → IsRowOf (edge_count (library_of c) d.tile) d.edge

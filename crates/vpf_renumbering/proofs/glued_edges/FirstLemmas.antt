@@ -1,52 +1,27 @@
 -- The first edges of the nodes of a glued coverage, edge by edge.
-use Rattle.std.proofs.Common.{◌≡◌, ℕ, zero, suc, ◌+◌, ◌<◌, ◌≤◌, Bool, true, false, cond, eqb, ◌||◌, refl, sym, ap, ◌∙◌, subst, inl, inr, arith, List, [], ◌∷◌, ◌++◌, length, get_or, take, map, replicate}
+use Rattle.std.proofs.Common.{[], ◌≡◌, ℕ, zero, suc, ◌+◌, ◌<◌, ◌≤◌, Bool, cond, eqb, ◌||◌, refl, sym, ap, ◌∙◌, subst, inl, inr, arith, List, ◌∷◌, ◌++◌, length, get_or, take, map, replicate}
 use Rattle.std.specs.Prelude.{All}
-use Rattle.std.proofs.lemmas.Bool.{cases_eq, cases_lt, ne_eqb}
+use Rattle.std.proofs.lemmas.Bool.{cases_lt}
 use Rattle.std.proofs.lemmas.List.{ext_get_or, get_or-replicate, get_or_past, length-replicate, length-take-le, take_all, take_more}
 use Rattle.std.proofs.lemmas.List.Elements.{All-from_get_or}
 use Rattle.std.proofs.lemmas.List.FromFn.{get_or-map-range_with_len, length-map-range_with_len}
-use Rattle.vpf_copies.specs.declared.edges.EdgeNodes.{EdgeNodes}
+use Rattle.vpf_cutting.specs.declared.copies.edges.EdgeNodes.{EdgeNodes}
 use Rattle.vpf_prims.specs.Lists.{first_from, kth}
 use Rattle.vpf_prims.specs.Numbering.{IsRowOf}
 use Rattle.vpf_prims.specs.Primitives.{EdgePrimitive}
 use Rattle.vpf_prims.specs.References.{id_of}
-use Rattle.vpf_tiling.specs.RankLaws.{numbered_append, numbered_many}
+use Rattle.vpf_tiling.specs.Inner.RankLaws.{numbered_append, numbered_many}
 use Rattle.vpf_tiling.specs.Ranks.{numbered, up_to}
 use Rattle.vpf_tiling.specs.Tiles.{first_edge_at}
-use Rattle.vpf_cutting.specs.Rows.{ArePutAt, first_or}
+use Rattle.vpf_cutting.specs.Inner.Rows.{ArePutAt, first_or}
 use Rattle.vpf_tiling_laws.specs.Gluing.Whole.{Whole}
 use Rattle.vpf_tiling_laws.specs.Gluing.Glued.{first_darts, glued_edge, glued_edges, node_number, plus_darts}
+use Rattle.vpf_cutting.specs.Inner.FirstLaws.{put_or_not, first_more, first_below, zeros}
 
 -- so many edges are passed, and each node has the first of them that it has
 pub record AreFirsts (W : Whole) (k : ℕ) (firsts : List ℕ) : Type 0 where
   pub nodes : length firsts ≡ length (first_darts W)
   pub each : (n : ℕ) → IsRowOf (length firsts) n → kth firsts n 0 ≡ first_edge_at n (numbered (glued_edge W) (take k (plus_darts W)))
-
-first_none : (v : ℕ) → first_or v 0 ≡ v
-first_none v = elim (cases_eq v 0) [ inl z ↦ ap (λ x. first_or x 0) z ∙ sym z | inr some ↦ ap (λ b. cond b 0 v) (ne_eqb v 0 some) ]
-
-put_or_not : (x : Bool) (v edge : ℕ) → cond x (first_or v edge) v ≡ first_or v (cond x edge 0)
-put_or_not true v edge = refl
-put_or_not false v edge = sym (first_none v)
-
--- the first of one item more
-first_more : {X : Type 0} (p : X → Bool) (j : ℕ) (xs : List X) (x : X) → 1 ≤ j
-    → first_from j p (xs ++ x ∷ []) ≡ first_or (first_from j p xs) (cond (p x) (length xs + j) 0)
-first_more p zero xs x h = absurd (omega arith)
-first_more p (suc j) [] x h = ap (λ m. cond (p x) m 0) (let e : suc j ≡ 0 + suc j = omega arith in e)
-first_more p (suc j) (y ∷ ys) x h = later (p y) (first_more p (suc (suc j)) ys x (omega arith)) where
-  later : (b : Bool) → first_from (suc (suc j)) p (ys ++ x ∷ []) ≡ first_or (first_from (suc (suc j)) p ys) (cond (p x) (length ys + suc (suc j)) 0)
-      → cond b (suc j) (first_from (suc (suc j)) p (ys ++ x ∷ [])) ≡ first_or (cond b (suc j) (first_from (suc (suc j)) p ys)) (cond (p x) (length (y ∷ ys) + suc j) 0)
-  later true before = sym (ap (λ b. cond b (cond (p x) (length (y ∷ ys) + suc j) 0) (suc j)) (ne_eqb (suc j) 0 (λ z. omega arith)))
-  later false before =
-      before ∙ ap (λ m. first_or (first_from (suc (suc j)) p ys) (cond (p x) m 0)) (let e : length ys + suc (suc j) ≡ length (y ∷ ys) + suc j = omega arith in e)
-
-first_below : {X : Type 0} (p : X → Bool) (j : ℕ) (xs : List X) → 1 ≤ j → first_from j p xs < j + length xs
-first_below p j [] h = omega arith
-first_below p j (x ∷ xs) h = by (p x) (first_below p (suc j) xs (omega arith)) where
-  by : (b : Bool) → first_from (suc j) p xs < suc j + length xs → cond b j (first_from (suc j) p xs) < j + length (x ∷ xs)
-  by true below = omega arith
-  by false below = omega arith
 
 -- one edge more
 pub firsts_more : (W : Whole) (k d : ℕ) (ends : EdgeNodes) (old new : List ℕ) → k < length (plus_darts W) → get_or (plus_darts W) k 0 ≡ d
@@ -71,9 +46,6 @@ firsts_more W k d ends old new below at start end f p = record {
       ∙ sym (first_more test 1 (numbered make (take k xs)) (make (k + 1) d) (omega arith))
       ∙ ap (first_edge_at n) (sym rows));
 }
-
-abbrev zeros : ℕ → List ℕ
-zeros m = replicate m 0
 
 -- no edge is passed
 pub firsts_none : (W : Whole) (firsts : List ℕ) → firsts ≡ zeros (length (first_darts W)) → AreFirsts W 0 firsts

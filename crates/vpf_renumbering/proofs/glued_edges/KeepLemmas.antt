@@ -9,13 +9,13 @@ use Rattle.vpf_prims.specs.Libraries.{library_of}
 use Rattle.vpf_prims.specs.Numbering.{IsRowOf}
 use Rattle.vpf_prims.specs.Primitives.{Library}
 use Rattle.vpf_wing.specs.Links.{links_of}
-use Rattle.vpf_wing.specs.DartLaws.{stands_in}
+use Rattle.vpf_wing.specs.Inner.DartLaws.{stands_in}
 use Rattle.vpf_follow.specs.Following.{is_home, library_map}
-use Rattle.vpf_wing.specs.Kept.Kept.{place_among}
+use Rattle.vpf_wing.specs.Inner.Kept.Kept.{place_among}
 use Rattle.vpf_tiling_laws.specs.Gluing.Whole.{whole_of}
 use Rattle.vpf_tiling_laws.specs.Gluing.Glued.{edge_number, first_darts, listed_at, node_number, plus_darts}
 use Rattle.vpf_renumbering.specs.declared.glued_edges.glued.GluedEdges.TheInside.{Inside}
-use Rattle.vpf_renumbering.specs.GluedEdges.Glued.{KeepsGlued}
+use Rattle.vpf_renumbering.specs.Inner.GluedEdges.Glued.{KeepsGlued}
 use Rattle.vpf_renumbering.proofs.glued_edges.PlusLemmas.{IsPaired, order_home, paired, plus_of, sign_is}
 use Rattle.vpf_renumbering.proofs.glued_edges.TurnLemmas.{listed_place}
 

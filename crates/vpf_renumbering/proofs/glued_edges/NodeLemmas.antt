@@ -11,16 +11,16 @@ use Rattle.vpf_darts.specs.Listings.{numbers_of}
 use Rattle.vpf_darts.specs.Maps.{turn}
 use Rattle.vpf_prims.specs.Primitives.{Library}
 use Rattle.vpf_wing.specs.Links.{links_of}
-use Rattle.vpf_wing.specs.DartLaws.{stands_in}
+use Rattle.vpf_wing.specs.Inner.DartLaws.{stands_in}
 use Rattle.vpf_wing.specs.Walks.{least_after}
 use Rattle.vpf_follow.specs.Following.{library_map}
-use Rattle.vpf_cut_rings.specs.Laws.{LeastsBeginCycles}
+use Rattle.vpf_cut_rings.specs.Inner.Laws.{LeastsBeginCycles}
 use Rattle.vpf_tiling_laws.specs.Gluing.Whole.{whole_of}
 use Rattle.vpf_tiling_laws.specs.Gluing.Glued.{first_darts, plus_darts}
-use Rattle.vpf_renumbering.specs.Whole.Gathering.{AreHomeDarts}
+use Rattle.vpf_renumbering.specs.Inner.Whole.Gathering.{AreHomeDarts}
 use Rattle.vpf_renumbering.specs.declared.glued_edges.nodes.Nodes.{Nodes}
-use Rattle.vpf_renumbering.specs.GluedEdges.Glued.{AreNodesOf}
-use Rattle.vpf_renumbering.specs.GluedEdges.Numbers.{AreByList}
+use Rattle.vpf_renumbering.specs.Inner.GluedEdges.Glued.{AreNodesOf}
+use Rattle.vpf_renumbering.specs.Inner.GluedEdges.Numbers.{AreByList}
 use Rattle.vpf_renumbering.proofs.glued_edges.PlusLemmas.{IsPaired, darts_few, listed_row}
 use Rattle.vpf_renumbering.proofs.glued_edges.TurnLemmas.{AreLive, firsts_are, listed_once, lists_few, turn_number, turn_stands}
 

@@ -1,6 +1,5 @@
 -- Numbers that are put for the darts of lists, one list after the other.
-use Rattle.std.proofs.Common.{◌≡◌, ℕ, zero, suc, ◌+◌, ◌<◌, ◌≤◌, Bool, true, false, cond, eqb, ◌||◌, refl, sym, ap, ◌∙◌, subst, inl, inr, arith, List, [], ◌∷◌, ◌++◌, length, get_or, map, set, take, Some}
-use Rattle.std.proofs.Common.{get_or-set_same, get_or-set_other, length-set}
+use Rattle.std.proofs.Common.{[], ◌≡◌, ℕ, zero, suc, ◌+◌, ◌<◌, ◌≤◌, Bool, true, false, cond, eqb, ◌||◌, refl, sym, ap, ◌∙◌, subst, inl, inr, arith, List, ◌∷◌, ◌++◌, length, get_or, map, set, take, Some, get_or-set_same, get_or-set_other, length-set}
 use Rattle.std.specs.Prelude.{slice_get}
 use Rattle.std.specs.List.{concat}
 use Rattle.std.proofs.lemmas.Bool.{cases_Bool, cases_eq, eq-eqb, ne_eqb}
@@ -9,11 +8,12 @@ use Rattle.vpf_darts.specs.declared.darts.TileDart.{TileDart}
 use Rattle.vpf_darts.specs.Cycles.{count_of}
 use Rattle.vpf_darts.specs.Darts.{tile_dart_code}
 use Rattle.vpf_darts.specs.Listings.{numbers_of}
-use Rattle.vpf_wing.specs.DartLaws.{none_is_some, same_some, stands_in}
-use Rattle.vpf_wing.specs.Kept.Kept.{place_among}
-use Rattle.vpf_wing.specs.Kept.PlaceLaws.{at_place, stands_at}
-use Rattle.vpf_cut_rings.proofs.LeastLemmas.{count_join, one_if, stands_counts}
-use Rattle.vpf_renumbering.specs.GluedEdges.Numbers.{AreByFirst, ArePut, kept_for}
+use Rattle.vpf_wing.specs.Inner.DartLaws.{none_is_some, same_some, stands_in}
+use Rattle.vpf_wing.specs.Inner.Kept.Kept.{place_among}
+use Rattle.vpf_wing.specs.Inner.Kept.PlaceLaws.{at_place, stands_at}
+use Rattle.vpf_cut_rings.specs.Inner.LeastLaws.{count_join, stands_counts}
+use Rattle.vpf_renumbering.specs.Inner.GluedEdges.Numbers.{AreByFirst, ArePut, kept_for}
+use Rattle.vpf_base.proofs.Booleans.{one_if}
 
 -- ---- one number
 

@@ -1,5 +1,5 @@
 -- The edges of a library by their + darts, and how many darts it has for them.
-use Rattle.std.proofs.Common.{◌≡◌, ◌≢◌, ℕ, ◌+◌, ◌*◌, ◌^◌, ◌<◌, ◌≤◌, Bool, true, false, not, cond, eqb, refl, sym, ap, ◌∙◌, subst, inl, inr, arith, List, [], ◌∷◌, ◌++◌, length, get_or, map, take, append-nil}
+use Rattle.std.proofs.Common.{[], ◌≡◌, ◌≢◌, ℕ, ◌+◌, ◌*◌, ◌^◌, ◌<◌, ◌≤◌, Bool, true, false, not, cond, eqb, refl, sym, ap, ◌∙◌, subst, inl, inr, arith, List, ◌∷◌, ◌++◌, length, get_or, map, take, append-nil}
 use Rattle.std.specs.Prelude.{All, filter}
 use Rattle.std.specs.List.Sorted.{IsStrictlyIncreasing}
 use Rattle.std.proofs.lemmas.Bool.{cases_Bool, eq-eqb, eqb-true, or_cases, or_left, or_right}
@@ -13,17 +13,17 @@ use Rattle.vpf_darts.specs.Maps.{DartMap, IsMap, turn}
 use Rattle.vpf_prims.specs.Numbering.{IsRowOf}
 use Rattle.vpf_prims.specs.Primitives.{Library}
 use Rattle.vpf_wing.specs.Links.{links_of}
-use Rattle.vpf_wing.specs.DartLaws.{code-sign, never_both, sign-cases, sign-small, stands_in}
-use Rattle.vpf_tiling.specs.PresenceLaws.{stands_filter}
+use Rattle.vpf_wing.specs.Inner.DartLaws.{code-sign, never_both, sign-cases, sign-small, stands_in}
+use Rattle.vpf_tiling.specs.Inner.PresenceLaws.{stands_filter}
 use Rattle.vpf_tiling.specs.Ranks.{is_least}
-use Rattle.vpf_tiling_laws.proofs.tiled.WalkLemmas.{Distinct, distinct_few}
-use Rattle.vpf_cut_rings.proofs.OrderLemmas.{Rises, all_at, kept_stands, rises_of}
+use Rattle.vpf_tiling_laws.specs.Inner.Tiled.WalkLaws.{Distinct, distinct_few}
+use Rattle.vpf_cut_rings.specs.Inner.OrderLaws.{RisesStrictly as Rises, kept_stands, rises_of, each_of_all as all_at}
 use Rattle.vpf_follow.specs.Following.{is_home, library_map}
-use Rattle.vpf_wing.specs.Kept.Kept.{AreInOrder, place_among}
-use Rattle.vpf_wing.specs.Kept.PlaceLaws.{at_place, stands_at}
+use Rattle.vpf_wing.specs.Inner.Kept.Kept.{AreInOrder, place_among}
+use Rattle.vpf_wing.specs.Inner.Kept.PlaceLaws.{at_place, stands_at}
 use Rattle.vpf_tiling_laws.specs.Gluing.Whole.{whole_of}
 use Rattle.vpf_tiling_laws.specs.Gluing.Glued.{first_darts, listed_at, plus_darts}
-use Rattle.vpf_renumbering.specs.Whole.Gathering.{AreHomeDarts}
+use Rattle.vpf_renumbering.specs.Inner.Whole.Gathering.{AreHomeDarts}
 use Rattle.vpf_renumbering.proofs.glued_edges.TurnLemmas.{listed_place}
 
 -- a dart is a + dart

@@ -1,5 +1,5 @@
 -- The turns of a map about its nodes, each by its least dart: the number of a turn is that of its node.
-use Rattle.std.proofs.Common.{◌≡◌, ℕ, zero, suc, ◌+◌, ◌<◌, ◌≤◌, Bool, true, false, cond, eqb, leb, ◌&&◌, refl, sym, ap, ◌∙◌, subst, inl, inr, arith, List, [], ◌∷◌, length, get_or, map, Some}
+use Rattle.std.proofs.Common.{[], ◌≡◌, ℕ, zero, suc, ◌+◌, ◌<◌, ◌≤◌, Bool, true, false, cond, eqb, leb, ◌&&◌, refl, sym, ap, ◌∙◌, subst, inl, inr, arith, List, ◌∷◌, length, get_or, map, Some}
 use Rattle.std.specs.Prelude.{filter, slice_get}
 use Rattle.std.specs.List.{AllByRecursion, concat}
 use Rattle.std.specs.List.Sorted.{IsStrictlyIncreasing}
@@ -10,16 +10,17 @@ use Rattle.vpf_darts.specs.declared.darts.TileDart.{TileDart}
 use Rattle.vpf_darts.specs.Cycles.{BeginsWithLeast, IsCycle, IsListing, count_of, first_of}
 use Rattle.vpf_darts.specs.Darts.{tile_dart_code}
 use Rattle.vpf_darts.specs.Listings.{numbers_of}
-use Rattle.vpf_wing.specs.DartLaws.{never_both, none_is_some, same_some, stands_in, stands-either}
+use Rattle.vpf_wing.specs.Inner.DartLaws.{never_both, none_is_some, same_some, stands_in, stands-either}
 use Rattle.vpf_wing.specs.Walks.{least_after}
 use Rattle.vpf_tiling.specs.Ranks.{is_least, leasts}
-use Rattle.vpf_wing.specs.Kept.Kept.{place_among}
-use Rattle.vpf_wing.specs.Kept.PlaceLaws.{place_of_at, stands_at}
+use Rattle.vpf_wing.specs.Inner.Kept.Kept.{place_among}
+use Rattle.vpf_wing.specs.Inner.Kept.PlaceLaws.{place_of_at, stands_at}
 use Rattle.vpf_tiling_laws.specs.Gluing.Glued.{listed_at}
 use Rattle.vpf_prims.specs.Lists.{first_from}
-use Rattle.vpf_cut_rings.specs.Laws.{ArePassing, LeastsBeginCycles}
-use Rattle.vpf_cut_rings.proofs.LeastLemmas.{Reaches, counts_stands, count_join, few_by_counts, first_lowest, least_over, least_under, one_if, reaches, stands_counts}
-use Rattle.vpf_renumbering.specs.GluedEdges.Numbers.{AreByList, kept_for}
+use Rattle.vpf_cut_rings.specs.Inner.Laws.{ArePassing, LeastsBeginCycles}
+use Rattle.vpf_cut_rings.specs.Inner.LeastLaws.{Reaches, counts_stands, count_join, few_by_counts, first_lowest, least_over, least_under, reaches, stands_counts}
+use Rattle.vpf_renumbering.specs.Inner.GluedEdges.Numbers.{AreByList, kept_for}
+use Rattle.vpf_base.proofs.Booleans.{one_if}
 
 -- ---- the number of what stands in a list
 

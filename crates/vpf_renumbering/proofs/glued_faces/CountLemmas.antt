@@ -15,12 +15,12 @@ use Rattle.vpf_prims.specs.Numbering.{IsRowOf}
 use Rattle.vpf_prims.specs.Primitives.{EntityPrimitive, Library, face_count, faces_in, tile_entities}
 use Rattle.vpf_prims.specs.References.{id_of}
 use Rattle.vpf_prims.specs.Tables.{TileTables}
-use Rattle.vpf_wing.specs.DartLaws.{never_both, some-or-none}
+use Rattle.vpf_wing.specs.Inner.DartLaws.{never_both, some-or-none}
 use Rattle.vpf_wing.specs.Links.{Beyond}
-use Rattle.vpf_follow.specs.TileLaws.{tile-below}
+use Rattle.vpf_follow.specs.Inner.TileLaws.{tile-below}
 use Rattle.vpf_tiling_laws.specs.Gluing.Glued.{face_number}
 use Rattle.vpf_tiling_laws.specs.Gluing.Whole.{WholeEntity, WholeFace, face_here, whole_entities, whole_faces, whole_of}
-use Rattle.vpf_renumbering.specs.GluedFaces.Faces.{AreCounted, faces_before, nowhere}
+use Rattle.vpf_renumbering.specs.Inner.GluedFaces.Faces.{AreCounted, faces_before, nowhere}
 use Rattle.vpf_renumbering.proofs.glued_faces.NumberLemmas.{before_climbs, before_end, before_next, face_at_place, none_before, number_inside, number_is, own_many, range_split}
 
 pub counts_long : (c : CoverageTables) (xs : List ℕ) → AreCounted c xs → length xs ≡ last_tile c + 2

@@ -1,5 +1,5 @@
 -- Lists of numbers in which none stands twice.
-use Rattle.std.proofs.Common.{◌≡◌, ℕ, zero, suc, ◌+◌, ◌<◌, ◌≤◌, ◌⊎◌, Bool, true, false, eqb, ◌||◌, refl, sym, ap, ◌∙◌, inl, inr, arith, List, [], ◌∷◌, ◌++◌, length, map, get_or}
+use Rattle.std.proofs.Common.{[], ◌≡◌, ℕ, zero, suc, ◌+◌, ◌<◌, ◌≤◌, ◌⊎◌, Bool, true, false, eqb, ◌||◌, refl, sym, ap, ◌∙◌, inl, inr, arith, List, ◌∷◌, ◌++◌, length, map, get_or}
 use Rattle.std.proofs.lemmas.Bool.{cases_Bool, eq-eqb, eqb-true, or_cases, or_left, or_right}
 use Rattle.std.proofs.lemmas.List.Concat.{flat_map-append}
 use Rattle.std.proofs.lemmas.Map.Keys.{below_from_sorted, sorted_from_strictly_increasing}
@@ -7,7 +7,8 @@ use Rattle.std.proofs.lemmas.Map.Made.{length-le_from_is_member}
 use Rattle.std.specs.List.{AllByRecursion, IsDistinct, list_any, range_with_len}
 use Rattle.std.specs.List.Sorted.{IsStrictlyIncreasing}
 use Rattle.std.specs.Prelude.{filter, flat_map}
-use Rattle.vpf_wing.specs.DartLaws.{never_both}
+use Rattle.vpf_wing.specs.Inner.DartLaws.{never_both}
+use Rattle.vpf_base.proofs.Lists.{all_joined as all_join}
 
 pub no_test : (b : Bool) → (b ≡ true → ⊥) → b ≡ false
 no_test true h = absurd (h refl)
@@ -145,10 +146,6 @@ flat_twice g h (k ∷ ks) = flat_map-append g (h k) (flat_map h ks) ∙ ap (λ v
 pub flat_same : {X Y : Type 0} → (g h : X → List Y) → ((k : X) → g k ≡ h k) → (ks : List X) → flat_map g ks ≡ flat_map h ks
 flat_same g h e [] = refl
 flat_same g h e (k ∷ ks) = ap (λ v. v ++ flat_map g ks) (e k) ∙ ap (λ v. h k ++ v) (flat_same g h e ks)
-
-pub all_join : {X : Type 0} → (P : X → Type 0) (xs ys : List X) → AllByRecursion P xs → AllByRecursion P ys → AllByRecursion P (xs ++ ys)
-all_join P [] ys a b = b
-all_join P (x ∷ xs) ys a b = (a.0, all_join P xs ys a.1 b)
 
 pub all_lists : {X Y : Type 0} → (P : Y → Type 0) (h : X → List Y) → ((k : X) → AllByRecursion P (h k)) → (ks : List X) → AllByRecursion P (flat_map h ks)
 all_lists P h each [] = tt

@@ -10,9 +10,9 @@ use Rattle.vpf_prims.specs.Primitives.{EdgePrimitive, absent_edge, edge_row_of, 
 use Rattle.vpf_prims.specs.Reading.{primitives_of}
 use Rattle.vpf_prims.specs.References.{id_of}
 use Rattle.vpf_prims.specs.Tables.{TileTables}
-use Rattle.vpf_wing.specs.DartLaws.{code-edge, code-tile, minus-code, sign-small}
+use Rattle.vpf_wing.specs.Inner.DartLaws.{code-edge, code-tile, minus-code, sign-small}
 use Rattle.vpf_wing.specs.Links.{face_by, is_minus, links_of}
-use Rattle.vpf_follow.specs.Rows.{row_face}
+use Rattle.vpf_follow.specs.Inner.Rows.{row_face}
 
 -- the face of the + or - dart of edge k, where a tile may have tables
 abbrev face_in : Option TileTables → ℕ → Bool → ℕ

@@ -1,5 +1,5 @@
 -- How many faces and rings there are next to the edges.
-use Rattle.std.proofs.Common.{◌≡◌, ℕ, zero, suc, ◌+◌, ◌*◌, ◌<◌, ◌≤◌, Bool, true, false, not, eqb, ◌||◌, refl, sym, ap, ◌∙◌, subst, inl, inr, arith, List, [], ◌∷◌, ◌++◌, length, length-append, map, get_or}
+use Rattle.std.proofs.Common.{[], ◌≡◌, ℕ, zero, suc, ◌+◌, ◌*◌, ◌<◌, ◌≤◌, Bool, true, false, not, eqb, ◌||◌, refl, sym, ap, ◌∙◌, subst, inl, inr, arith, List, ◌∷◌, ◌++◌, length, length-append, map, get_or}
 use Rattle.std.proofs.lemmas.Bool.{eq-eqb, eqb-true, or_left, or_right}
 use Rattle.std.proofs.lemmas.List.{length-map}
 use Rattle.std.proofs.lemmas.List.Filters.{length-filter_both}
@@ -8,16 +8,17 @@ use Rattle.std.specs.List.{AllByRecursion, IsDistinct, list_any, range_with_len}
 use Rattle.std.specs.Prelude.{filter, flat_map}
 use Rattle.vpf_darts.specs.Darts.{sign_in}
 use Rattle.vpf_prims.specs.Primitives.{Library}
-use Rattle.vpf_tiling.specs.PresenceLaws.{stands_filter}
-use Rattle.vpf_wing.specs.DartLaws.{darts-stand, never_both, sign-cases, stands_in}
+use Rattle.vpf_tiling.specs.Inner.PresenceLaws.{stands_filter}
+use Rattle.vpf_wing.specs.Inner.DartLaws.{darts-stand, never_both, sign-cases, stands_in}
 use Rattle.vpf_wing.specs.Links.{DartLinks, links_of}
-use Rattle.vpf_follow.specs.FollowLaws.{home_has}
+use Rattle.vpf_follow.specs.Inner.FollowLaws.{home_has}
 use Rattle.vpf_follow.specs.Following.{is_home, library_map}
 use Rattle.vpf_tiling_laws.specs.Gluing.Whole.{WholeFace, tiles_in, whole_of}
 use Rattle.vpf_tiling_laws.specs.Gluing.Glued.{plus_darts}
-use Rattle.vpf_renumbering.specs.GluedFaces.Faces.{HasFewFaces, IsJoined}
+use Rattle.vpf_renumbering.specs.Inner.GluedFaces.Faces.{HasFewFaces, IsJoined}
 use Rattle.vpf_renumbering.proofs.glued_faces.DistinctLemmas.{IsNumberOf, distinct_kept, few_among, number_of}
 use Rattle.vpf_renumbering.proofs.glued_faces.StartLemmas.{HasTiles, all_distinct, all_homes, all_rows, starts_are, tile_starts}
+use Rattle.vpf_renumbering.proofs.glued_edges.PlusLemmas.{is_plus}
 
 pub any_stands : (q : ℕ) (xs : List ℕ) → stands_in q xs ≡ list_any (eqb q) xs
 any_stands q [] = refl
@@ -42,9 +43,6 @@ turned_sign L j d home minus = elim (sign-cases ((library_map (links_of L)).flip
     | inr one ↦ absurd (j.signs d home (o ∙ sym one))
   ])
 ]
-
-abbrev is_plus : ℕ → Bool
-is_plus d = eqb (sign_in d) 0
 
 any_at : (xs : List ℕ) (i : ℕ) → i < length xs → list_any (eqb (get_or xs i 0)) xs ≡ true
 any_at [] i h = absurd (omega arith)

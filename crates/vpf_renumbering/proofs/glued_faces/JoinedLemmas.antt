@@ -2,18 +2,18 @@
 use Rattle.std.proofs.Common.{◌≡◌, ℕ, true, false, ap, sym, ◌∙◌, inl, inr, None, Option, Some, refl}
 use Rattle.std.proofs.lemmas.Bool.{cases_Bool}
 use Rattle.vpf_findings.specs.Firsts.{◌or◌}
-use Rattle.vpf_findings.specs.FirstLaws.{or-none_both}
+use Rattle.vpf_findings.specs.Inner.FirstLaws.{or-none_both}
 use Rattle.vpf_prims.specs.Coverages.{CoverageTables, tile_at}
 use Rattle.vpf_prims.specs.Libraries.{IsLibrary, in_tiles, library_of, primitives_in}
 use Rattle.vpf_prims.specs.Numbering.{IsNumbered}
 use Rattle.vpf_prims.specs.Primitives.{has_tables, is_there}
 use Rattle.vpf_prims.specs.Tables.{TileTables}
 use Rattle.vpf_wing.specs.CycleLines.{cycles_finding, loops_finding}
-use Rattle.vpf_wing.specs.DartLaws.{never_both}
-use Rattle.vpf_wing.specs.Laws.{CyclesDecide}
+use Rattle.vpf_wing.specs.Inner.DartLaws.{never_both}
+use Rattle.vpf_wing.specs.Inner.Laws.{CyclesDecide}
 use Rattle.vpf_wing.specs.WellFormed.{HasCycles}
 use Rattle.vpf_follow.specs.SideLines.{sides_finding}
-use Rattle.vpf_follow.specs.TileLaws.{tile-below, tiles-none}
+use Rattle.vpf_follow.specs.Inner.TileLaws.{tile-below, tiles-none}
 use Rattle.vpf_cross.specs.CrossFinding.{across_finding, topology_finding, topology_finding_of}
 
 -- nothing disagrees in the cycles of its tiles

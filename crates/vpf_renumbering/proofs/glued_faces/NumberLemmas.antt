@@ -9,12 +9,12 @@ use Rattle.std.specs.Prelude.{flat_map, take}
 use Rattle.vpf_prims.specs.Lists.{first_from, first_item}
 use Rattle.vpf_prims.specs.Primitives.{FacePrimitive, Library, face_count, tile_faces}
 use Rattle.vpf_tiling.specs.Ranks.{numbered_from}
-use Rattle.vpf_wing.specs.DartLaws.{never_both}
+use Rattle.vpf_wing.specs.Inner.DartLaws.{never_both}
 use Rattle.vpf_wing.specs.Links.{Beyond}
 use Rattle.vpf_follow.specs.Following.{same_beyond}
 use Rattle.vpf_tiling_laws.specs.Gluing.Glued.{face_number}
 use Rattle.vpf_tiling_laws.specs.Gluing.Whole.{WholeFace, face_here, rest_of, whole_face, whole_faces, whole_of}
-use Rattle.vpf_renumbering.specs.GluedFaces.Faces.{faces_before, nowhere}
+use Rattle.vpf_renumbering.specs.Inner.GluedFaces.Faces.{faces_before, nowhere}
 use Rattle.vpf_renumbering.proofs.glued_faces.DistinctLemmas.{no_test}
 
 -- ---- numbers in a row
@@ -33,7 +33,7 @@ take_range a (suc n) (suc k) h = ap (λ v. a ∷ v) (take_range (a + 1) n k (ome
 
 -- ---- how many faces a tile has
 
-rest_many : {X : Type 0} → (xs : List X) → length (rest_of xs) ≡ length xs - 1
+pub rest_many : {X : Type 0} → (xs : List X) → length (rest_of xs) ≡ length xs - 1
 rest_many [] = refl
 rest_many (x ∷ xs) = omega arith
 

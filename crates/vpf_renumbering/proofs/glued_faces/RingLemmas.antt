@@ -1,12 +1,12 @@
 -- The rings of the faces of tiles, as they are made.
-use Rattle.std.proofs.Common.{◌≡◌, ℕ, zero, suc, ◌+◌, ◌-◌, ◌*◌, ◌^◌, ◌<◌, ◌≤◌, true, cond, eqb, refl, sym, ap, ◌∙◌, subst, inl, inr, arith, Option, None, Some, List, [], ◌∷◌, ◌++◌, append_assoc, append-nil, length, length-append, map, get_or, take}
+use Rattle.std.proofs.Common.{[], ◌≡◌, ℕ, zero, suc, ◌+◌, ◌-◌, ◌*◌, ◌^◌, ◌<◌, ◌≤◌, true, cond, eqb, refl, sym, ap, ◌∙◌, subst, inl, inr, arith, Option, None, Some, List, ◌∷◌, ◌++◌, append_assoc, append-nil, length, length-append, map, get_or, take}
 use Rattle.std.proofs.lemmas.Bool.{cases_Bool, ne_eqb}
 use Rattle.std.proofs.lemmas.List.{length-map}
 use Rattle.std.proofs.lemmas.List.Concat.{flat_map-append}
 use Rattle.std.specs.List.{range_with_len}
 use Rattle.std.specs.Prelude.{filter, flat_map}
 use Rattle.vpf_base.specs.Limits.{most_rows}
-use Rattle.vpf_copies.specs.Presence.{Presence, items_in}
+use Rattle.vpf_cutting.specs.Inner.Copies.Presence.{Presence, items_in}
 use Rattle.vpf_darts.specs.declared.darts.TileDart.{TileDart}
 use Rattle.vpf_darts.specs.Darts.{tile_dart_code}
 use Rattle.vpf_prims.specs.Coverages.{CoverageTables, tile_at}
@@ -24,15 +24,15 @@ use Rattle.vpf_wing.specs.WellFormed.{StartsRing}
 use Rattle.vpf_follow.specs.Following.{is_home}
 use Rattle.vpf_tiling_laws.specs.Gluing.Glued.{edge_number, face_number, glued_rings, plus_darts, rings_of_face, universe_rings}
 use Rattle.vpf_tiling_laws.specs.Gluing.Whole.{Whole, WholeFace, face_here, rest_of, ring_start_dart, whole_face, whole_faces, whole_of, whole_rings}
-use Rattle.vpf_tiling_laws.proofs.gluing.ListLemmas.{map_twice}
+use Rattle.vpf_tiling_laws.specs.Inner.Gluing.ListLaws.{map_twice}
 use Rattle.vpf_cut_rings.specs.declared.rings.CutRing.{CutRing}
-use Rattle.vpf_cut_rings.specs.Rings.{KeepsRings, first_rings_of, ring_of as cut_ring_of}
-use Rattle.vpf_cut_rings.proofs.PlaceLemmas.{IsRingOfFace, kept_of_face, made_more}
+use Rattle.vpf_cut_rings.specs.Inner.Rings.{KeepsRings, first_rings_of, ring_of as cut_ring_of}
+use Rattle.vpf_cut_rings.specs.Inner.PlaceLaws.{IsRingOfFace, kept_of_face, made_more}
 use Rattle.vpf_renumbering.specs.declared.glued_faces.rings.GluedRing.{GluedRing}
-use Rattle.vpf_renumbering.specs.GluedFaces.Faces.{HasFewFaces, IsJoined}
-use Rattle.vpf_renumbering.specs.GluedFaces.Rings.{ring_said, rings_said, rings_glued, rings_of_tile}
+use Rattle.vpf_renumbering.specs.Inner.GluedFaces.Faces.{HasFewFaces, IsJoined}
+use Rattle.vpf_renumbering.specs.Inner.GluedFaces.Rings.{ring_said, rings_said, rings_glued, rings_of_tile}
 use Rattle.vpf_renumbering.proofs.glued_faces.DistinctLemmas.{flat_twice}
-use Rattle.vpf_renumbering.proofs.glued_faces.NumberLemmas.{range_split}
+use Rattle.vpf_renumbering.proofs.glued_faces.NumberLemmas.{range_split, rest_many}
 use Rattle.vpf_renumbering.proofs.glued_faces.StartLemmas.{home_start, ring_starts}
 
 -- ring k of a tile, of face f, with its numbers in the glued coverage
@@ -128,10 +128,6 @@ numbered_faces L t a (row ∷ rows) two =
     ap (λ v. v ++ flat_map (rings_said L t) (range_with_len (a + 1) (length rows))) (sym (one_face L t a row two))
     ∙ ap (λ v. rings_of_face (whole_of L) (whole_face L t a row) ++ v)
     (ap (λ b. flat_map (rings_said L t) (range_with_len b (length rows))) (let z : a + 1 ≡ suc a = omega arith in z) ∙ numbered_faces L t (suc a) rows (omega arith))
-
-rest_many : {X : Type 0} → (xs : List X) → length (rest_of xs) ≡ length xs - 1
-rest_many [] = refl
-rest_many (x ∷ xs) = omega arith
 
 pub tile_made : (L : Library) (t n : ℕ) → n ≡ face_count L t - 1 → flat_map (rings_said L t) (range_with_len 2 n) ≡ rings_of_tile L t
 unfolding rings_of_tile

@@ -10,7 +10,7 @@ use Rattle.vpf_prims.specs.Numbering.{IsFaceOf, IsNumbered, IsRowOf}
 use Rattle.vpf_prims.specs.Primitives.{FacePrimitive, Library, Primitives, RingPrimitive, absent_face, absent_ring, face_count, faces_in, has_tables, is_there, ring_count, rings_in, tile_faces, tile_rings}
 use Rattle.vpf_prims.specs.References.{id_of}
 use Rattle.vpf_tiling.specs.Ranks.{numbered_from}
-use Rattle.vpf_wing.specs.DartLaws.{code-parts, flip-edge, flip-has, flip-tile, sign-cases}
+use Rattle.vpf_wing.specs.Inner.DartLaws.{code-parts, flip-edge, flip-has, flip-tile, sign-cases}
 use Rattle.vpf_wing.specs.Links.{links_of}
 use Rattle.vpf_wing.specs.WellFormed.{GoesRound, HasCycles, IsDartOf, StartsRing}
 use Rattle.vpf_follow.specs.Following.{is_far_face, is_home}

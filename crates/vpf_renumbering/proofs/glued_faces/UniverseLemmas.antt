@@ -13,19 +13,19 @@ use Rattle.vpf_darts.specs.declared.darts.TileDart.{TileDart}
 use Rattle.vpf_darts.specs.Cycles.{IsListing, first_of}
 use Rattle.vpf_darts.specs.Darts.{code, tile_dart_code, tile_in}
 use Rattle.vpf_prims.specs.Primitives.{Library}
-use Rattle.vpf_wing.specs.DartLaws.{never_both, none_is_some, only-passes, some-or-none, stands_in}
+use Rattle.vpf_wing.specs.Inner.DartLaws.{never_both, none_is_some, only-passes, some-or-none, stands_in}
 use Rattle.vpf_wing.specs.Links.{Beyond, DartLinks, links_of, tail_node}
-use Rattle.vpf_follow.specs.FollowLaws.{follow_home}
+use Rattle.vpf_follow.specs.Inner.FollowLaws.{follow_home}
 use Rattle.vpf_follow.specs.Following.{face_name, follow, follow_to, is_far_face, is_home, is_named, library_map, same_beyond}
 use Rattle.vpf_tiling.specs.Ranks.{is_least, leasts}
-use Rattle.vpf_cut_rings.specs.Laws.{ArePassing, LeastsBeginCycles}
-use Rattle.vpf_cut_rings.proofs.BeginLemmas.{one_dropped, one_kept}
+use Rattle.vpf_cut_rings.specs.Inner.Laws.{ArePassing, LeastsBeginCycles}
+use Rattle.vpf_cut_rings.specs.Inner.BeginLaws.{one_dropped, one_kept}
 use Rattle.vpf_tiling_laws.specs.Gluing.Glued.{plus_darts, universe_rings}
 use Rattle.vpf_tiling_laws.specs.Gluing.Whole.{whole_of}
-use Rattle.vpf_renumbering.specs.Whole.Gathering.{AreHomeDarts}
+use Rattle.vpf_renumbering.specs.Inner.Whole.Gathering.{AreHomeDarts}
 use Rattle.vpf_renumbering.specs.declared.glued_faces.rings.GluedRing.{GluedRing}
-use Rattle.vpf_renumbering.specs.GluedFaces.Faces.{IsJoined}
-use Rattle.vpf_renumbering.specs.GluedFaces.Rings.{is_universe, ring_said, rings_glued, rings_of_cycles, universe_ring}
+use Rattle.vpf_renumbering.specs.Inner.GluedFaces.Faces.{IsJoined}
+use Rattle.vpf_renumbering.specs.Inner.GluedFaces.Rings.{is_universe, ring_said, rings_glued, rings_of_cycles, universe_ring}
 use Rattle.vpf_renumbering.proofs.glued_faces.DistinctLemmas.{distinct_rising, no_test}
 use Rattle.vpf_renumbering.proofs.glued_faces.FewLemmas.{any_stands, few_homes}
 

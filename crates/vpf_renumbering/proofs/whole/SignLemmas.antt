@@ -4,11 +4,11 @@ use Rattle.std.proofs.lemmas.Bool.{cases_Bool}
 use Rattle.vpf_darts.specs.Darts.{flip, sign_in}
 use Rattle.vpf_prims.specs.Primitives.{Library}
 use Rattle.vpf_wing.specs.Links.{DartLinks, links_of}
-use Rattle.vpf_wing.specs.DartLaws.{flip-has, flip-sign}
-use Rattle.vpf_follow.specs.FollowLaws.{away_outside, home_has, home_self}
+use Rattle.vpf_wing.specs.Inner.DartLaws.{flip-has, flip-sign}
+use Rattle.vpf_follow.specs.Inner.FollowLaws.{away_outside, home_has, home_self}
 use Rattle.vpf_follow.specs.Following.{home_copy, is_home, library_map}
 use Rattle.vpf_trace.specs.Tracing.{IsTraceable}
-use Rattle.vpf_trace.proofs.LineLemmas.{flip_is}
+use Rattle.vpf_trace.specs.Inner.LineLaws.{flip_is}
 
 -- the home copy of the other dart has its sign
 other_sign : (L : Library) → IsTraceable L → (d : ℕ) → is_home (links_of L) d ≡ true → sign_in (home_copy (links_of L) (flip d)) ≡ sign_in (flip d)

@@ -4,11 +4,11 @@ use Rattle.std.proofs.lemmas.Bool.{cases_Bool}
 use Rattle.vpf_darts.specs.Maps.{DartMap, IsMap}
 use Rattle.vpf_prims.specs.Primitives.{Library}
 use Rattle.vpf_wing.specs.Links.{DartLinks, links_of}
-use Rattle.vpf_wing.specs.DartLaws.{never_both}
+use Rattle.vpf_wing.specs.Inner.DartLaws.{never_both}
 use Rattle.vpf_follow.specs.Following.{home_copy, is_home, library_map}
 use Rattle.vpf_darts.specs.Darts.{flip}
 use Rattle.std.proofs.Common.{cond}
-use Rattle.vpf_renumbering.specs.Whole.Turning.{turning_map}
+use Rattle.vpf_renumbering.specs.Inner.Whole.Turning.{turning_map}
 
 -- a dart that isn't live is its own other dart
 abbrev StaysApart : DartMap → Type 0

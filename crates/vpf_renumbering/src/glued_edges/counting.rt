@@ -6,7 +6,7 @@ ghost use Rattle.vpf_prims.specs.Primitives.{edge_count};
 ghost use Rattle.vpf_tiling_laws.specs.Gluing.Glued.{plus_darts};
 ghost use Rattle.vpf_tiling_laws.specs.Gluing.Whole.{whole_of};
 ghost use Rattle.vpf_wing.specs.Links.{row_darts};
-ghost use Rattle.vpf_renumbering.specs.GluedEdges.Counting.{plus_count};
+ghost use Rattle.vpf_renumbering.specs.Inner.GluedEdges.Counting.{plus_count};
 
 use crate::whole::edges_of;
 use vpf_coverage::Coverage;

@@ -2,7 +2,7 @@
 
 ghost use Rattle.std.specs.Prelude.{◌≡◌, ◌==◌, IfOk, filter, map};
 ghost use Rattle.vpf_darts.specs.Darts.{sign_in, tile_dart_code};
-ghost use Rattle.vpf_wing.specs.Kept.Kept.{AreInOrder};
+ghost use Rattle.vpf_wing.specs.Inner.Kept.Kept.{AreInOrder};
 
 use std::alloc::{AllocError, Global};
 use vpf_darts::TileDart;

@@ -5,7 +5,7 @@ ghost use Rattle.vpf_darts.specs.Darts.{tile_dart_code};
 ghost use Rattle.vpf_prims.specs.Libraries.{library_of};
 ghost use Rattle.vpf_wing.specs.Links.{link_of, links_of};
 ghost use Rattle.vpf_follow.specs.Following.{face_beyond, face_name};
-ghost use Rattle.vpf_follow.specs.Homes.{IsDartIn};
+ghost use Rattle.vpf_follow.specs.Inner.Homes.{IsDartIn};
 
 use std::marker::Model;
 use vpf_coverage::Coverage;

@@ -2,7 +2,7 @@
 
 ghost use Rattle.std.specs.Prelude.{◌≡◌, ◌≢◌, ℕ, ◌≤◌, All, IfOk, length, map, true};
 ghost use Rattle.vpf_base.specs.Limits.{most_rows};
-ghost use Rattle.vpf_cutting.specs.Rows.{ArePutAt, first_or};
+ghost use Rattle.vpf_cutting.specs.Inner.Rows.{ArePutAt, first_or};
 ghost use Rattle.vpf_darts.specs.Darts.{tile_dart_code};
 ghost use Rattle.vpf_prims.specs.Libraries.{library_of};
 ghost use Rattle.vpf_prims.specs.Lists.{kth};
@@ -16,7 +16,7 @@ ghost use Rattle.vpf_tiling_laws.specs.Gluing.Whole.{whole_of};
 
 use crate::glued_edges::glued::GluedEdges;
 use std::alloc::{AllocError, Global};
-use vpf_copies::EdgeNodes;
+use vpf_cutting::copies::EdgeNodes;
 use vpf_darts::{TileDart, Walk};
 
 /// Takes an edge as the first of a node that has none yet.

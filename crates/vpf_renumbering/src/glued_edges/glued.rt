@@ -6,12 +6,12 @@ ghost use Rattle.vpf_darts.specs.Darts.{sign_in, tile_dart_code};
 ghost use Rattle.vpf_prims.specs.Libraries.{library_of};
 ghost use Rattle.vpf_prims.specs.Numbering.{IsRowOf};
 ghost use Rattle.vpf_wing.specs.Links.{links_of};
-ghost use Rattle.vpf_wing.specs.DartLaws.{stands_in};
+ghost use Rattle.vpf_wing.specs.Inner.DartLaws.{stands_in};
 ghost use Rattle.vpf_follow.specs.Following.{is_home};
 ghost use Rattle.vpf_tiling_laws.specs.Gluing.Whole.{whole_of};
 ghost use Rattle.vpf_tiling_laws.specs.Gluing.Glued.{edge_number, first_darts, node_number, plus_darts};
-ghost use Rattle.vpf_renumbering.specs.Whole.Gathering.{AreHomeDarts};
-ghost use Rattle.vpf_renumbering.specs.GluedEdges.Glued.{AreEdgeRows};
+ghost use Rattle.vpf_renumbering.specs.Inner.Whole.Gathering.{AreHomeDarts};
+ghost use Rattle.vpf_renumbering.specs.Inner.GluedEdges.Glued.{AreEdgeRows};
 
 use crate::glued_edges::edges::plus_darts;
 use crate::glued_edges::faces::{TileFace, face_of};
@@ -54,7 +54,7 @@ impl<'w, 'c, 'a> Model for GluedEdges<'w, 'c, 'a> {
     ghost Value = { CoverageTables };
 
     ghost use Rattle.vpf_prims.specs.Libraries.{library_of};
-    ghost use Rattle.vpf_renumbering.specs.GluedEdges.Glued.{KeepsGlued};
+    ghost use Rattle.vpf_renumbering.specs.Inner.GluedEdges.Glued.{KeepsGlued};
 
     ghost view = { λ g. g.whole };
 

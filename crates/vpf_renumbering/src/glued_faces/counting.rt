@@ -6,7 +6,7 @@ ghost use Rattle.vpf_tiling_laws.specs.Gluing.Whole.{whole_faces, whole_of};
 ghost use Rattle.vpf_prims.specs.Coverages.{last_tile};
 ghost use Rattle.vpf_prims.specs.Libraries.{library_of};
 ghost use Rattle.vpf_prims.specs.Primitives.{tile_entities};
-ghost use Rattle.vpf_renumbering.specs.GluedFaces.Faces.{faces_before};
+ghost use Rattle.vpf_renumbering.specs.Inner.GluedFaces.Faces.{faces_before};
 
 use std::alloc::{AllocError, Global};
 use vpf_coverage::Coverage;

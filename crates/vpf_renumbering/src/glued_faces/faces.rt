@@ -39,7 +39,7 @@ pub struct GluedFaces<'w, 'c, 'a> {
 
 impl<'w, 'c, 'a> Model for GluedFaces<'w, 'c, 'a> {
     ghost use Rattle.vpf_prims.specs.Coverages.{CoverageTables};
-    ghost use Rattle.vpf_renumbering.specs.GluedFaces.Faces.{AreCounted};
+    ghost use Rattle.vpf_renumbering.specs.Inner.GluedFaces.Faces.{AreCounted};
 
     ghost Value = { CoverageTables };
 
@@ -56,7 +56,7 @@ impl<'w, 'c, 'a> GluedFaces<'w, 'c, 'a> {
     ghost use Rattle.vpf_prims.specs.Libraries.{library_of};
     ghost use Rattle.vpf_prims.specs.Numbering.{IsRowOf};
     ghost use Rattle.vpf_prims.specs.Primitives.{face_count, tile_entities};
-    ghost use Rattle.vpf_renumbering.specs.GluedFaces.Faces.{entity_face, nowhere};
+    ghost use Rattle.vpf_renumbering.specs.Inner.GluedFaces.Faces.{entity_face, nowhere};
 
     /// The faces of a coverage that has no more edges than a table can have rows. The tiles are passed once.
     pub fn new(

@@ -1,7 +1,7 @@
 //! What gluing stands on.
 
 ghost use Rattle.vpf_prims.specs.Libraries.{library_of};
-ghost use Rattle.vpf_renumbering.specs.GluedFaces.Faces.{IsJoined};
+ghost use Rattle.vpf_renumbering.specs.Inner.GluedFaces.Faces.{IsJoined};
 
 use crate::whole::WholeMap;
 use vpf_cross::Checked;

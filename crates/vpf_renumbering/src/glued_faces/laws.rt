@@ -1,6 +1,6 @@
 //! What is so of every library that agrees.
 
-ghost use Rattle.vpf_renumbering.specs.GluedFaces.Laws.{AgreeingHasFewFaces};
+ghost use Rattle.vpf_renumbering.specs.Inner.GluedFaces.Laws.{AgreeingHasFewFaces};
 
 use vpf_trace::laws::library_has_map;
 

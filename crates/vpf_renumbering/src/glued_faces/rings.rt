@@ -1,7 +1,7 @@
 //! The rings of a glued coverage.
 
 ghost use Rattle.std.specs.Prelude.{◌≡◌, ◌+◌, ◌++◌, ◌<◌, ◌≤◌, ◌^◌, All, IfOk, OnOk, Some, length, map, true};
-ghost use Rattle.vpf_cut_rings.specs.Rings.{KeepsRings, first_rings_of};
+ghost use Rattle.vpf_cut_rings.specs.Inner.Rings.{KeepsRings, first_rings_of};
 ghost use Rattle.vpf_tiling_laws.specs.Gluing.Glued.{glued_rings};
 ghost use Rattle.vpf_tiling_laws.specs.Gluing.Whole.{whole_of};
 ghost use Rattle.vpf_prims.specs.Coverages.{tile_at};
@@ -9,16 +9,16 @@ ghost use Rattle.vpf_prims.specs.Libraries.{library_of};
 ghost use Rattle.vpf_prims.specs.Numbering.{IsRowOf};
 ghost use Rattle.vpf_prims.specs.Primitives.{face_count};
 ghost use Rattle.vpf_prims.specs.Reading.{primitives_of};
-ghost use Rattle.vpf_renumbering.specs.GluedFaces.Faces.{IsJoined};
-ghost use Rattle.vpf_renumbering.specs.GluedFaces.Rings.{HasHomeStart, ring_said, rings_said, rings_glued, rings_of_tile};
+ghost use Rattle.vpf_renumbering.specs.Inner.GluedFaces.Faces.{IsJoined};
+ghost use Rattle.vpf_renumbering.specs.Inner.GluedFaces.Rings.{HasHomeStart, ring_said, rings_said, rings_glued, rings_of_tile};
 
 use crate::glued_faces::faces::GluedFaces;
 use crate::glued_faces::joined::faces_are_joined;
 use crate::glued_faces::starts::start_dart;
 use crate::glued_faces::universe::universe_rings;
 use std::alloc::{AllocError, Global};
-use vpf_copies::Copies;
 use vpf_cut_rings::{CutRing, first_rings, rings_by_face};
+use vpf_cutting::copies::Copies;
 use vpf_darts::TileDart;
 use vpf_prims::Tile;
 

@@ -6,7 +6,7 @@ ghost use Rattle.vpf_tiling_laws.specs.Gluing.Whole.{ring_start_dart};
 ghost use Rattle.vpf_prims.specs.Libraries.{library_of};
 ghost use Rattle.vpf_prims.specs.References.{id_of};
 ghost use Rattle.vpf_wing.specs.Links.{links_of};
-ghost use Rattle.vpf_follow.specs.Rows.{row_face};
+ghost use Rattle.vpf_follow.specs.Inner.Rows.{row_face};
 
 use vpf_coverage::Coverage;
 use vpf_darts::TileDart;

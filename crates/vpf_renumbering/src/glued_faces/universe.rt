@@ -9,7 +9,7 @@ ghost use Rattle.vpf_tiling_laws.specs.Gluing.Whole.{whole_of};
 ghost use Rattle.vpf_prims.specs.Libraries.{library_of};
 ghost use Rattle.vpf_wing.specs.Links.{links_of};
 ghost use Rattle.vpf_follow.specs.Following.{is_home, library_map};
-ghost use Rattle.vpf_renumbering.specs.GluedFaces.Rings.{HasHomeStart, rings_glued, rings_of_cycles};
+ghost use Rattle.vpf_renumbering.specs.Inner.GluedFaces.Rings.{HasHomeStart, rings_glued, rings_of_cycles};
 
 use crate::glued_faces::joined::faces_are_joined;
 use crate::glued_faces::rings::GluedRing;

@@ -4,7 +4,7 @@ ghost use Rattle.std.specs.Prelude.{◌≡◌, ◌+◌, ◌-◌, ◌<◌, ◌≤
 ghost use Rattle.vpf_prims.specs.Libraries.{library_of};
 ghost use Rattle.vpf_prims.specs.Primitives.{edge_count};
 ghost use Rattle.vpf_wing.specs.Links.{links_of};
-ghost use Rattle.vpf_renumbering.specs.Whole.Gathering.{AreHomesBefore, AreHomesTo, AreHomesWith, AreHomeAmong, AreHomeDarts};
+ghost use Rattle.vpf_renumbering.specs.Inner.Whole.Gathering.{AreHomesBefore, AreHomesTo, AreHomesWith, AreHomeAmong, AreHomeDarts};
 
 use std::alloc::{AllocError, Global};
 use vpf_coverage::Coverage;

@@ -7,7 +7,7 @@ ghost use Rattle.vpf_darts.specs.Maps.{turn};
 ghost use Rattle.vpf_prims.specs.Libraries.{library_of};
 ghost use Rattle.vpf_wing.specs.Links.{links_of};
 ghost use Rattle.vpf_follow.specs.Following.{library_map};
-ghost use Rattle.vpf_renumbering.specs.Whole.Gathering.{AreHomeDarts};
+ghost use Rattle.vpf_renumbering.specs.Inner.Whole.Gathering.{AreHomeDarts};
 
 use crate::whole::walking::WholeMap;
 use std::alloc::{AllocError, Global};
@@ -41,7 +41,7 @@ impl Walk for Turning<'_, '_, '_, '_> {
     ghost use Rattle.vpf_prims.specs.Libraries.{library_of};
     ghost use Rattle.vpf_wing.specs.Links.{links_of};
     ghost use Rattle.vpf_follow.specs.Following.{library_map};
-    ghost use Rattle.vpf_renumbering.specs.Whole.Turning.{turning_map};
+    ghost use Rattle.vpf_renumbering.specs.Inner.Whole.Turning.{turning_map};
 
     ghost map = { λ t. turning_map (library_map (links_of (library_of t.whole.now))) };
 

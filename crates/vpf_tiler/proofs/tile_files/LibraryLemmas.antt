@@ -11,13 +11,13 @@ use Rattle.vpf_prims.specs.Lists.{kth}
 use Rattle.vpf_prims.specs.Primitives.{Primitives}
 use Rattle.vpf_prims.specs.Reading.{PrimitiveTables}
 use Rattle.vpf_library_files.specs.Tileref.Stops.{path_texts}
-use Rattle.vpf_tiling.specs.RankLaws.{up-last}
+use Rattle.vpf_tiling.specs.Inner.RankLaws.{up-last}
 use Rattle.vpf_tiling.specs.Ranks.{up_to}
-use Rattle.vpf_table_files.specs.declared.errors.AddError.{AddError}
-use Rattle.vpf_table_files.specs.declared.errors.AddError.TheVariants as errors
-use Rattle.vpf_table_files.specs.Adding.{AreAdded, FailsAdding, NamedTable, error_seen, made_of_tables}
+use Rattle.vpf_library_files.specs.declared.table_files.errors.AddError.{AddError}
+use Rattle.vpf_library_files.specs.declared.table_files.errors.AddError.TheVariants as errors
+use Rattle.vpf_library_files.specs.TableFiles.Adding.{AreAdded, FailsAdding, NamedTable, error_seen, made_of_tables}
 use Rattle.vpf_tiler.specs.TileFiles.Tables.{all_tile_tables, library_tables, tileref_table}
-use Rattle.vpf_table_files.specs.AddLaws.{added_then, fails_first, fails_then, made_are, made_fail}
+use Rattle.vpf_library_files.specs.Inner.TableFiles.AddLaws.{added_then, fails_first, fails_then, made_are, made_fail}
 
 -- ---- the folder of a tile
 

@@ -8,10 +8,10 @@ use Rattle.vpf_write.specs.declared.writing.WriteError.{WriteError}
 use Rattle.vpf_prims.specs.Primitives.{Primitives}
 use Rattle.vpf_prims.specs.Reading.{PrimitiveTables}
 use Rattle.vpf_primitive_tables.specs.TileTables.Grids.{WritesWhere, entities_made}
-use Rattle.vpf_table_files.specs.declared.errors.AddError.{AddError}
-use Rattle.vpf_table_files.specs.Adding.{Adds, AreAdded, FailsAdding, NamedTable, table_within}
+use Rattle.vpf_library_files.specs.declared.table_files.errors.AddError.{AddError}
+use Rattle.vpf_library_files.specs.TableFiles.Adding.{Adds, AreAdded, FailsAdding, NamedTable, table_within}
 use Rattle.vpf_tiler.specs.TileFiles.Tables.{tile_edge_table, entity_tables, face_table, node_table, tile_ring_table, tile_tables}
-use Rattle.vpf_table_files.specs.AddLaws.{adds_then, fails_first, fails_then}
+use Rattle.vpf_library_files.specs.Inner.TableFiles.AddLaws.{adds_then, fails_first, fails_then}
 
 -- the table of entity nodes isn't written, since it passes a limit
 pub entities_fail : {V : Type 0} (folder : List ℕ) (end : Option Grid) (c : Primitives) (plan : ℕ → ℕ) (t : ℕ) (error : WriteError) (old new : List File) (r : Result V AddError)

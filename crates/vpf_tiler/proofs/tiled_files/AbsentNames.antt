@@ -1,13 +1,11 @@
 -- Names that no made file has: those of the edges where a folder has no tables, and of entity nodes where there are none.
-use Rattle.std.proofs.Common.{◌≡◌, ◌≢◌, ◌<◌, ◌≤◌, ℕ, suc, Bool, true, false, List, [], ◌∷◌, ◌++◌, length, get_or, Option}
-use Rattle.std.proofs.Common.{Some, None, refl, sym, ap, subst, ◌∙◌, arith, append_assoc}
-use Rattle.std.specs.Prelude.{IsUtf8, codes, encode_utf8, nat_eq, if◌then◌else◌}
+use Rattle.std.proofs.Common.{[], ◌≡◌, ◌≢◌, ◌<◌, ◌≤◌, ℕ, suc, Bool, true, false, List, ◌∷◌, ◌++◌, length, get_or, Option, Some, None, refl, sym, ap, subst, ◌∙◌, arith}
+use Rattle.std.specs.Prelude.{IsUtf8, codes, nat_eq, if◌then◌else◌}
 use Rattle.std.specs.Char.{IsScalar}
 use Rattle.std.specs.List.{AllByRecursion, ends_with}
-use Rattle.std.proofs.lemmas.List.{append_cancel_left, append_cancel_right, length-append}
+use Rattle.std.proofs.lemmas.List.{length-append}
 use Rattle.std.proofs.lemmas.List.Concat.{flat_map-append}
 use Rattle.std.proofs.lemmas.Str.{encode_ascii}
-use Rattle.vpf_source.specs.declared.file.File.{File}
 use Rattle.vpf_source.specs.Names.Indexes.{index_name}
 use Rattle.vpf_source.specs.Names.Naming.{slash}
 use Rattle.vpf_table.specs.Canonical.{canonical_index}
@@ -15,15 +13,13 @@ use Rattle.vpf_table.specs.Grid.{Grid}
 use Rattle.vpf_prims.specs.Reading.{PrimitiveTables}
 use Rattle.vpf_write.specs.Made.Files.{index_files, table_files}
 use Rattle.vpf_library_files.specs.Loading.Loading.{within}
-use Rattle.vpf_table_files.specs.Adding.{files_made, files_of_table, table_within}
-use Rattle.vpf_tiler.proofs.tiled_files.NameLemmas.{cut_ends, ends_behind, index_behind, within_is, within_utf8}
-use Rattle.vpf_tiler.proofs.tiled_files.PathLemmas.{IsInner}
-use Rattle.vpf_tiler.proofs.tiled_files.ReadTables.{all_both}
-use Rattle.vpf_tiler.proofs.tiled_files.ReadTiles.{all_tables, ascii, end_in, last_behind, tables_in}
-
--- a file of another name
-abbrev pub IsOther : List ℕ → File → Type 0
-IsOther name file = file.name ≢ name
+use Rattle.vpf_library_files.specs.TableFiles.Adding.{files_made, files_of_table, table_within}
+use Rattle.vpf_tiler.specs.Inner.TiledFiles.StemLaws.{cut_ends, index_behind, within_utf8, within_is}
+use Rattle.vpf_tiler.specs.Inner.TiledFiles.PathLaws.{IsInner}
+use Rattle.vpf_base.proofs.Lists.{all_joined as all_both}
+use Rattle.vpf_tiler.proofs.tiled_files.ReadTiles.{all_tables}
+use Rattle.vpf_tiler.specs.Inner.TiledFiles.TileLaws.{ascii, end_in, last_behind, tables_held as tables_in}
+use Rattle.vpf_tiler.specs.Inner.TiledFiles.AbsentLaws.{IsOtherName as IsOther}
 
 -- ---- the files of one table
 
@@ -152,16 +148,3 @@ own_apart cov path inner e =
     let long = opened_long (within cov path) in
     let some = some_long path inner.some in
     omega (arith, long, some, ap length e, ap length (within_is cov path), length-append (within cov []) path)
-
--- a slash stands behind the folder of a tile
-inner_stem : (cov path : List ℕ) → IsInner path → within (within cov path) [] ≡ within cov [] ++ (path ++ slash ∷ [])
-inner_stem cov path inner =
-    let last : ends_with nat_eq (within cov path) (slash ∷ []) ≡ false =
-    ap (λ (x : List ℕ). ends_with nat_eq x (slash ∷ [])) (within_is cov path) ∙ ends_behind (within cov []) path inner.some ∙ inner.last in
-    rw last (ap (λ (x : List ℕ). x ++ slash ∷ []) (within_is cov path) ∙ append_assoc (within cov []) path (slash ∷ []))
-
--- tiles of one folder have one path
-pub one_folder : (cov p q : List ℕ) → IsInner p → IsInner q → within (within cov p) [] ≡ within (within cov q) [] → p ≡ q
-one_folder cov p q v w e =
-    append_cancel_right p q (slash ∷ [])
-    (append_cancel_left (within cov []) (p ++ slash ∷ []) (q ++ slash ∷ []) (sym (inner_stem cov p v) ∙ e ∙ inner_stem cov q w))

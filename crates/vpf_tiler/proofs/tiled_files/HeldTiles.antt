@@ -1,6 +1,5 @@
 -- A folder that holds exactly the files of the tables of tiles holds the coverage of these tiles.
-use Rattle.std.proofs.Common.{◌≡◌, ◌≢◌, ◌<◌, ◌≤◌, ℕ, suc, zero, ◌+◌, true, List, [], ◌∷◌, ◌++◌, length, map, get_or, Option, Some}
-use Rattle.std.proofs.Common.{None, refl, sym, ap, subst, ◌∙◌, arith, inr, append-nil}
+use Rattle.std.proofs.Common.{[], ◌≡◌, ◌≢◌, ◌<◌, ◌≤◌, ℕ, suc, zero, ◌+◌, true, List, ◌∷◌, ◌++◌, length, map, get_or, Option, Some, None, refl, sym, ap, subst, ◌∙◌, arith, inr, append-nil}
 use Rattle.std.specs.Prelude.{IsUtf8, codes, is_some}
 use Rattle.std.specs.List.{AllByRecursion, list_any}
 use Rattle.std.specs.Option.{option_map}
@@ -17,12 +16,16 @@ use Rattle.vpf_library_files.specs.Tileref.Tileref.{IsTileref}
 use Rattle.vpf_library_files.specs.Loading.Holding.{AreFilesOf, AreTilesFiles, HoldsCoverage, LacksOfTiles, bytes_in}
 use Rattle.vpf_library_files.specs.Loading.Loading.{LoadedCoverage, most_loaded, tileref_name, within}
 use Rattle.vpf_write.specs.Made.Files.{table_files}
-use Rattle.vpf_table_files.specs.Adding.{NamedTable, files_made, files_of_table, table_within}
-use Rattle.vpf_tiler.proofs.tiled_files.NameLemmas.{within_is, within_within}
-use Rattle.vpf_tiler.proofs.tiled_files.PathLemmas.{IsInner}
-use Rattle.vpf_tiler.proofs.tiled_files.ReadTables.{CanBeRead, all_both, all_small, bytes_moved, files_held, moved, read_both, read_files}
-use Rattle.vpf_tiler.proofs.tiled_files.ReadTiles.{EachOpens, IsPlace, all_tables, tables_in, there_read, tile_place, tiles_at, tiles_read}
-use Rattle.vpf_tiler.proofs.tiled_files.AbsentNames.{IsOther, edges_apart, ends_apart, one_folder, own_apart, tileref_apart}
+use Rattle.vpf_library_files.specs.TableFiles.Adding.{NamedTable, files_made, files_of_table, table_within}
+use Rattle.vpf_tiler.specs.Inner.TiledFiles.StemLaws.{within_within, within_is}
+use Rattle.vpf_tiler.specs.Inner.TiledFiles.PathLaws.{IsInner}
+use Rattle.vpf_tiler.proofs.tiled_files.ReadTables.{read_both, read_files}
+use Rattle.vpf_tiler.specs.Inner.TiledFiles.TableLaws.{TableCanBeRead as CanBeRead, all_small, bytes_moved, files_held, moved}
+use Rattle.vpf_base.proofs.Lists.{all_joined as all_both}
+use Rattle.vpf_tiler.proofs.tiled_files.ReadTiles.{all_tables, there_read, tiles_at, tiles_read}
+use Rattle.vpf_tiler.specs.Inner.TiledFiles.TileLaws.{EachOpens, IsTilePlace as IsPlace, tables_held as tables_in, tile_place}
+use Rattle.vpf_tiler.proofs.tiled_files.AbsentNames.{edges_apart, ends_apart, own_apart, tileref_apart}
+use Rattle.vpf_tiler.specs.Inner.TiledFiles.AbsentLaws.{IsOtherName as IsOther, one_folder}
 
 -- ---- the tiles that are read
 

@@ -1,13 +1,12 @@
 -- No two files of a tiled library have one name.
-use Rattle.std.proofs.Common.{◌≡◌, ◌≢◌, ◌<◌, ◌≤◌, ℕ, suc, zero, Bool, true, false, leb, ◌&&◌, List, [], ◌∷◌, ◌++◌, length, map, Option, None, Some}
-use Rattle.std.proofs.Common.{refl, sym, ap, subst, ◌∙◌, arith}
+use Rattle.std.proofs.Common.{[], ◌≡◌, ◌≢◌, ◌<◌, ◌≤◌, ℕ, suc, zero, Bool, true, false, leb, ◌&&◌, List, ◌∷◌, ◌++◌, length, map, Option, None, Some, refl, sym, ap, subst, ◌∙◌, arith}
 use Rattle.std.specs.Prelude.{IsUtf8, codes, encode_utf8, if◌then◌else◌}
 use Rattle.std.specs.List.{AllByRecursion}
 use Rattle.std.proofs.lemmas.Bool.{and_parts, leb-true}
 use Rattle.std.proofs.lemmas.List.{append_cancel_left, get_or-map, length-map}
 use Rattle.std.proofs.lemmas.Str.{encode_ascii}
 use Rattle.vpf_source.specs.Names.Indexes.{without_last}
-use Rattle.vpf_source.proofs.names.LastLetters.{last_dropped}
+use Rattle.vpf_source.specs.Inner.Names.LetterLaws.{last_dropped}
 use Rattle.vpf_table.specs.Grid.{Grid}
 use Rattle.vpf_prims.specs.Lists.{kth}
 use Rattle.vpf_prims.specs.Primitives.{Primitives}
@@ -19,16 +18,16 @@ use Rattle.vpf_library_files.specs.Loading.Loading.{within}
 use Rattle.vpf_tiling.specs.Ranks.{up_to}
 use Rattle.vpf_tiling.specs.Tiles.{is_made}
 use Rattle.vpf_primitive_tables.specs.TileTables.Grids.{entities_made}
-use Rattle.vpf_table_files.specs.Adding.{NamedTable, files_made, table_within}
-use Rattle.vpf_tiler.specs.TileFiles.Tables.{all_tile_tables, tile_edge_table, entity_tables, face_table, library_tables, node_table, tile_ring_table}
-use Rattle.vpf_tiler.specs.TileFiles.Tables.{tables_if_made, tile_tables, tileref_table}
-use Rattle.vpf_tiler.proofs.tiled_files.AbsentNames.{one_folder}
-use Rattle.vpf_tiler.proofs.tiled_files.NameLemmas.{within_is, within_utf8}
-use Rattle.vpf_tiler.proofs.tiled_files.PathLemmas.{IsInner, one_path, path_is_inner}
-use Rattle.vpf_tiler.specs.TiledFiles.Names.{NamesDiffer, NamesDifferWithin, file_in}
-use Rattle.vpf_tiler.proofs.tiled_files.Pairs.{Apart, all_of_lists, all_weaker, apart_lists, apart_made, pairs_apart}
-use Rattle.vpf_tiler.proofs.tiled_files.TableNames.{HasLetter, IsInFolder, OtherFile, OtherStem, letters_apart, made_apart}
-use Rattle.vpf_tiler.proofs.tiled_files.TableNames.{stem_of_three, three_in_folder}
+use Rattle.vpf_library_files.specs.TableFiles.Adding.{NamedTable, files_made, table_within}
+use Rattle.vpf_tiler.specs.TileFiles.Tables.{all_tile_tables, tile_edge_table, entity_tables, face_table, library_tables, node_table, tile_ring_table, tables_if_made, tile_tables, tileref_table}
+use Rattle.vpf_tiler.specs.Inner.TiledFiles.AbsentLaws.{one_folder}
+use Rattle.vpf_tiler.specs.Inner.TiledFiles.StemLaws.{within_utf8, within_is}
+use Rattle.vpf_tiler.specs.Inner.TiledFiles.PathLaws.{one_path, path_is_inner, IsInner}
+use Rattle.vpf_tiler.specs.Inner.TiledFiles.Names.{NamesDiffer, NamesDifferWithin, file_in}
+use Rattle.vpf_tiler.proofs.tiled_files.Pairs.{apart_lists, pairs_apart}
+use Rattle.vpf_tiler.specs.Inner.TiledFiles.PairLaws.{Apart, all_of_lists, all_weaker, apart_made}
+use Rattle.vpf_tiler.specs.Inner.TiledFiles.NameLaws.{HasLetter, IsInFolder, OtherFile, OtherStem, letters_apart, made_apart, stem_of_three, three_in_folder}
+use Rattle.vpf_tiler.specs.Inner.TiledFiles.EntryLaws.{HasStem}
 
 -- ---- the tables of one tile
 
@@ -69,10 +68,6 @@ tile_in_folder folder T c plan t u = (
     by : (end : Option Grid) → AllByRecursion (IsInFolder folder) (entity_tables folder end c plan t)
     by None = tt
     by (Some grid) = (ends_in_folder folder (entities_made grid c plan t) u, tt)
-
--- the letters of a table before the last
-abbrev HasStem : (folder : List ℕ) → (a b : ℕ) → NamedTable → Type 0
-HasStem folder a b table = without_last table.name ≡ within folder [] ++ a ∷ b ∷ []
 
 -- four tables and others that have letters of their own are apart
 letters_apart_in : (folder : List ℕ) (edg fac rng cnd : NamedTable) (ends : List NamedTable) → HasStem folder 101 100 edg → HasStem folder 102 97 fac

@@ -1,12 +1,10 @@
 -- The files of the tiled library of a coverage, in a folder that holds them and no others, are the coverage cut into tiles.
-use Rattle.std.proofs.Common.{◌≡◌, ◌≢◌, ◌<◌, ◌≤◌, ℕ, suc, zero, ◌+◌, Bool, true, false, List, [], ◌∷◌, ◌++◌, length, map, get_or}
-use Rattle.std.proofs.Common.{Option, Some, None, refl, sym, ap, subst, ◌∙◌, arith}
+use Rattle.std.proofs.Common.{[], ◌≡◌, ◌≢◌, ◌<◌, ◌≤◌, ℕ, suc, zero, ◌+◌, Bool, true, false, List, ◌∷◌, ◌++◌, length, map, get_or, Option, Some, None, refl, sym, ap, subst, ◌∙◌, arith}
 use Rattle.std.specs.Prelude.{All, IsUtf8, is_some, flat_map, if◌then◌else◌, ◌&&◌, nat_le}
 use Rattle.std.specs.List.{AllByRecursion, list_any, range_with_len}
 use Rattle.std.specs.Option.{option_map}
 use Rattle.std.proofs.lemmas.Bool.{le-leb, lt-leb}
-use Rattle.std.proofs.lemmas.List.{get_or-map, get_or_default, length-map}
-use Rattle.std.proofs.lemmas.List.Elements.{All-map, recursion_from_All}
+use Rattle.std.proofs.lemmas.List.{length-map}
 use Rattle.std.proofs.lemmas.List.FromFn.{length-range_with_len}
 use Rattle.vpf_base.specs.Limits.{longest_name}
 use Rattle.vpf_source.specs.Files.{Files}
@@ -16,25 +14,26 @@ use Rattle.vpf_prims.specs.Coverages.{tile_at, tiled_coverage}
 use Rattle.vpf_prims.specs.Lists.{kth}
 use Rattle.vpf_prims.specs.Reading.{PrimitiveTables, primitives_of}
 use Rattle.vpf_prims.specs.Tables.{TileTables}
-use Rattle.vpf_library_files.specs.Tileref.Paths.{IsPath, TilePath, path_text}
+use Rattle.vpf_library_files.specs.Tileref.Paths.{path_text}
 use Rattle.vpf_library_files.specs.Tileref.Stops.{path_texts}
-use Rattle.vpf_library_files.specs.Tileref.Tileref.{IsTileref, paths_of}
+use Rattle.vpf_library_files.specs.Tileref.Tileref.{paths_of}
 use Rattle.vpf_library_files.specs.Loading.Holding.{bytes_in}
 use Rattle.vpf_library_files.specs.Loading.Loading.{most_loaded, within}
-use Rattle.vpf_tiling.specs.RankLaws.{numbered_many}
+use Rattle.vpf_tiling.specs.Inner.RankLaws.{numbered_many}
 use Rattle.vpf_tiling.specs.Tiles.{is_made}
 use Rattle.vpf_primitive_tables.specs.TileTables.Grids.{entities_made, tiles_made}
-use Rattle.vpf_table_files.specs.Adding.{NamedTable, files_made}
-use Rattle.vpf_tiler.specs.TileFiles.Tables.{tile_edge_table, entity_tables, face_table, library_tables, node_table, tile_ring_table}
-use Rattle.vpf_tiler.specs.TileFiles.Tables.{tables_if_made, tile_tables, tileref_table}
-use Rattle.vpf_primitive_tables.specs.TileReading.Cuts.{IsCutInto, tables_if_any, tables_of_tile}
-use Rattle.vpf_tiler.specs.TiledFiles.Folders.{CanBeMade, HoldsExactly}
-use Rattle.vpf_tiler.specs.TiledFiles.Laws.{MadeIsHeld}
-use Rattle.vpf_tiler.proofs.tiled_files.PathLemmas.{IsInner, one_path, path_is_inner}
-use Rattle.vpf_tiler.proofs.tiled_files.ReadTables.{CanBeRead, can_be_read}
-use Rattle.vpf_tiler.proofs.tiled_files.ReadTiles.{EachOpens, all_tables, end_in, tables_at, tables_in, tiles_at}
-use Rattle.vpf_tiler.proofs.tiled_files.AbsentNames.{IsOther}
+use Rattle.vpf_library_files.specs.TableFiles.Adding.{NamedTable, files_made}
+use Rattle.vpf_tiler.specs.TileFiles.Tables.{tile_edge_table, entity_tables, face_table, library_tables, node_table, tile_ring_table, tables_if_made, tile_tables, tileref_table}
+use Rattle.vpf_primitive_tables.specs.Inner.TileReading.Cuts.{IsCutInto, tables_if_any, tables_of_tile}
+use Rattle.vpf_tiler.specs.Inner.TiledFiles.Folders.{CanBeMade, HoldsExactly}
+use Rattle.vpf_tiler.specs.Inner.TiledFiles.Laws.{MadeIsHeld}
+use Rattle.vpf_tiler.proofs.tiled_files.ReadTables.{can_be_read}
+use Rattle.vpf_tiler.specs.Inner.TiledFiles.TableLaws.{TableCanBeRead as CanBeRead}
+use Rattle.vpf_tiler.proofs.tiled_files.ReadTiles.{all_tables, tables_at, tiles_at}
+use Rattle.vpf_tiler.specs.Inner.TiledFiles.TileLaws.{EachOpens, end_in, tables_held as tables_in}
+use Rattle.vpf_tiler.specs.Inner.TiledFiles.AbsentLaws.{IsOtherName as IsOther}
 use Rattle.vpf_tiler.proofs.tiled_files.HeldTiles.{IsMadeOf, as_many, made_held, tables_of_each, tables_with, tiled_read}
+use Rattle.vpf_tiler.specs.Inner.TiledFiles.LibraryLaws.{own_paths, HaveOwnPaths}
 
 -- ---- the tables
 
@@ -136,30 +135,6 @@ first_some T plan zero h = absurd (omega (arith, h))
 first_some T plan (suc n) h = rw (le-leb 1 (suc n) h) refl
 
 -- ---- the paths
-
--- a path for each tile, each of them its own
-record HaveOwnPaths (paths : List (List ℕ)) : Type 0 where
-  inner : AllByRecursion IsInner paths
-  apart : (j k : ℕ) → j < length paths → k < length paths → get_or paths j [] ≡ get_or paths k [] → j ≡ k
-
-own_paths : (tileref : Grid) → IsTileref tileref → HaveOwnPaths (path_texts tileref)
-own_paths tileref right =
-    let paths = paths_of tileref in
-    let many : length paths ≡ length tileref.rows = length-map tileref.rows _ in
-    let long : length (path_texts tileref) ≡ length paths = length-map paths path_text in
-    let each : (k : ℕ) → k < length paths → IsPath (get_or paths k []) = λ k h. right.paths (suc k) (omega arith, omega (arith, many, h)) in
-    let text : (k : ℕ) → k < length paths → get_or (path_texts tileref) k [] ≡ path_text (get_or paths k []) = λ k h. get_or-map path_text paths k [] [] h in
-    record {
-      inner = recursion_from_All IsInner (path_texts tileref) (All-map IsInner path_text paths (λ k d h.
-          subst (λ (p : TilePath). IsInner (path_text p)) (get_or_default paths k [] d h) (path_is_inner (get_or paths k []) (each k h))));
-      apart = λ j k h l e.
-          let here : j < length paths = omega (arith, long, h) in
-          let there : k < length paths = omega (arith, long, l) in
-          let same : get_or paths j [] ≡ get_or paths k [] =
-          one_path (get_or paths j []) (get_or paths k []) (each j here) (each k there) (sym (text j here) ∙ e ∙ text k there) in
-          let one : suc j ≡ suc k = right.apart (suc j) (suc k) (omega arith, omega (arith, many, here)) (omega arith, omega (arith, many, there)) same in
-          omega (arith, one);
-    }
 
 -- ---- the coverage
 

@@ -1,36 +1,24 @@
 -- The files of tiles within a folder, as they are read there.
-use Rattle.std.proofs.Common.{◌≡◌, ◌≢◌, ◌<◌, ℕ, ◌+◌, List, [], ◌∷◌, ◌++◌, length, map, Option, Some, None}
-use Rattle.std.proofs.Common.{refl, sym, ap, subst, ◌∙◌, arith, append_assoc, append-nil}
+use Rattle.std.proofs.Common.{[], ◌≡◌, ◌≢◌, ◌<◌, ℕ, ◌+◌, List, ◌∷◌, ◌++◌, length, map, Option, Some, None, refl, sym, ap, subst, ◌∙◌, arith, append-nil}
 use Rattle.std.specs.Prelude.{IsUtf8, codes, encode_utf8}
 use Rattle.std.specs.Char.{IsScalar}
 use Rattle.std.specs.List.{AllByRecursion}
-use Rattle.std.proofs.lemmas.Str.{IsUtf8-from_ascii, encode_ascii}
-use Rattle.std.proofs.lemmas.Str.Ascii.{IsAscii-cons, IsAscii-nil}
+use Rattle.std.proofs.lemmas.Str.{encode_ascii}
 use Rattle.vpf_source.specs.declared.file.File.{File}
 use Rattle.vpf_source.specs.Names.Indexes.{index_name}
-use Rattle.vpf_table.specs.Canonical.{IsWritable}
 use Rattle.vpf_table.specs.Grid.{Grid}
-use Rattle.vpf_write.specs.Writing.{first_limit}
 use Rattle.vpf_prims.specs.Reading.{PrimitiveTables}
 use Rattle.vpf_prims.specs.Tables.{TileTables}
 use Rattle.vpf_write.specs.Made.Files.{table_files}
 use Rattle.vpf_library_files.specs.Loading.Holding.{AreFilesOf, AreFilesOfOption, AreTileFiles, AreTilesFiles}
 use Rattle.vpf_library_files.specs.Loading.Loading.{within}
-use Rattle.vpf_table_files.specs.Adding.{NamedTable, files_of_table, table_within}
-use Rattle.vpf_tiler.proofs.tiled_files.NameLemmas.{index_within, some_after, within_is, within_utf8, within_within}
-use Rattle.vpf_tiler.proofs.tiled_files.PathLemmas.{IsInner}
-use Rattle.vpf_tiler.proofs.tiled_files.ReadTables.{CanBeRead, all_behind, all_front, moved, first_read, read_both, read_files, table_read}
-use Rattle.vpf_tiler.proofs.tiled_files.WrittenTables.{Opens}
-
--- the tables of a tile in its folder
-abbrev pub end_in : (folder : List ℕ) → Option Grid → List NamedTable
-end_in folder None = []
-end_in folder (Some grid) = table_within folder (codes "end") grid ∷ []
-
-abbrev pub tables_in : (folder : List ℕ) → PrimitiveTables → List NamedTable
-tables_in folder P =
-    table_within folder (codes "edg") P.edg ∷ table_within folder (codes "fac") P.fac ∷ table_within folder (codes "rng") P.rng
-    ∷ table_within folder (codes "cnd") P.cnd ∷ end_in folder P.end
+use Rattle.vpf_library_files.specs.TableFiles.Adding.{NamedTable, files_of_table, table_within}
+use Rattle.vpf_tiler.specs.Inner.TiledFiles.StemLaws.{index_within, within_utf8, within_within}
+use Rattle.vpf_tiler.specs.Inner.TiledFiles.PathLaws.{IsInner}
+use Rattle.vpf_tiler.proofs.tiled_files.ReadTables.{first_read, read_both, read_files, table_read}
+use Rattle.vpf_tiler.specs.Inner.TiledFiles.TableLaws.{TableCanBeRead as CanBeRead, all_behind, all_front, moved}
+use Rattle.vpf_tiler.specs.Inner.TiledFiles.WrittenLaws.{OpensWritten as Opens}
+use Rattle.vpf_tiler.specs.Inner.TiledFiles.TileLaws.{tile_place, IsTilePlace as IsPlace, tables_held as tables_in, end_in, last_behind, EachOpens, ascii}
 
 -- those of a tile that may be empty
 abbrev pub tables_at : (folder : List ℕ) → Option PrimitiveTables → List NamedTable
@@ -57,11 +45,6 @@ tiles_at out cov at (path ∷ paths) (Some P ∷ tiles) =
 pub asked : (out folder rest : List ℕ) (c : ℕ) → folder ≢ [] → within out (within folder (rest ++ c ∷ [])) ≡ within (within out folder) (rest ++ c ∷ [])
 asked out folder rest c some = within_within out folder (rest ++ c ∷ []) some
 
--- its last letter stands behind the rest
-pub last_behind : (folder rest : List ℕ) (c : ℕ) → within folder (rest ++ c ∷ []) ≡ within folder rest ++ c ∷ []
-last_behind folder rest c =
-    within_is folder (rest ++ c ∷ []) ∙ sym (append_assoc (within folder []) rest (c ∷ [])) ∙ ap (λ (x : List ℕ). x ++ c ∷ []) (sym (within_is folder rest))
-
 -- and that of its index with it
 index_asked : (out folder rest : List ℕ) (c : ℕ) → IsUtf8 out → IsUtf8 folder → IsUtf8 rest → folder ≢ [] → IsScalar c → encode_utf8 c ≡ c ∷ []
     → within out (index_name (within folder (rest ++ c ∷ []))) ≡ index_name (within (within out folder) (rest ++ c ∷ []))
@@ -69,13 +52,6 @@ index_asked out folder rest c u v w some s e =
     let behind = last_behind folder rest c in
     ap (λ (x : List ℕ). within out (index_name x)) behind ∙ index_within out (within folder rest) c u (within_utf8 folder rest v w) s e
     ∙ ap (λ (x : List ℕ). index_name (within out x)) (sym behind) ∙ ap index_name (asked out folder rest c some)
-
--- a folder that is read: its name within the one around it
-pub record IsPlace (out folder place : List ℕ) : Type 0 where
-  pub out_utf8 : IsUtf8 out
-  pub utf8 : IsUtf8 folder
-  pub some : folder ≢ []
-  pub is : within out folder ≡ place
 
 -- a table there
 pub there_read : (out folder place rest : List ℕ) (c : ℕ) (g : Grid) → IsPlace out folder place → IsUtf8 rest → IsScalar c → encode_utf8 c ≡ c ∷ [] → Opens g
@@ -85,17 +61,10 @@ there_read out folder place rest c g p w s e opens =
     (asked out folder rest c p.some ∙ ap (λ (x : List ℕ). within x (rest ++ c ∷ [])) p.is)
     (index_asked out folder rest c p.out_utf8 p.utf8 w p.some s e ∙ ap (λ (x : List ℕ). index_name (within x (rest ++ c ∷ []))) p.is)
 
-pub ascii : (a b : ℕ) → a < 128 → b < 128 → IsUtf8 (a ∷ b ∷ [])
-ascii a b h k = IsUtf8-from_ascii (a ∷ b ∷ []) (IsAscii-cons a (b ∷ []) h (IsAscii-cons b [] k IsAscii-nil))
-
 -- a table whose name has three letters
 three_read : (out folder place : List ℕ) (a b c : ℕ) (g : Grid) → IsPlace out folder place → a < 128 → b < 128 → c < 128 → IsScalar c → Opens g
     → AreFilesOf (within place (a ∷ b ∷ c ∷ [])) g (map (moved out) (table_files (within folder (a ∷ b ∷ c ∷ [])) g))
 three_read out folder place a b c g p h k l s opens = there_read out folder place (a ∷ b ∷ []) c g p (ascii a b h k) s (encode_ascii c l) opens
-
--- what reading asks for a table to be opened
-abbrev pub EachOpens : Type 0
-EachOpens = (g : Grid) → IsWritable g → first_limit g ≡ None → Opens g
 
 end_read : (out folder place : List ℕ) (end : Option Grid) → IsPlace out folder place → EachOpens → AllByRecursion CanBeRead (end_in folder end)
     → AreFilesOfOption (within place (codes "end")) end (read_files out (end_in folder end))
@@ -136,15 +105,6 @@ tile_read out folder place P p opens h =
     }
 
 -- ---- all tiles
-
--- the folder of a tile within that of the coverage
-pub tile_place : (out cov path : List ℕ) → IsUtf8 out → IsUtf8 cov → cov ≢ [] → IsInner path → IsPlace out (within cov path) (within (within out cov) path)
-tile_place out cov path u v some inner = record {
-  out_utf8 = u;
-  utf8 = within_utf8 cov path v inner.utf8;
-  some = λ e. some_after (within cov []) path inner.some (sym (within_is cov path) ∙ e);
-  is = within_within out cov path some;
-}
 
 -- the tables of all tiles are read, tile by tile
 pub tiles_read : (out cov : List ℕ) → IsUtf8 out → IsUtf8 cov → cov ≢ [] → EachOpens → (at : ℕ) (paths : List (List ℕ)) (tiles : List (Option PrimitiveTables))

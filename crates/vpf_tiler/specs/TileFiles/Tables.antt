@@ -9,7 +9,7 @@ use Rattle.vpf_library_files.specs.Tileref.Stops.{path_texts}
 use Rattle.vpf_tiling.specs.Ranks.{up_to}
 use Rattle.vpf_tiling.specs.Tiles.{is_made}
 use Rattle.vpf_primitive_tables.specs.TileTables.Grids.{edges_made, entities_made, faces_made, nodes_made, rings_made, tiles_made}
-use Rattle.vpf_table_files.specs.Adding.{NamedTable, table_within}
+use Rattle.vpf_library_files.specs.TableFiles.Adding.{NamedTable, table_within}
 
 -- the table of entity nodes of a tile, where the coverage has one
 abbrev pub entity_tables : (folder : List ℕ) → Option Grid → Primitives → (ℕ → ℕ) → ℕ → List NamedTable

@@ -2,24 +2,24 @@
 
 ghost use Rattle.std.specs.Prelude.{◌≡◌, [], IfOk, length, string_bytes};
 ghost use Rattle.vpf_base.specs.Results.{Meets};
-ghost use Rattle.vpf_cutting.specs.Cuts.{plan_by};
+ghost use Rattle.vpf_cutting.specs.Inner.Cuts.{plan_by};
 ghost use Rattle.vpf_prims.specs.Lists.{kth};
 ghost use Rattle.vpf_prims.specs.Reading.{primitives_of};
 ghost use Rattle.vpf_library_files.specs.Loading.Loading.{within};
 ghost use Rattle.vpf_library_files.specs.Tileref.Stops.{path_texts};
 ghost use Rattle.vpf_library_files.specs.Tileref.Tileref.{IsTileref};
-ghost use Rattle.vpf_table_files.specs.Adding.{Adds, error_seen, made_of_tables};
+ghost use Rattle.vpf_library_files.specs.TableFiles.Adding.{Adds, error_seen, made_of_tables};
 ghost use Rattle.vpf_tiler.specs.TileFiles.Tables.{all_tile_tables, entity_tables, library_tables, tables_if_made, tile_tables};
 
 use std::alloc::{AllocError, Global};
-use vpf_cut_rings::CutRings;
 use vpf_cutting::Cut;
 use vpf_library_files::loading::within;
+use vpf_library_files::table_files::{AddError, add_table};
 use vpf_library_files::tileref::TilePaths;
+use vpf_primitive_tables::cut_rings::CutRings;
 use vpf_primitive_tables::tile_tables::{Forms, write_tiles};
 use vpf_source::File;
 use vpf_table::TableView;
-use vpf_table_files::{AddError, add_table};
 
 /// What the tables of tiles are made of: the coverage as it is cut, the rings of its faces, and the tables that those of tiles are like.
 #[derive(Drop)]

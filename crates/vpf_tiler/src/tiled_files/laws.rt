@@ -1,7 +1,7 @@
 //! What is so of the files of the tiled library of every coverage.
 
-ghost use Rattle.vpf_tiler.specs.TiledFiles.Laws.{MadeIsHeld};
-ghost use Rattle.vpf_tiler.specs.TiledFiles.Names.{NamesDiffer, NamesDifferWithin};
+ghost use Rattle.vpf_tiler.specs.Inner.TiledFiles.Laws.{MadeIsHeld};
+ghost use Rattle.vpf_tiler.specs.Inner.TiledFiles.Names.{NamesDiffer, NamesDifferWithin};
 
 use vpf_head::laws as headers;
 use vpf_value::laws as cells;

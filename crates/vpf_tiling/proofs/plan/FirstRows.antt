@@ -7,7 +7,7 @@ use Rattle.vpf_findings.specs.Firsts.{◌or◌, where_holds}
 use Rattle.vpf_prims.specs.Columns.{RoleAt, id_column}
 use Rattle.vpf_prims.specs.Reading.{natural_in}
 use Rattle.vpf_prims.specs.References.{cell_at, signed_in}
-use Rattle.vpf_tiling.specs.Plan.Laws.{FirstRowNames, NoRowNames}
+use Rattle.vpf_tiling.specs.Inner.Plan.Laws.{FirstRowNames, NoRowNames}
 use Rattle.vpf_tiling.specs.Plan.Named.{named_in, names_face}
 use Rattle.vpf_tiling.specs.Plan.Plans.{tile_column}
 

@@ -4,7 +4,7 @@ use Rattle.std.proofs.lemmas.List.{ext_get_or}
 use Rattle.std.proofs.lemmas.List.FromFn.{get_or-map-range_with_len, length-map-range_with_len}
 use Rattle.vpf_table.specs.Grid.{Grid, Row}
 use Rattle.vpf_findings.specs.Firsts.{◌or◌}
-use Rattle.vpf_findings.specs.FirstLaws.{or-assoc, or-none}
+use Rattle.vpf_findings.specs.Inner.FirstLaws.{or-assoc, or-none}
 use Rattle.vpf_prims.specs.Columns.{RoleAt, id_column}
 use Rattle.vpf_tiling.specs.Plan.Named.{named_in, named_in_row, named_tile, tiles_named}
 use Rattle.vpf_tiling.specs.Plan.Plans.{tile_column}

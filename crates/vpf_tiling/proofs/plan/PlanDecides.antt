@@ -3,11 +3,11 @@ use Rattle.std.proofs.Common.{◌≡◌, Bool, true, false, Option, Some, None, 
 use Rattle.std.specs.List.{AllByRecursion}
 use Rattle.vpf_head.specs.Head.{Col}
 use Rattle.vpf_findings.specs.Firsts.{unless}
-use Rattle.vpf_findings.specs.FirstLaws.{or-none_both}
+use Rattle.vpf_findings.specs.Inner.FirstLaws.{or-none_both}
 use Rattle.vpf_prims.specs.Columns.{column_of, columns_finding, placed_line, role_line}
 use Rattle.vpf_prims.specs.Roles.{Role, plan_roles, suits}
 use Rattle.vpf_prims.specs.Suiting.{SuitsRole}
-use Rattle.vpf_tiling.specs.Plan.Laws.{PlansDecide}
+use Rattle.vpf_tiling.specs.Inner.Plan.Laws.{PlansDecide}
 use Rattle.vpf_tiling.specs.Plan.Plans.{plan_at}
 
 -- a line that is said unless a test passes

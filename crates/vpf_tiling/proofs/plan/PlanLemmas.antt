@@ -15,10 +15,10 @@ use Rattle.vpf_library_files.specs.declared.loading.loading.LoadStop.TheVariants
 use Rattle.vpf_library_files.specs.Loading.Holding.{AreFilesOf}
 use Rattle.vpf_library_files.specs.Loading.Loading.{LoadedTable, read_table, stop_seen}
 use Rattle.vpf_library_files.specs.Loading.Loads.{ReadsStop, ReadsValue}
-use Rattle.vpf_tiling.specs.Plan.Laws.{PlansDecide}
+use Rattle.vpf_tiling.specs.Inner.Plan.Laws.{PlansDecide}
 use Rattle.vpf_tiling.specs.Plan.PlanLoads.{ArePlanFiles, AreOfPlan, read_plan, unless_found}
 use Rattle.vpf_tiling.specs.Plan.Plans.{IsPlanTable, plan_at, plan_finding}
-use Rattle.vpf_tiling.proofs.plan.ReadLemmas.{OpensRead, SpelledOpens, came_same, table_is}
+use Rattle.vpf_tiling.specs.Inner.Plan.ReadLaws.{OpensRead, SpelledOpens, came_same, table_is}
 
 -- a value was let through
 nothing_found : {V : Type 0} (name : List ℕ) (first : Option Disagreement) (v : V) → unless_found name first v ≡ Ok v → first ≡ None

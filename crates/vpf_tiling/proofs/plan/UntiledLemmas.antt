@@ -1,5 +1,5 @@
 -- What reading an untiled coverage comes to.
-use Rattle.std.proofs.Common.{Vec, Global, ◌≡◌, ◌∙◌, inl, ℕ, Bool, true, false, List, [], Option, None, Some, Ok, Err, refl, sym, ap, subst}
+use Rattle.std.proofs.Common.{[], Vec, Global, ◌≡◌, ◌∙◌, inl, ℕ, Bool, true, false, List, Option, None, Some, Ok, Err, refl, sym, ap, subst}
 use Rattle.std.specs.Prelude.{IfOk, IfSome, Result, codes}
 use Rattle.std.proofs.lemmas.List.{append-nil}
 use Rattle.vpf_base.specs.Results.{Meets, Told}
@@ -11,7 +11,8 @@ use Rattle.vpf_library_files.specs.Loading.Holding.{AreOfCoverage, AreUntiledFil
 use Rattle.vpf_library_files.specs.Loading.Loading.{CountsAs, LoadedCoverage, LoadedTile, Read, loaded_read, read_tile, stop_seen, untiled_loaded, within}
 use Rattle.vpf_library_files.specs.Loading.Loads.{AddsTile, Comes, LoadsAs, ReadsStop}
 use Rattle.vpf_tiling.specs.Plan.Untiled.{AreOfUntiled, LoadsUntiled, read_untiled}
-use Rattle.vpf_tiling.proofs.plan.ReadLemmas.{came_same, ends_next}
+use Rattle.vpf_tiling.proofs.plan.ReadLemmas.{ends_next}
+use Rattle.vpf_tiling.specs.Inner.Plan.ReadLaws.{came_same}
 
 -- what was read of the coverage's own folder
 abbrev FolderComes : (told : Option Files) (lib cov : List ℕ) (n0 n1 : ℕ) (old new : List File) (there : Bool) → Type 0

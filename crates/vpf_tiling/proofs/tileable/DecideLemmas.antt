@@ -3,21 +3,21 @@ use Rattle.std.proofs.Common.{◌≡◌, ◌≢◌, ℕ, ℤ, pos, negsuc, zero,
 use Rattle.std.proofs.lemmas.Bool.{cases_Bool, and_parts, and_from, eqb-true, eq-eqb, ne_eqb, leb-true, le-leb}
 use Rattle.vpf_darts.specs.Darts.{code, tile_in, edge_in, flip}
 use Rattle.vpf_findings.specs.Firsts.{unless, where_holds, first_over}
-use Rattle.vpf_findings.specs.FirstLaws.{or-none_both, over_none, over_silent}
+use Rattle.vpf_findings.specs.Inner.FirstLaws.{or-none_both, over_none, over_silent}
 use Rattle.vpf_prims.specs.Lists.{kth}
 use Rattle.vpf_prims.specs.Numbering.{IsRowOf}
 use Rattle.vpf_prims.specs.Primitives.{Primitives, untiled, absent_edge, entities_in, tile_edges, tile_entities}
 use Rattle.vpf_prims.specs.References.{id_of}
-use Rattle.vpf_wing.specs.DartLaws.{never_both, IsThere, has-there, there-has, code-tile, code-edge, minus-code, flip-edge, flip-has, flip-minus}
+use Rattle.vpf_wing.specs.Inner.DartLaws.{never_both, IsThere, has-there, there-has, code-tile, code-edge, minus-code, flip-edge, flip-has, flip-minus}
 use Rattle.vpf_wing.specs.Links.{face_by, is_minus}
 use Rattle.vpf_tiling.specs.Plans.{IsPlan, HasPlaces}
 use Rattle.vpf_tiling.specs.Presence.{untiled_links, face_of, containing_face}
-use Rattle.vpf_tiling.specs.PresenceLaws.{in_zero}
+use Rattle.vpf_tiling.specs.Inner.PresenceLaws.{in_zero}
 use Rattle.vpf_tiling.specs.declared.tileable.refusals.Refusal.{Refusal}
 use Rattle.vpf_tiling.specs.declared.tileable.refusals.Refusal.TheVariants as refusals
 use Rattle.vpf_tiling.specs.Tileable.Planning.{named_for, is_tile, tile_number, planned_tile, plan_of}
 use Rattle.vpf_tiling.specs.Tileable.Refusals.{not_named, no_plan, no_plans, named_no_tile, unknown_tile, unknown_tiles, edge_outside, edges_outside, entity_outside, entities_outside, first_refusal}
-use Rattle.vpf_tiling.specs.Tileable.Laws.{RefusalsDecide}
+use Rattle.vpf_tiling.specs.Inner.Tileable.Laws.{RefusalsDecide}
 
 -- nothing is said at any of some numbers
 numbers_none : {F : Type 0} (line : ℕ → Option F) (from n : ℕ) → first_over (λ i. line (i + 1)) from n ≡ None → (k : ℕ) → from < k → k ≤ from + n → line k ≡ None

@@ -6,7 +6,7 @@ use Rattle.std.proofs.lemmas.List.{get_or_past, map_push, length-map}
 use Rattle.std.proofs.lemmas.List.FromFn.{get_or-map-range_with_len, length-range_with_len}
 use Rattle.vpf_prims.specs.Lists.{kth}
 use Rattle.vpf_tiling.specs.Ranks.{up_to}
-use Rattle.vpf_tiling.specs.RankLaws.{up-last}
+use Rattle.vpf_tiling.specs.Inner.RankLaws.{up-last}
 use Rattle.vpf_tiling.specs.Tileable.Planning.{named_for, planned_tile, plan_of}
 
 -- one face more

@@ -3,7 +3,7 @@
 ghost use Rattle.std.specs.Prelude.{◌≡◌, IfOk, codes, length};
 ghost use Rattle.vpf_findings.specs.Firsts.{Finds};
 ghost use Rattle.vpf_prims.specs.Columns.{columns_finding};
-ghost use Rattle.vpf_prims.specs.Placed.{IsColumnOf};
+ghost use Rattle.vpf_prims.specs.Inner.Placed.{IsColumnOf};
 ghost use Rattle.vpf_prims.specs.Roles.{number_role, plan_roles, role_of};
 ghost use Rattle.vpf_tiling.specs.Plan.Plans.{plan_at};
 

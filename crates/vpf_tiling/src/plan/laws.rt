@@ -1,6 +1,6 @@
 //! What is so of every plan.
 
-ghost use Rattle.vpf_tiling.specs.Plan.Laws.{FirstRowNames, NoRowNames, PlansDecide};
+ghost use Rattle.vpf_tiling.specs.Inner.Plan.Laws.{FirstRowNames, NoRowNames, PlansDecide};
 
 /// There is no finding on a table exactly where it is a plan: its columns are there, and hold numbers.
 pub fn plans_decide()

@@ -28,7 +28,7 @@ fn check_named(named: &NamedTiles, face: u32) -> Result<(), Refusal>
 }
 
 /// The same of each face but the universe.
-#[tactic(auto, using(vpf_findings::specs::FirstLaws::over_pass, vpf_findings::specs::FirstLaws::over_stop, vpf_findings::specs::FirstLaws::over_end))]
+#[tactic(auto, using(vpf_findings::specs::Inner::FirstLaws::over_pass, vpf_findings::specs::Inner::FirstLaws::over_stop, vpf_findings::specs::Inner::FirstLaws::over_end))]
 fn check_all_named(named: &NamedTiles, faces: u32) -> Result<(), Refusal>
     ensures { result_err result ≡ no_plans named.now faces }
 {
@@ -49,7 +49,7 @@ fn check_tile(named: &NamedTiles, tiles: u32, face: u32) -> Result<(), Refusal>
 }
 
 /// The same of each face but the universe.
-#[tactic(auto, using(vpf_findings::specs::FirstLaws::over_pass, vpf_findings::specs::FirstLaws::over_stop, vpf_findings::specs::FirstLaws::over_end))]
+#[tactic(auto, using(vpf_findings::specs::Inner::FirstLaws::over_pass, vpf_findings::specs::Inner::FirstLaws::over_stop, vpf_findings::specs::Inner::FirstLaws::over_end))]
 fn check_all_tiles(named: &NamedTiles, tiles: u32, faces: u32) -> Result<(), Refusal>
     ensures { result_err result ≡ unknown_tiles named.now tiles faces }
 {
@@ -72,7 +72,7 @@ fn check_edge(tile: &Tile<'_>, edge: u32) -> Result<(), Refusal>
 }
 
 /// The same of each edge.
-#[tactic(auto, using(vpf_findings::specs::FirstLaws::over_pass, vpf_findings::specs::FirstLaws::over_stop, vpf_findings::specs::FirstLaws::over_end))]
+#[tactic(auto, using(vpf_findings::specs::Inner::FirstLaws::over_pass, vpf_findings::specs::Inner::FirstLaws::over_stop, vpf_findings::specs::Inner::FirstLaws::over_end))]
 fn check_edges(tile: &Tile<'_>) -> Result<(), Refusal>
     ensures { result_err result ≡ edges_outside (primitives_of tile.now.tables) }
 {
@@ -94,7 +94,7 @@ fn check_entity(tile: &Tile<'_>, node: u32) -> Result<(), Refusal>
 }
 
 /// The same of each entity node.
-#[tactic(auto, using(vpf_findings::specs::FirstLaws::over_pass, vpf_findings::specs::FirstLaws::over_stop, vpf_findings::specs::FirstLaws::over_end))]
+#[tactic(auto, using(vpf_findings::specs::Inner::FirstLaws::over_pass, vpf_findings::specs::Inner::FirstLaws::over_stop, vpf_findings::specs::Inner::FirstLaws::over_end))]
 fn check_entities(tile: &Tile<'_>) -> Result<(), Refusal>
     ensures { result_err result ≡ entities_outside (primitives_of tile.now.tables) }
 {

@@ -6,11 +6,11 @@ use mathlib.Core.Path.{fun_ext}
 use Rattle.vpf_darts.specs.Darts.{tile_in}
 use Rattle.vpf_prims.specs.Primitives.{Primitives, untiled, edges_in, edge_count}
 use Rattle.vpf_wing.specs.Links.{tail_node, tile_darts}
-use Rattle.vpf_wing.specs.DartLaws.{never_both}
+use Rattle.vpf_wing.specs.Inner.DartLaws.{never_both}
 use Rattle.vpf_follow.specs.Following.{face_name, is_home}
 use Rattle.vpf_trace.specs.CarriedLines.{first_tile, node_carried}
 use Rattle.vpf_tiling.specs.Presence.{copy_in, face_of, has_edge, is_present, present_edges, tail_of, untiled_links}
-use Rattle.vpf_tiling.specs.PresenceLaws.{no_edge_zero}
+use Rattle.vpf_tiling.specs.Inner.PresenceLaws.{no_edge_zero}
 use Rattle.vpf_tiling.specs.Plans.{IsTileable}
 use Rattle.vpf_tiling.specs.Tiles.{is_made, tiled_library, tiled_primitives}
 use Rattle.vpf_tiling_laws.specs.Tiled.Names.{dart_behind, is_name}
@@ -21,7 +21,7 @@ use Rattle.vpf_tiling_laws.proofs.tiled.NamedLemmas.{NameIs, home_is_named, name
 use Rattle.vpf_tiling_laws.proofs.tiled.ReferenceLemmas.{edges_many}
 use Rattle.vpf_tiling_laws.proofs.tiled.RowLemmas.{first_tables, made_at, made_from, node_row_at, universe_row}
 use Rattle.vpf_tiling_laws.specs.Gluing.Whole.{face_place}
-use Rattle.vpf_tiling_laws.specs.Gluing.Gluing.{CarriedAreNamed, CountsArePresent, FacesOfDartsAreNamed, MarksAreNamed, NodesAreNamed, OrderIsNamed, UniverseIsNamed}
+use Rattle.vpf_tiling_laws.specs.Inner.Gluing.Gluing.{CarriedAreNamed, CountsArePresent, FacesOfDartsAreNamed, MarksAreNamed, NodesAreNamed, OrderIsNamed, UniverseIsNamed}
 
 -- a tile without tables has no present edge
 none_present : (c : Primitives) (plan : ℕ → ℕ) (tiles : ℕ) → IsTileable c plan tiles → (t : ℕ) → is_made c plan tiles t ≡ false

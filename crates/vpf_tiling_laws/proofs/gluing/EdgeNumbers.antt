@@ -7,12 +7,12 @@ use Rattle.vpf_prims.specs.Numbering.{IsRowOf}
 use Rattle.vpf_prims.specs.Primitives.{Library, Primitives, absent_edge, tile_edges, untiled}
 use Rattle.vpf_prims.specs.References.{plain}
 use Rattle.vpf_wing.specs.Links.{links_of}
-use Rattle.vpf_wing.specs.DartLaws.{code-edge, code-sign, code-tile, darts-stand, flip-has, sign-cases, stands_in}
+use Rattle.vpf_wing.specs.Inner.DartLaws.{code-edge, code-sign, code-tile, darts-stand, flip-has, sign-cases, stands_in}
 use Rattle.vpf_follow.specs.Following.{is_home}
 use Rattle.vpf_tiling.specs.Ranks.{numbered}
-use Rattle.vpf_tiling.specs.RankLaws.{numbered_many}
+use Rattle.vpf_tiling.specs.Inner.RankLaws.{numbered_many}
 use Rattle.vpf_tiling.specs.Presence.{coverage_map, dart_name, face_of, home, next_of, untiled_links}
-use Rattle.vpf_tiling.specs.PresenceLaws.{dart_is, other-code, source_next, stands_filter}
+use Rattle.vpf_tiling.specs.Inner.PresenceLaws.{dart_is, other-code, source_next, stands_filter}
 use Rattle.vpf_tiling.specs.Plans.{IsTileable}
 use Rattle.vpf_tiling.specs.Tiles.{tiled_library}
 use Rattle.vpf_tiling_laws.specs.Tiled.Names.{dart_behind, is_name}
@@ -26,7 +26,7 @@ use Rattle.vpf_tiling_laws.proofs.tiled.SideLemmas.{present_home}
 use Rattle.vpf_tiling_laws.proofs.tiled.TableLemmas.{flip-plus}
 use Rattle.vpf_tiling_laws.specs.Gluing.Whole.{Whole, face_place, whole_named}
 use Rattle.vpf_tiling_laws.specs.Gluing.Glued.{edge_number, face_number, glued_edge, node_number, listed_at, plus_darts}
-use Rattle.vpf_tiling_laws.specs.Gluing.Renumbering.{EdgesAreMoved, EdgesStayApart, new_edge, new_edge_row, new_face}
+use Rattle.vpf_tiling_laws.specs.Inner.Gluing.Renumbering.{EdgesAreMoved, EdgesStayApart, new_edge, new_edge_row, new_face}
 use Rattle.vpf_tiling_laws.proofs.gluing.DartLemmas.{order_is_named}
 use Rattle.vpf_tiling_laws.proofs.gluing.PlaceLemmas.{Placed, place_apart, placed}
 

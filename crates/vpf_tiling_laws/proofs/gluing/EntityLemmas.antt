@@ -8,10 +8,10 @@ use mathlib.Core.Path.{fun_ext}
 use Rattle.vpf_prims.specs.Lists.{kth}
 use Rattle.vpf_prims.specs.Primitives.{EntityPrimitive, Primitives, absent_entity, entities_in, tile_entities, untiled}
 use Rattle.vpf_prims.specs.References.{id_of}
-use Rattle.vpf_wing.specs.DartLaws.{never_both}
+use Rattle.vpf_wing.specs.Inner.DartLaws.{never_both}
 use Rattle.vpf_tiling.specs.Ranks.{numbered, up_to}
 use Rattle.vpf_tiling.specs.Presence.{containing_face, held_entities, holds_entity, holds_face, local_face}
-use Rattle.vpf_tiling.specs.PresenceLaws.{any_from, up_stands}
+use Rattle.vpf_tiling.specs.Inner.PresenceLaws.{any_from, up_stands}
 use Rattle.vpf_tiling.specs.Plans.{IsTileable}
 use Rattle.vpf_tiling.specs.Tiles.{is_made, numbered_entity, tiled_library, tiled_primitives}
 use Rattle.vpf_tiling_laws.proofs.tiled.CopyLemmas.{tile_is}
@@ -19,7 +19,7 @@ use Rattle.vpf_tiling_laws.proofs.tiled.RowLemmas.{first_made}
 use Rattle.vpf_tiling_laws.proofs.tiled.SideLemmas.{above}
 use Rattle.vpf_tiling_laws.proofs.tiled.TableLemmas.{HeldFace, held_is}
 use Rattle.vpf_tiling_laws.specs.Gluing.Whole.{WholeEntity, face_here, face_place, has_entities, named_entity, tiles_in, whole_entities, whole_of}
-use Rattle.vpf_tiling_laws.specs.Gluing.Gluing.{EntitiesAreNamed}
+use Rattle.vpf_tiling_laws.specs.Inner.Gluing.Gluing.{EntitiesAreNamed}
 use Rattle.vpf_tiling_laws.proofs.gluing.ListLemmas.{filter_empty, map_numbered, map_passing, none_passes}
 use Rattle.vpf_tiling_laws.proofs.gluing.FaceLemmas.{none_held}
 

@@ -1,6 +1,5 @@
 -- The faces of the tiled library are those of the coverage, by their names.
-use Rattle.std.proofs.Common.{◌≡◌, ◌≢◌, ℕ, ◌<◌, ◌⊎◌, true, false, cond, eqb, refl, sym, ap, ◌∙◌, subst, inl, inr, arith, Some, None, List, [], ◌∷◌}
-use Rattle.std.proofs.Common.{◌++◌, length, map, get_or}
+use Rattle.std.proofs.Common.{[], ◌≡◌, ◌≢◌, ℕ, ◌<◌, ◌⊎◌, true, false, cond, eqb, refl, sym, ap, ◌∙◌, subst, inl, inr, arith, Some, None, List, ◌∷◌, ◌++◌, length, map, get_or}
 use Rattle.std.specs.Prelude.{filter, flat_map}
 use Rattle.std.proofs.lemmas.Bool.{cases_Bool, cases_eq, and_from, or_left, eqb-true, eq-eqb, ne_eqb}
 use mathlib.Core.Path.{fun_ext}
@@ -9,10 +8,10 @@ use Rattle.vpf_prims.specs.Lists.{kth}
 use Rattle.vpf_prims.specs.Primitives.{Primitives, absent_face, absent_ring, faces_in, tile_faces, untiled}
 use Rattle.vpf_prims.specs.References.{id_of}
 use Rattle.vpf_wing.specs.Links.{DartLinks, link_of}
-use Rattle.vpf_wing.specs.DartLaws.{code-sign, flip-edge, flip-flip, flip-has, never_both}
+use Rattle.vpf_wing.specs.Inner.DartLaws.{code-sign, flip-edge, flip-flip, flip-has, never_both}
 use Rattle.vpf_tiling.specs.Ranks.{numbered, numbered_from, up_to}
 use Rattle.vpf_tiling.specs.Presence.{copy_in, dart_name, face_of, held_faces, holds_face, is_present, is_within, local_edge, local_face, untiled_links}
-use Rattle.vpf_tiling.specs.PresenceLaws.{InFaces, dart_is, holds_from, in_faces, other-code, plus_or, present_flip}
+use Rattle.vpf_tiling.specs.Inner.PresenceLaws.{InFaces, dart_is, holds_from, in_faces, other-code, plus_or, present_flip}
 use Rattle.vpf_tiling.specs.Plans.{IsTileable}
 use Rattle.vpf_tiling.specs.Tiles.{face_rings, is_made, numbered_face, outer_rings, tiled_face, tiled_library, tiled_primitives, tiled_rings}
 use Rattle.vpf_tiling_laws.proofs.tiled.CopyLemmas.{copies_have_links, made, tile_is}
@@ -21,9 +20,9 @@ use Rattle.vpf_tiling_laws.proofs.tiled.ReferenceLemmas.{rings_are}
 use Rattle.vpf_tiling_laws.proofs.tiled.SideLemmas.{home_plain, rank_apart, same_plus}
 use Rattle.vpf_tiling_laws.proofs.tiled.TableLemmas.{HeldFace, SourceRing, held_is, source_ring}
 use Rattle.vpf_tiling_laws.specs.Gluing.Whole.{WholeFace, ring_start_dart, named_face, rest_of, whole_face, whole_faces, whole_rings}
-use Rattle.vpf_tiling_laws.specs.Gluing.Gluing.{FacesAreNamed}
-use Rattle.vpf_tiling_laws.proofs.gluing.ListLemmas.{filter_empty, flat_one, map_rings, map_twice, numbered_by_rank, numbered_twice, picked, picked_all, picked_append}
-use Rattle.vpf_tiling_laws.proofs.gluing.ListLemmas.{picked_flat, picked_none, picked_rows}
+use Rattle.vpf_tiling_laws.specs.Inner.Gluing.Gluing.{FacesAreNamed}
+use Rattle.vpf_tiling_laws.proofs.gluing.ListLemmas.{filter_empty, flat_one, map_rings, numbered_by_rank, numbered_twice, picked, picked_all, picked_append, picked_flat, picked_none, picked_rows}
+use Rattle.vpf_tiling_laws.specs.Inner.Gluing.ListLaws.{map_twice}
 
 -- a tile without tables has no face
 pub none_held : (c : Primitives) (plan : ℕ → ℕ) (tiles t : ℕ) → IsTileable c plan tiles → is_made c plan tiles t ≡ false → (f : ℕ)

@@ -11,9 +11,9 @@ use Rattle.vpf_prims.specs.Numbering.{IsRowOf}
 use Rattle.vpf_prims.specs.Primitives.{Primitives, absent_face}
 use Rattle.vpf_follow.specs.Following.{same_beyond}
 use Rattle.vpf_tiling.specs.Ranks.{numbered, up_to}
-use Rattle.vpf_tiling.specs.RankLaws.{numbered_many}
+use Rattle.vpf_tiling.specs.Inner.RankLaws.{numbered_many}
 use Rattle.vpf_tiling.specs.Presence.{held_faces, holds_face, local_face}
-use Rattle.vpf_tiling.specs.PresenceLaws.{InFaces, holds_from, stands_filter, up_stands}
+use Rattle.vpf_tiling.specs.Inner.PresenceLaws.{InFaces, holds_from, stands_filter, up_stands}
 use Rattle.vpf_tiling.specs.Plans.{IsTileable}
 use Rattle.vpf_tiling_laws.proofs.tiled.PlaceLemmas.{FirstAt, all_flat, all_get, all_of, any_flat, first_at, stands_passing}
 use Rattle.vpf_tiling_laws.proofs.tiled.RowLemmas.{numbered_at}
@@ -21,7 +21,7 @@ use Rattle.vpf_tiling_laws.proofs.tiled.SideLemmas.{names_apart, same_beyond-ref
 use Rattle.vpf_tiling_laws.proofs.tiled.TableLemmas.{HeldFace, held_is}
 use Rattle.vpf_tiling_laws.specs.Gluing.Whole.{Whole, WholeFace, named_face, whole_named}
 use Rattle.vpf_tiling_laws.specs.Gluing.Glued.{face_number, glued_face, glued_rings}
-use Rattle.vpf_tiling_laws.specs.Gluing.Renumbering.{FacesAreMoved, FacesStayApart, new_face}
+use Rattle.vpf_tiling_laws.specs.Inner.Gluing.Renumbering.{FacesAreMoved, FacesStayApart, new_face}
 use Rattle.vpf_tiling_laws.proofs.gluing.PlaceLemmas.{any_mapped}
 
 -- a face of the named whole is a face of the coverage

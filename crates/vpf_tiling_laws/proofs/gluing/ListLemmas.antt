@@ -1,6 +1,5 @@
 -- Lists of rows: what is made of rows by their ranks, and of the rows that pass a test.
-use Rattle.std.proofs.Common.{◌≡◌, ◌≢◌, ℕ, zero, suc, ◌+◌, ◌<◌, ◌≤◌, Bool, true, false, eqb, refl, sym, ap, ◌∙◌, inl, inr, arith, List, [], ◌∷◌, ◌++◌, length}
-use Rattle.std.proofs.Common.{map, get_or, append-nil}
+use Rattle.std.proofs.Common.{[], ◌≡◌, ◌≢◌, ℕ, zero, suc, ◌+◌, ◌<◌, ◌≤◌, Bool, true, false, eqb, refl, sym, ap, ◌∙◌, inl, inr, arith, List, ◌∷◌, ◌++◌, length, map, get_or, append-nil}
 use Rattle.std.specs.Prelude.{filter, flat_map}
 use Rattle.std.specs.List.{list_any}
 use Rattle.std.proofs.lemmas.Bool.{cases_Bool, cases_eq, or_from, eq-eqb, ne_eqb}
@@ -11,11 +10,7 @@ use Rattle.vpf_prims.specs.References.{id_of}
 use Rattle.vpf_prims.specs.Primitives.{RingPrimitive}
 use Rattle.vpf_tiling.specs.Ranks.{up_to, rank, numbered_from}
 use Rattle.vpf_tiling.specs.Tiles.{Ring, numbered_ring}
-use Rattle.vpf_tiling.specs.RankLaws.{count_is, filter_none, filter_one, numbered_append, up-last}
-
-pub map_twice : {X Y Z : Type 0} → (g : Y → Z) (f : X → Y) → (xs : List X) → map g (map f xs) ≡ map (λ x. g (f x)) xs
-map_twice g f [] = refl
-map_twice g f (x ∷ xs) = ap (λ z. g (f x) ∷ z) (map_twice g f xs)
+use Rattle.vpf_tiling.specs.Inner.RankLaws.{count_is, filter_none, filter_one, numbered_append, up-last}
 
 -- two functions that are the same where a test passes
 pub map_passing : {R : Type 0} → (u v : ℕ → R) (p : ℕ → Bool) → ((x : ℕ) → p x ≡ true → u x ≡ v x) → (xs : List ℕ)

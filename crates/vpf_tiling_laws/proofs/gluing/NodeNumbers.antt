@@ -6,12 +6,12 @@ use Rattle.vpf_prims.specs.Lists.{kth}
 use Rattle.vpf_prims.specs.Numbering.{IsRowOf}
 use Rattle.vpf_prims.specs.Primitives.{Primitives, absent_node, untiled}
 use Rattle.vpf_wing.specs.Walks.{LeadsTo, Steps, least_after}
-use Rattle.vpf_wing.specs.DartLaws.{flip-flip, flip-has, stands_in}
+use Rattle.vpf_wing.specs.Inner.DartLaws.{flip-flip, flip-has, stands_in}
 use Rattle.vpf_trace.specs.CarriedLines.{node_carried}
 use Rattle.vpf_tiling.specs.Ranks.{is_least, numbered}
-use Rattle.vpf_tiling.specs.RankLaws.{numbered_many}
+use Rattle.vpf_tiling.specs.Inner.RankLaws.{numbered_many}
 use Rattle.vpf_tiling.specs.Presence.{coverage_map, dart_name, next_of, tail_of, untiled_links}
-use Rattle.vpf_tiling.specs.PresenceLaws.{in_zero, source_next, stands_filter, tail_next}
+use Rattle.vpf_tiling.specs.Inner.PresenceLaws.{in_zero, source_next, stands_filter, tail_next}
 use Rattle.vpf_tiling.specs.Plans.{IsTileable}
 use Rattle.vpf_tiling_laws.specs.Tiled.Names.{dart_behind, is_name}
 use Rattle.vpf_tiling_laws.proofs.tiled.LineLemmas.{Behind, behind, behind_name, name_is_name, named_flip, named_next}
@@ -19,7 +19,7 @@ use Rattle.vpf_tiling_laws.proofs.tiled.RowLemmas.{item_numbered}
 use Rattle.vpf_tiling_laws.proofs.tiled.WalkLemmas.{few_steps, leads_join, least_below, least_is, least_on, steps_keep}
 use Rattle.vpf_tiling_laws.specs.Gluing.Whole.{Whole, whole_named}
 use Rattle.vpf_tiling_laws.specs.Gluing.Glued.{glued_edges, glued_node, first_darts, listed_at}
-use Rattle.vpf_tiling_laws.specs.Gluing.Renumbering.{NodesAreMoved, NodesStayApart, new_node}
+use Rattle.vpf_tiling_laws.specs.Inner.Gluing.Renumbering.{NodesAreMoved, NodesStayApart, new_node}
 use Rattle.vpf_tiling_laws.proofs.gluing.PlaceLemmas.{Placed, place_apart, placed}
 use Rattle.vpf_tiling_laws.proofs.gluing.EdgeNumbers.{name_stands}
 

@@ -4,8 +4,8 @@ use Rattle.std.specs.List.{list_any}
 use Rattle.std.proofs.lemmas.Bool.{or_cases, or_left, or_right, eqb-true, eq-eqb}
 use Rattle.vpf_prims.specs.Lists.{kth}
 use Rattle.vpf_prims.specs.Numbering.{IsRowOf}
-use Rattle.vpf_wing.specs.DartLaws.{never_both, stands_in}
-use Rattle.vpf_tiling.specs.PresenceLaws.{any_from}
+use Rattle.vpf_wing.specs.Inner.DartLaws.{never_both, stands_in}
+use Rattle.vpf_tiling.specs.Inner.PresenceLaws.{any_from}
 use Rattle.vpf_tiling_laws.proofs.tiled.PlaceLemmas.{FirstRow, first_row}
 use Rattle.vpf_tiling_laws.specs.Gluing.Glued.{listed_at}
 

@@ -4,10 +4,10 @@ use Rattle.vpf_value.specs.Values.{Value}
 use Rattle.vpf_darts.specs.Maps.{DartMap}
 use Rattle.vpf_wing.specs.Links.{Beyond}
 use Rattle.vpf_tiling.specs.Tiles.{tiled_library}
-use Rattle.vpf_tiling_laws.specs.Tiled.Laws.{MapIsNamed}
+use Rattle.vpf_tiling_laws.specs.Inner.Tiled.Laws.{MapIsNamed}
 use Rattle.vpf_tiling_laws.specs.Gluing.Whole.{Whole, WholeEntity, WholeFace, whole_named, whole_of}
 use Rattle.vpf_tiling_laws.specs.Gluing.Glued.{whole_coverage, tiles_of_faces}
-use Rattle.vpf_tiling_laws.specs.Gluing.Gluing.{GluingGivesRenumbered, WholeIsNamed}
+use Rattle.vpf_tiling_laws.specs.Inner.Gluing.Gluing.{GluingGivesRenumbered, WholeIsNamed}
 use Rattle.vpf_tiling_laws.proofs.gluing.DartLemmas.{carried_are_named, faces_of_darts_are_named, marks_are_named, nodes_are_named, order_is_named, universe_is_named}
 use Rattle.vpf_tiling_laws.proofs.gluing.FaceLemmas.{faces_are_named}
 use Rattle.vpf_tiling_laws.proofs.gluing.EntityLemmas.{entities_are_named}

@@ -2,7 +2,7 @@
 use Rattle.std.proofs.Common.{◌≡◌, ◌≢◌, ℕ, zero, suc, true, false, not, eqb, refl, sym, ap, ◌∙◌, subst, inl, inr, Some, None}
 use Rattle.std.proofs.lemmas.Bool.{cases_Bool, cases_eq, and_parts, or_cases, eqb-true, eq-eqb, ne_eqb}
 use Rattle.vpf_darts.specs.Darts.{code, tile_in, edge_in, sign_in, flip}
-use Rattle.vpf_darts.specs.Laws.{ComesRoundTo, RemovalLeavesAMap}
+use Rattle.vpf_darts.specs.Inner.Laws.{ComesRoundTo, RemovalLeavesAMap}
 use Rattle.vpf_darts.specs.Maps.{IsMap, is_of_any}
 use Rattle.vpf_prims.specs.Primitives.{Primitives, untiled}
 use Rattle.vpf_wing.specs.Links.{DartLinks, link_of, tail_node, local_next}
@@ -14,15 +14,15 @@ use Rattle.vpf_wing.specs.WellFormed.{IsWellFormed, IsDartOf}
 use Rattle.vpf_trace.specs.Agreeing.{IsCopy, IsFirstCopy, GoesOnHere}
 use Rattle.vpf_tiling.specs.Plans.{IsTileable}
 use Rattle.vpf_tiling_laws.proofs.tiled.Parts.{HasLinks, OfTiled, TiledLoops, OneInside, InsidePlain, OutsidePart, SamePart, Follows, FollowApart, HomeFlip, HomeSign, HomeMark, HomeCarried, GoesOn, HasNexts, NextsApart}
-use Rattle.vpf_wing.specs.DartLaws.{never_both, same_some, flip-has}
+use Rattle.vpf_wing.specs.Inner.DartLaws.{never_both, same_some, flip-has}
 use Rattle.vpf_tiling_laws.proofs.tiled.Facts.{MapLaws}
-use Rattle.vpf_follow.specs.FollowLaws.{home_has, outside_has}
+use Rattle.vpf_follow.specs.Inner.FollowLaws.{home_has, outside_has}
 use Rattle.vpf_tiling_laws.proofs.tiled.CopyLemmas.{CopyAt, copy_at, copies_have_links}
 use Rattle.vpf_tiling_laws.proofs.tiled.SideLemmas.{Within, within_is, home_plain, present_home, side, inside, outside, universe, node_apart, above, rank_apart, same_plus}
 use Rattle.vpf_tiling_laws.proofs.tiled.FollowLemmas.{copy_flip, library_links, tail_at, at_home, inside_home, universe_home, home_at, link_here, link_there, following_is_next, are_edges, next_is_first}
 use Rattle.vpf_tiling_laws.proofs.tiled.NameLemmas.{IsCopyOf, library_copy, name_apart, home_is_name}
 use Rattle.vpf_tiling_laws.proofs.tiled.NextLemmas.{passed_absent, stays_present, face_id, id_within, id_not, sides_apart, tile_arrives, tile_next_is_local}
-use Rattle.vpf_tiling.specs.PresenceLaws.{dart_is, edge_present, face_next, present_flip, present_has, source_next}
+use Rattle.vpf_tiling.specs.Inner.PresenceLaws.{dart_is, edge_present, face_next, present_flip, present_has, source_next}
 
 -- what is so of each copy of a present dart is so of each dart of the library
 pub at_each : (P : ℕ → Type 0) (c : Primitives) (plan : ℕ → ℕ) (tiles : ℕ) → IsTileable c plan tiles

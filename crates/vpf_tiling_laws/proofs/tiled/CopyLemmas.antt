@@ -12,10 +12,10 @@ use Rattle.vpf_tiling.specs.Presence.{untiled_links, face_of, holds_face, held_f
 use Rattle.vpf_tiling.specs.Tiles.{tiled_edge, tiled_edges, tiled_wing, tiled_node, tiled_face, tiled_primitives, is_made, tiled_library}
 use Rattle.vpf_tiling.specs.Plans.{IsPlan, IsTileable}
 use Rattle.vpf_tiling_laws.proofs.tiled.Parts.{CopiesHaveLinks}
-use Rattle.vpf_wing.specs.DartLaws.{code-sign, never_both, stands_in, IsThere, has-there, there-has, code-parts, code-tile, code-edge, sign-cases, flip-flip, flip-has}
+use Rattle.vpf_wing.specs.Inner.DartLaws.{code-sign, never_both, stands_in, IsThere, has-there, there-has, code-parts, code-tile, code-edge, sign-cases, flip-flip, flip-has}
 use Rattle.vpf_tiling_laws.proofs.tiled.NumberLemmas.{edges_by_number}
-use Rattle.vpf_tiling.specs.PresenceLaws.{Held, any_from, dart_is, edge_present, held, holds_held, in_zero, no_edge_zero, present_has, sign-below, stands_filter, up_stands}
-use Rattle.vpf_tiling.specs.RankLaws.{count_is, numbered_many, rank-step, rank_rises, weight}
+use Rattle.vpf_tiling.specs.Inner.PresenceLaws.{Held, any_from, dart_is, edge_present, held, holds_held, in_zero, no_edge_zero, present_has, sign-below, stands_filter, up_stands}
+use Rattle.vpf_tiling.specs.Inner.RankLaws.{count_is, numbered_many, rank-step, rank_rises, weight}
 
 -- a tile with a face has tables
 pub made : (c : Primitives) (plan : ℕ → ℕ) (tiles t : ℕ) → IsPlan c plan tiles → Held c plan t → is_made c plan tiles t ≡ true

@@ -9,15 +9,15 @@ use Rattle.vpf_prims.specs.Numbering.{IsRowOf, IsPlain, IsEdgeOf, IsFaceOf, IsRi
 use Rattle.vpf_prims.specs.Reading.{primitives_of}
 use Rattle.vpf_prims.specs.Tables.{TileTables}
 use Rattle.vpf_wing.specs.CycleLines.{loops_finding, cycles_finding, ring_cycle, ring_dart}
-use Rattle.vpf_wing.specs.Laws.{CyclesDecide, LoopsDecide}
+use Rattle.vpf_wing.specs.Inner.Laws.{CyclesDecide, LoopsDecide}
 use Rattle.vpf_wing.specs.Nexts.{tail, face, wing, next_dart}
 use Rattle.vpf_wing.specs.Places.{next_place, least_place}
 use Rattle.vpf_wing.specs.WellFormed.{IsWellFormed}
-use Rattle.vpf_wing.specs.DartLaws.{IsThere, has-there, sign-cases, code-parts}
+use Rattle.vpf_wing.specs.Inner.DartLaws.{IsThere, has-there, sign-cases, code-parts}
 use Rattle.vpf_trace.specs.Example.{plain_table}
 use Rattle.vpf_tiling.specs.Presence.{untiled_links, face_of}
 use Rattle.vpf_tiling.specs.Plans.{IsPlan, HasPlaces, IsTileable}
-use Rattle.vpf_tiling_laws.specs.Tiled.Example.{coverage, plan}
+use Rattle.vpf_tiling_laws.specs.Inner.Tiled.Example.{coverage, plan}
 
 -- the tables of the example
 abbrev tables : TileTables

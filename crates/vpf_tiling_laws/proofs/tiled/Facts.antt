@@ -1,19 +1,11 @@
 -- Facts of tests, of lists of numbers and of the darts of an untiled coverage; and what is so of maps.
-use Rattle.std.proofs.Common.{◌≡◌, ℕ, zero, suc, ◌+◌, ◌^◌, ◌<◌, ◌≤◌, Bool, true, false, eqb, ◌||◌, ◌&&◌, refl, sym, ap, ◌∙◌, subst, inl, inr, arith, Some, List, [], ◌∷◌, ◌++◌, length, length-append}
-use Rattle.std.specs.Prelude.{if◌then◌else◌, count_by, filter}
-use Rattle.std.proofs.lemmas.List.Elements.{filter-append}
-use Rattle.std.proofs.lemmas.List.Sums.{length-filter}
-use Rattle.std.specs.List.{list_any, range_with_len, AllByRecursion}
-use Rattle.std.proofs.lemmas.Bool.{cases_Bool, cases_eq, and_parts, or_cases, or_left, or_right, eqb-true, eq-eqb}
+use Rattle.std.proofs.Common.{[], ◌≡◌, ℕ, zero, suc, ◌^◌, ◌<◌, ◌≤◌, true, false, eqb, ◌||◌, refl, ap, ◌∙◌, inl, inr, arith, ◌∷◌}
+use Rattle.std.proofs.lemmas.Bool.{or_cases, eqb-true}
 use Rattle.vpf_darts.specs.Darts.{code, tile_in, edge_in}
-use Rattle.vpf_darts.specs.Laws.{FirstKeptDart}
-use Rattle.vpf_darts.specs.Maps.{is_of, is_of_any}
-use Rattle.vpf_prims.specs.Primitives.{Primitives, untiled}
-use Rattle.vpf_wing.specs.Laws.{WellFormedHasMap}
-use Rattle.vpf_wing.specs.Links.{DartLinks, links_of, row_darts, tail_node, is_next, local_next}
-use Rattle.vpf_wing.specs.WellFormed.{IsDartOf}
-use Rattle.vpf_wing.specs.DartLaws.{never_both, stands_in, stands-left, stands-right, stands-either, IsThere, has-there, code-tile, code-edge, only-passes}
-use Rattle.vpf_tiling.specs.Ranks.{up_to, rank}
+use Rattle.vpf_darts.specs.Inner.Laws.{FirstKeptDart}
+use Rattle.vpf_wing.specs.Inner.Laws.{WellFormedHasMap}
+use Rattle.vpf_wing.specs.Links.{row_darts}
+use Rattle.vpf_wing.specs.Inner.DartLaws.{never_both, stands_in, stands-either, code-tile, code-edge}
 
 -- what is so of maps: the next of a kept dart is the first kept one, and a well-formed coverage is a map
 pub record MapLaws : Type 0 where
@@ -50,7 +42,3 @@ among t (suc n) d few h = elim (stands-either d (row_darts t n) (code t (suc n) 
     ])
   ])
 ]
-
-pub all_join : {X : Type 0} → (P : X → Type 0) (xs ys : List X) → AllByRecursion P xs → AllByRecursion P ys → AllByRecursion P (xs ++ ys)
-all_join P [] ys a b = b
-all_join P (x ∷ xs) ys a b = (a.0, all_join P xs ys a.1 b)

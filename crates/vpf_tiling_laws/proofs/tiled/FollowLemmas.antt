@@ -6,7 +6,7 @@ use Rattle.std.specs.Option.{option_eq}
 use Rattle.std.specs.Prelude.{filter}
 use Rattle.std.proofs.lemmas.Bool.{cases_Bool, cases_eq, and_parts, and_from, or_from, eqb-true, eq-eqb, ne_eqb}
 use Rattle.vpf_darts.specs.Darts.{code, tile_in, edge_in, sign_in, flip}
-use Rattle.vpf_darts.specs.Laws.{ComesRoundTo}
+use Rattle.vpf_darts.specs.Inner.Laws.{ComesRoundTo}
 use Rattle.vpf_darts.specs.Maps.{DartMap, IsMap, AreEdges, is_of, is_of_any}
 use Rattle.vpf_tiling.specs.Ranks.{up_to}
 use Rattle.vpf_prims.specs.Primitives.{Primitives, untiled, edge_count}
@@ -16,13 +16,14 @@ use Rattle.vpf_tiling.specs.Presence.{untiled_links, coverage_map, next_of, tail
 use Rattle.vpf_tiling.specs.Tiles.{reference_to, tiled_wing, tiled_node, tiled_face, tiled_library}
 use Rattle.vpf_tiling.specs.Plans.{IsTileable}
 use Rattle.vpf_tiling_laws.proofs.tiled.Parts.{HasLinks}
-use Rattle.vpf_tiling_laws.specs.Tiled.Laws.{FollowingIsNext, TileNextIsFirstPresent}
-use Rattle.vpf_wing.specs.DartLaws.{never_both, there-has, code-tile, code-edge, flip-flip, flip-has, flip-edge}
-use Rattle.vpf_tiling_laws.proofs.tiled.Facts.{all_join, MapLaws}
+use Rattle.vpf_tiling_laws.specs.Inner.Tiled.Laws.{FollowingIsNext, TileNextIsFirstPresent}
+use Rattle.vpf_wing.specs.Inner.DartLaws.{never_both, there-has, code-tile, code-edge, flip-flip, flip-has, flip-edge}
+use Rattle.vpf_tiling_laws.proofs.tiled.Facts.{MapLaws}
+use Rattle.vpf_base.proofs.Lists.{all_joined as all_join}
 use Rattle.vpf_tiling_laws.proofs.tiled.CopyLemmas.{CopyAt, copy_at, copies_have_links}
 use Rattle.vpf_tiling_laws.proofs.tiled.SideLemmas.{present_home, side, node_apart, whole_name, above, name_is, same_beyond-refl, names_apart, inside, outside, universe}
-use Rattle.vpf_tiling.specs.PresenceLaws.{face_next, in_faces, present_flip, present_has, sign-below, source_next, tail_next}
-use Rattle.vpf_tiling.specs.RankLaws.{up-last}
+use Rattle.vpf_tiling.specs.Inner.PresenceLaws.{face_next, in_faces, present_flip, present_has, sign-below, source_next, tail_next}
+use Rattle.vpf_tiling.specs.Inner.RankLaws.{up-last}
 
 -- the edges that are absent from a tile have no present dart
 pub not_of_any : (q : ℕ → Bool) (x : ℕ) → q x ≡ false → q (flip x) ≡ false → (xs : List ℕ) → is_of_any flip (filter q xs) x ≡ false

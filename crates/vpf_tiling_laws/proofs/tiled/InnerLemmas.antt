@@ -16,7 +16,7 @@ use Rattle.vpf_tiling_laws.proofs.tiled.NextLemmas.{face_id, id_within, id_apart
 use Rattle.vpf_tiling_laws.proofs.tiled.RoundLemmas.{within_present, within_face}
 use Rattle.vpf_tiling_laws.proofs.tiled.TableLemmas.{SourceRing, source_ring, HeldFace}
 use Rattle.vpf_tiling_laws.proofs.tiled.WalkLemmas.{steps_keep, Pairs, pairs_from, pairs_passing}
-use Rattle.vpf_tiling.specs.PresenceLaws.{edge_present, face_next, in_faces, in_zero, present_has, source_next}
+use Rattle.vpf_tiling.specs.Inner.PresenceLaws.{edge_present, face_next, in_faces, in_zero, present_has, source_next}
 
 -- a present dart that a ring of the tile may start with
 pub record StartOf (c : Primitives) (plan : ℕ → ℕ) (t : ℕ) (r : Ring) (d : ℕ) : Type 0 where

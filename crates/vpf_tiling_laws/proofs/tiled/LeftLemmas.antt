@@ -5,7 +5,7 @@ use mathlib.Core.Path.{fun_ext}
 use Rattle.vpf_darts.specs.Cycles.{AreCycles, IsListing}
 use Rattle.vpf_darts.specs.Darts.{flip}
 use Rattle.vpf_tiling_laws.proofs.tiled.Facts.{MapLaws}
-use Rattle.vpf_darts.specs.Laws.{RemovalLeavesAMap, RenamingGivesAMap, RenamingKeepsCycles, RenamingKeepsRemoval, IsRenaming}
+use Rattle.vpf_darts.specs.Inner.Laws.{RemovalLeavesAMap, RenamingGivesAMap, RenamingKeepsCycles, RenamingKeepsRemoval, IsRenaming}
 use Rattle.vpf_darts.specs.Maps.{DartMap, IsMap, is_of_any, without}
 use Rattle.vpf_prims.specs.Primitives.{Primitives, is_tile_line, untiled}
 use Rattle.vpf_wing.specs.Links.{DartLinks}
@@ -15,8 +15,8 @@ use Rattle.vpf_tiling_laws.specs.Tiled.Names.{dart_behind, is_name, named_map}
 use Rattle.vpf_tiling.specs.Presence.{untiled_links, coverage_map, dart_name}
 use Rattle.vpf_tiling.specs.Tiles.{tiled_library}
 use Rattle.vpf_tiling.specs.Plans.{IsTileable}
-use Rattle.vpf_tiling_laws.specs.Tiled.Laws.{CyclesAreNamed, ListingIsNamed}
-use Rattle.vpf_wing.specs.DartLaws.{never_both}
+use Rattle.vpf_tiling_laws.specs.Inner.Tiled.Laws.{CyclesAreNamed, ListingIsNamed}
+use Rattle.vpf_wing.specs.Inner.DartLaws.{never_both}
 use Rattle.vpf_tiling_laws.proofs.tiled.FollowLemmas.{library_links}
 use Rattle.vpf_tiling_laws.proofs.tiled.NamedLemmas.{named_home, map_is_named}
 use Rattle.vpf_tiling_laws.proofs.tiled.LineLemmas.{behind, name_is_name, is_renaming, named_is_map, source_lines, name_mark, library_lines, source_edges, library_edges, without_has}

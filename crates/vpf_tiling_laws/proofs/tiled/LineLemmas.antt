@@ -1,11 +1,11 @@
 -- The lines between tiles of a coverage and of its tiled library.
-use Rattle.std.proofs.Common.{◌≡◌, ℕ, Bool, true, false, not, cond, eqb, ◌&&◌, refl, sym, ap, ◌∙◌, inl, inr, List, [], ◌∷◌}
+use Rattle.std.proofs.Common.{[], ◌≡◌, ℕ, Bool, true, false, not, cond, eqb, ◌&&◌, refl, sym, ap, ◌∙◌, inl, inr, List, ◌∷◌}
 use Rattle.std.specs.List.{AllByRecursion}
 use Rattle.std.specs.Prelude.{filter}
 use Rattle.std.proofs.lemmas.Bool.{cases_Bool, and_parts, and_from, or_cases, or_left, or_right, eqb-true, eq-eqb}
 use Rattle.vpf_darts.specs.Darts.{tile_in, edge_in, flip}
 use Rattle.vpf_tiling_laws.proofs.tiled.Facts.{MapLaws}
-use Rattle.vpf_darts.specs.Laws.{RenamingGivesAMap, IsRenaming}
+use Rattle.vpf_darts.specs.Inner.Laws.{RenamingGivesAMap, IsRenaming}
 use Rattle.vpf_darts.specs.Maps.{DartMap, IsMap, AreEdges, is_of, is_of_any, without, without_edge}
 use Rattle.vpf_prims.specs.Primitives.{Primitives, Library, untiled, absent_edge, tile_edges, is_tile_line}
 use Rattle.vpf_prims.specs.Lists.{kth}
@@ -17,15 +17,16 @@ use Rattle.vpf_tiling_laws.specs.Tiled.Names.{dart_behind, is_name, named_map}
 use Rattle.vpf_tiling.specs.Presence.{untiled_links, coverage_map, next_of, home, is_present, copy_in, dart_name}
 use Rattle.vpf_tiling.specs.Tiles.{tiled_library}
 use Rattle.vpf_tiling.specs.Plans.{IsTileable}
-use Rattle.vpf_wing.specs.DartLaws.{flip-minus, never_both, stands_in, darts-stand, flip-flip, flip-has, flip-tile, flip-edge}
-use Rattle.vpf_follow.specs.FollowLaws.{home_has}
+use Rattle.vpf_wing.specs.Inner.DartLaws.{flip-minus, never_both, stands_in, darts-stand, flip-flip, flip-has, flip-tile, flip-edge}
+use Rattle.vpf_follow.specs.Inner.FollowLaws.{home_has}
 use Rattle.vpf_tiling_laws.proofs.tiled.LocalLemmas.{all_home}
 use Rattle.vpf_tiling_laws.proofs.tiled.CopyLemmas.{copy_at, copies_have_links}
 use Rattle.vpf_tiling_laws.proofs.tiled.SideLemmas.{present_home}
 use Rattle.vpf_tiling_laws.proofs.tiled.FollowLemmas.{library_links, home_at}
 use Rattle.vpf_tiling_laws.proofs.tiled.NameLemmas.{IsCopyOf, copy_by_number, name_apart}
 use Rattle.vpf_tiling_laws.proofs.tiled.NamedLemmas.{NameIs, name_parts, home_named, named_home}
-use Rattle.vpf_tiling.specs.PresenceLaws.{of_any_from, present_has, stands_filter}
+use Rattle.vpf_tiling.specs.Inner.PresenceLaws.{of_any_from, present_has, stands_filter}
+use Rattle.vpf_base.proofs.Booleans.{same_bool}
 
 -- a name is the name of the dart behind it
 pub record Behind (c : Primitives) (plan : ℕ → ℕ) (x : ℕ) : Type 0 where
@@ -128,11 +129,6 @@ marked_lines live line minus fl (e ∷ es) ln x h = elim (cases_Bool (live e && 
         | inr r ↦ marked_lines live line minus fl es ln x r
       ])
 ]
-
-pub same_bool : (a b : Bool) → (a ≡ true → b ≡ true) → (b ≡ true → a ≡ true) → a ≡ b
-same_bool true b f g = sym (f refl)
-same_bool false true f g = g refl
-same_bool false false f g = refl
 
 pub lines_are : (live line minus : ℕ → Bool) (fl : ℕ → ℕ) (darts : List ℕ) → ((x : ℕ) → live x ≡ true → stands_in x darts ≡ true)
     → ((x : ℕ) → live x ≡ true → live (fl x) ≡ true) → ((x : ℕ) → live x ≡ true → line (fl x) ≡ line x)

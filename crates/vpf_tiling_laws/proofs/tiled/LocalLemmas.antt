@@ -10,8 +10,8 @@ use Rattle.vpf_wing.specs.Links.{Beyond, Link, DartLinks, links_of, link_of, bey
 use Rattle.vpf_follow.specs.Following.{is_far_face, is_home}
 use Rattle.vpf_prims.specs.Numbering.{IsPlain, IsReference, IsFace, IsEdgeOf}
 use Rattle.vpf_wing.specs.WellFormed.{IsWellFormed}
-use Rattle.vpf_wing.specs.DartLaws.{never_both, IsThere, has-there}
-use Rattle.vpf_tiling.specs.PresenceLaws.{in_zero}
+use Rattle.vpf_wing.specs.Inner.DartLaws.{never_both, IsThere, has-there}
+use Rattle.vpf_tiling.specs.Inner.PresenceLaws.{in_zero}
 
 abbrev pub out_in : Triplet → Option Beyond
 out_in r = beyond_of r.tile r.ext

@@ -14,17 +14,17 @@ use Rattle.vpf_tiling.specs.Presence.{untiled_links, next_of, home, is_present, 
 use Rattle.vpf_tiling.specs.Tiles.{tiled_edge, tiled_primitives, tiled_library, is_made}
 use Rattle.vpf_tiling_laws.specs.Tiled.Names.{dart_behind}
 use Rattle.vpf_tiling.specs.Plans.{IsTileable}
-use Rattle.vpf_tiling_laws.specs.Tiled.Laws.{HomeIsName}
-use Rattle.vpf_wing.specs.DartLaws.{IsThere, has-there, darts-stand, found-some, found-passes, code-parts, code-edge, code-sign, sign-cases, same_some, flip-flip}
+use Rattle.vpf_tiling_laws.specs.Inner.Tiled.Laws.{HomeIsName}
+use Rattle.vpf_wing.specs.Inner.DartLaws.{IsThere, has-there, darts-stand, found-some, found-passes, code-parts, code-edge, code-sign, sign-cases, same_some, flip-flip}
 use Rattle.std.proofs.lemmas.List.Elements.{filter-append}
 use Rattle.std.proofs.lemmas.List.{get_or_append_left, get_or_push}
 use Rattle.vpf_tiling_laws.proofs.tiled.CopyLemmas.{CopyAt, copy_at, edges_are}
 use Rattle.vpf_tiling_laws.proofs.tiled.SideLemmas.{rank_apart, present_home, same_plus}
 use Rattle.vpf_tiling_laws.proofs.tiled.FollowLemmas.{home_at, following_is_next, library_links}
-use Rattle.vpf_follow.specs.TileLaws.{options-same, same-options}
-use Rattle.vpf_follow.specs.FollowLaws.{home_self, home_has}
-use Rattle.vpf_tiling.specs.PresenceLaws.{dart_is, edge_present, no_edge_zero, other-code, present_flip, present_has, sign-below, source_next}
-use Rattle.vpf_tiling.specs.RankLaws.{count_is, filter_one, numbered_many, rank-step, up-last, weight}
+use Rattle.vpf_follow.specs.Inner.TileLaws.{options-same, same-options}
+use Rattle.vpf_follow.specs.Inner.FollowLaws.{home_self, home_has}
+use Rattle.vpf_tiling.specs.Inner.PresenceLaws.{dart_is, edge_present, no_edge_zero, other-code, present_flip, present_has, sign-below, source_next}
+use Rattle.vpf_tiling.specs.Inner.RankLaws.{count_is, filter_one, numbered_many, rank-step, up-last, weight}
 
 -- the number at a place of those that pass: it passes, and its rank is the place
 pub record AtPlace (p : ℕ → Bool) (n k x : ℕ) : Type 0 where

@@ -13,14 +13,14 @@ use Rattle.vpf_tiling.specs.Presence.{untiled_links, coverage_map, next_of, home
 use Rattle.vpf_tiling.specs.Tiles.{tiled_edge, tiled_primitives, tiled_library, is_made}
 use Rattle.vpf_tiling_laws.specs.Tiled.Names.{dart_behind, is_name, named_map}
 use Rattle.vpf_tiling.specs.Plans.{IsTileable}
-use Rattle.vpf_tiling_laws.specs.Tiled.Laws.{MapIsNamed}
-use Rattle.vpf_wing.specs.DartLaws.{never_both, IsThere, has-there}
+use Rattle.vpf_tiling_laws.specs.Inner.Tiled.Laws.{MapIsNamed}
+use Rattle.vpf_wing.specs.Inner.DartLaws.{never_both, IsThere, has-there}
 use Rattle.vpf_tiling_laws.proofs.tiled.CopyLemmas.{edges_are}
 use Rattle.vpf_tiling_laws.proofs.tiled.FollowLemmas.{home_at, following_is_next, library_links, copy_flip}
 use Rattle.vpf_tiling_laws.proofs.tiled.NameLemmas.{IsCopyOf, copy_by_number, library_copy, home_is_name}
-use Rattle.vpf_follow.specs.FollowLaws.{home_has}
-use Rattle.vpf_tiling.specs.PresenceLaws.{present_flip, present_has}
-use Rattle.vpf_tiling.specs.RankLaws.{numbered_many}
+use Rattle.vpf_follow.specs.Inner.FollowLaws.{home_has}
+use Rattle.vpf_tiling.specs.Inner.PresenceLaws.{present_flip, present_has}
+use Rattle.vpf_tiling.specs.Inner.RankLaws.{numbered_many}
 
 -- the parts of being a name
 pub record NameIs (c : Primitives) (plan : ℕ → ℕ) (x : ℕ) : Type 0 where

@@ -2,7 +2,7 @@
 use Rattle.std.proofs.Common.{◌≡◌, ◌≢◌, ℕ, zero, suc, ◌≤◌, Bool, true, false, not, eqb, ◌&&◌, refl, sym, ap, ◌∙◌, subst, inl, inr, Some, List, [], ◌∷◌, length, map}
 use Rattle.std.proofs.lemmas.Bool.{cases_Bool, cases_eq, and_parts, and_from, or_cases, or_left, or_right, eqb-true, eq-eqb, ne_eqb}
 use Rattle.vpf_darts.specs.Darts.{code, tile_in, edge_in, sign_in, flip}
-use Rattle.vpf_darts.specs.Laws.{ComesRoundTo}
+use Rattle.vpf_darts.specs.Inner.Laws.{ComesRoundTo}
 use Rattle.vpf_darts.specs.Maps.{is_of, is_of_any}
 use Rattle.vpf_tiling.specs.Ranks.{up_to}
 use Rattle.vpf_prims.specs.Primitives.{Primitives, untiled, edge_count}
@@ -12,12 +12,12 @@ use Rattle.vpf_tiling.specs.Tiles.{tiled_face}
 use Rattle.vpf_wing.specs.WellFormed.{IsWellFormed}
 use Rattle.vpf_tiling.specs.Plans.{IsTileable}
 use Rattle.vpf_tiling_laws.proofs.tiled.Parts.{HasLinks, TileNextIsLocal}
-use Rattle.vpf_wing.specs.DartLaws.{never_both, stands_in, IsThere, has-there, flip-flip, flip-has}
+use Rattle.vpf_wing.specs.Inner.DartLaws.{never_both, stands_in, IsThere, has-there, flip-flip, flip-has}
 use Rattle.vpf_tiling_laws.proofs.tiled.Facts.{MapLaws}
 use Rattle.vpf_tiling_laws.proofs.tiled.CopyLemmas.{CopyAt, copy_at, copies_have_links}
 use Rattle.vpf_tiling_laws.proofs.tiled.SideLemmas.{Within, within_is, within_from, rank_apart, node_apart, same_plus, above}
 use Rattle.vpf_tiling_laws.proofs.tiled.FollowLemmas.{present_stays, next_is_first, copy_flip, plus_of, only_of, library_links, reference_id, tail_at}
-use Rattle.vpf_tiling.specs.PresenceLaws.{InFaces, dart_is, face_next, holds_from, in_faces, in_zero, of_any_from, plus_or, present_flip, present_has, sign-below, source_next, stands_filter, tail_next, up_stands}
+use Rattle.vpf_tiling.specs.Inner.PresenceLaws.{InFaces, dart_is, face_next, holds_from, in_faces, in_zero, of_any_from, plus_or, present_flip, present_has, sign-below, source_next, stands_filter, tail_next, up_stands}
 
 pub stands_map : (f : ℕ → ℕ) (x : ℕ) (xs : List ℕ) → stands_in x xs ≡ true → stands_in (f x) (map f xs) ≡ true
 stands_map f x [] s = absurd (never_both false s refl)

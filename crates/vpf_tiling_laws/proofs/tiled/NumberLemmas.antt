@@ -6,9 +6,9 @@ use Rattle.vpf_prims.specs.Primitives.{Primitives, untiled, absent_edge}
 use Rattle.vpf_tiling.specs.Presence.{untiled_links, is_within, has_edge}
 use Rattle.vpf_tiling.specs.Tiles.{tiled_edge}
 use Rattle.vpf_tiling_laws.proofs.tiled.Parts.{EdgesByNumber}
-use Rattle.vpf_wing.specs.DartLaws.{never_both, IsThere, has-there, flip-edge}
-use Rattle.vpf_tiling.specs.PresenceLaws.{no_edge_zero}
-use Rattle.vpf_tiling.specs.RankLaws.{row_of_number}
+use Rattle.vpf_wing.specs.Inner.DartLaws.{never_both, IsThere, has-there, flip-edge}
+use Rattle.vpf_tiling.specs.Inner.PresenceLaws.{no_edge_zero}
+use Rattle.vpf_tiling.specs.Inner.RankLaws.{row_of_number}
 
 pub edges_by_number : EdgesByNumber
 edges_by_number c plan t e h le =

@@ -4,7 +4,7 @@ use Rattle.std.specs.Prelude.{filter, flat_map}
 use Rattle.std.specs.List.{AllByRecursion}
 use Rattle.std.proofs.lemmas.Bool.{not-true, cases_Bool, cases_order, and_parts, and_from, or_left, or_right, eq-eqb}
 use Rattle.vpf_darts.specs.Darts.{code, edge_in, flip}
-use Rattle.vpf_darts.specs.Laws.{RemovalLeavesAMap, DartLiesOnCycle}
+use Rattle.vpf_darts.specs.Inner.Laws.{RemovalLeavesAMap, DartLiesOnCycle}
 use Rattle.vpf_darts.specs.Maps.{DartMap, IsMap, is_of, is_of_any, without, without_edge}
 use Rattle.vpf_prims.specs.Lists.{kth}
 use Rattle.vpf_tiling.specs.Ranks.{up_to, is_least, leasts}
@@ -18,8 +18,9 @@ use Rattle.vpf_prims.specs.Numbering.{IsRowOf}
 use Rattle.vpf_wing.specs.WellFormed.{IsWellFormed, GoesRound}
 use Rattle.vpf_tiling.specs.Plans.{IsTileable}
 use Rattle.vpf_tiling_laws.proofs.tiled.Parts.{HasLinks, OfTiled, RingsOnce}
-use Rattle.vpf_wing.specs.DartLaws.{never_both, stands_in, code-edge, darts-stand, flip-flip, dart_bound, darts-below}
-use Rattle.vpf_tiling_laws.proofs.tiled.Facts.{all_join, MapLaws, AmongRow, among}
+use Rattle.vpf_wing.specs.Inner.DartLaws.{never_both, stands_in, code-edge, darts-stand, flip-flip, dart_bound, darts-below}
+use Rattle.vpf_tiling_laws.proofs.tiled.Facts.{MapLaws, AmongRow, among}
+use Rattle.vpf_base.proofs.Lists.{all_joined as all_join}
 use Rattle.vpf_tiling_laws.proofs.tiled.CopyLemmas.{CopyAt, copy_at, copies_have_links}
 use Rattle.vpf_tiling_laws.proofs.tiled.SideLemmas.{Within, within_is, rank_apart, same_plus, above}
 use Rattle.vpf_tiling_laws.proofs.tiled.FollowLemmas.{present_stays, library_links}
@@ -32,8 +33,8 @@ use Rattle.vpf_tiling_laws.proofs.tiled.ReferenceLemmas.{rings_many}
 use Rattle.vpf_tiling_laws.proofs.tiled.TableLemmas.{HeldFace, held_is, no_one, ring_at}
 use Rattle.vpf_tiling_laws.proofs.tiled.WalkLemmas.{every_map, leads_join, comes_back, goes_back, least_one, Pairs, pairs_get, pairs_join, cross_all, pairs_passing}
 use Rattle.vpf_tiling_laws.proofs.tiled.InnerLemmas.{StartOf, Apart, Keeps, keeps_next, apart_faces, inner_apart}
-use Rattle.vpf_tiling.specs.PresenceLaws.{dart_is, edge_present, plus_or, present_has, stands_filter}
-use Rattle.vpf_tiling.specs.RankLaws.{up-last}
+use Rattle.vpf_tiling.specs.Inner.PresenceLaws.{dart_is, edge_present, plus_or, present_has, stands_filter}
+use Rattle.vpf_tiling.specs.Inner.RankLaws.{up-last}
 
 -- the map of a tile without its absent edges: what is live
 pub without_live : (m : DartMap) (es : List ℕ) (d : ℕ) → (without m es).live d ≡ true → m.live d ≡ true

@@ -1,5 +1,5 @@
 -- Lists of rows and of rings: what is so of each, the first that passes, rows that climb.
-use Rattle.vpf_tiling_laws.proofs.tiled.Facts.{all_join}
+use Rattle.vpf_base.proofs.Lists.{all_joined as all_join}
 use Rattle.std.proofs.Common.{◌≡◌, ℕ, zero, suc, ◌+◌, ◌<◌, ◌≤◌, Bool, true, false, cond, eqb, ◌||◌, refl, sym, ap, ◌∙◌, inl, inr, arith, List, [], ◌∷◌, ◌++◌, length, get_or, map}
 use Rattle.std.specs.Prelude.{filter, flat_map}
 use Rattle.std.specs.List.{list_any, AllByRecursion}
@@ -7,7 +7,7 @@ use Rattle.std.proofs.lemmas.Bool.{cases_Bool, or_cases, or_left, or_right, eqb-
 use Rattle.vpf_prims.specs.Lists.{kth, first_from, first_item}
 use Rattle.vpf_tiling.specs.Ranks.{up_to, rank, numbered_from}
 use Rattle.vpf_prims.specs.Numbering.{IsRowOf}
-use Rattle.vpf_wing.specs.DartLaws.{never_both, stands_in}
+use Rattle.vpf_wing.specs.Inner.DartLaws.{never_both, stands_in}
 use Rattle.vpf_tiling_laws.proofs.tiled.NameLemmas.{AtPlace, at_place}
 
 pub all_get : {X : Type 0} → (P : X → Type 0) (xs : List X) (j : ℕ) (d : X) → AllByRecursion P xs → j < length xs → P (get_or xs j d)

@@ -11,15 +11,15 @@ use Rattle.vpf_tiling.specs.Tiles.{reference_to, tiled_wing, tiled_node, tiled_f
 use Rattle.vpf_prims.specs.Numbering.{IsRowOf, IsReference, IsFace, IsEdgeOf}
 use Rattle.vpf_tiling.specs.Plans.{IsTileable}
 use Rattle.vpf_tiling_laws.proofs.tiled.Facts.{MapLaws}
-use Rattle.vpf_wing.specs.DartLaws.{IsThere, has-there}
+use Rattle.vpf_wing.specs.Inner.DartLaws.{IsThere, has-there}
 use Rattle.vpf_tiling_laws.proofs.tiled.CopyLemmas.{made, tile_is, edges_are}
 use Rattle.vpf_tiling_laws.proofs.tiled.SideLemmas.{side, inside, outside, universe, present_home, node_there}
 use Rattle.vpf_tiling_laws.proofs.tiled.NameLemmas.{present_side}
 use Rattle.vpf_tiling_laws.proofs.tiled.NextLemmas.{tile_arrives}
 use Rattle.vpf_tiling_laws.proofs.tiled.RowLemmas.{item_numbered, rank_row, made_at, made_tables}
 use Rattle.vpf_tiling_laws.proofs.tiled.PlaceLemmas.{Passing, passing}
-use Rattle.vpf_tiling.specs.PresenceLaws.{Held, InFaces, edge_present, holds_held, in_faces, in_zero, no_edge_zero, no_node_zero, present_flip, present_has, source_next, tail_in_nodes, tail_next}
-use Rattle.vpf_tiling.specs.RankLaws.{numbered_many}
+use Rattle.vpf_tiling.specs.Inner.PresenceLaws.{Held, InFaces, edge_present, holds_held, in_faces, in_zero, no_edge_zero, no_node_zero, present_flip, present_has, source_next, tail_in_nodes, tail_next}
+use Rattle.vpf_tiling.specs.Inner.RankLaws.{numbered_many}
 
 -- a reference to a thing whose home is some tile
 pub refers : (L : Library) (count : ℕ → ℕ) (t s here there : ℕ) → L.is_tiled ≡ true → IsRowOf (count t) here → has_tables L s ≡ true → IsRowOf (count s) there

@@ -16,7 +16,7 @@ use Rattle.vpf_prims.specs.Numbering.{IsRowOf}
 use Rattle.vpf_wing.specs.WellFormed.{StartsRing, IsAtNode}
 use Rattle.vpf_tiling.specs.Plans.{IsTileable}
 use Rattle.vpf_tiling_laws.proofs.tiled.Parts.{HasLinks, OfTiled, RingsStart, RingsTogether, FirstRings, FirstEdges}
-use Rattle.vpf_wing.specs.DartLaws.{code-sign, code-edge}
+use Rattle.vpf_wing.specs.Inner.DartLaws.{code-sign, code-edge}
 use Rattle.std.proofs.lemmas.List.Elements.{filter-append}
 use Rattle.vpf_tiling_laws.proofs.tiled.CopyLemmas.{CopyAt, copy_at, copies_have_links}
 use Rattle.vpf_tiling_laws.proofs.tiled.FollowLemmas.{library_links, tail_at}
@@ -26,8 +26,8 @@ use Rattle.vpf_tiling_laws.proofs.tiled.RowLemmas.{item_numbered, made_from}
 use Rattle.vpf_tiling_laws.proofs.tiled.PlaceLemmas.{all_item, Passing, passing, FirstRow, first_numbered}
 use Rattle.vpf_tiling_laws.proofs.tiled.ReferenceLemmas.{faces_many, rings_many, rings_are, nodes_many}
 use Rattle.vpf_tiling_laws.proofs.tiled.TableLemmas.{RingDart, ring_darts, no_one, ring_at, face_at, node_at, names_node, start_is, end_is, node_named}
-use Rattle.vpf_tiling.specs.PresenceLaws.{no_edge_zero}
-use Rattle.vpf_tiling.specs.RankLaws.{filter_none, filter_one, numbered_many, rank-step, up-last, weight}
+use Rattle.vpf_tiling.specs.Inner.PresenceLaws.{no_edge_zero}
+use Rattle.vpf_tiling.specs.Inner.RankLaws.{filter_none, filter_one, numbered_many, rank-step, up-last, weight}
 
 -- a copy of a ring's dart starts the ring
 pub starts_at : (c : Primitives) (plan : ℕ → ℕ) (tiles : ℕ) → IsTileable c plan tiles → (t k : ℕ) → is_made c plan tiles t ≡ true

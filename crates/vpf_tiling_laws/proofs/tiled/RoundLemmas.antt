@@ -3,7 +3,7 @@ use Rattle.std.proofs.Common.{◌≡◌, ℕ, zero, suc, ◌≤◌, true, cond, 
 use Rattle.std.specs.Option.{unwrap_or}
 use Rattle.std.proofs.lemmas.Bool.{and_parts, and_from, or_cases, or_left}
 use Rattle.vpf_darts.specs.Darts.{flip}
-use Rattle.vpf_darts.specs.Laws.{ComesRoundTo}
+use Rattle.vpf_darts.specs.Inner.Laws.{ComesRoundTo}
 use Rattle.vpf_darts.specs.Maps.{DartMap, turn, is_of_any, without, without_edge}
 use Rattle.vpf_prims.specs.Primitives.{Primitives}
 use Rattle.vpf_wing.specs.Walks.{Steps, LeadsTo}
@@ -12,14 +12,14 @@ use Rattle.vpf_tiling.specs.Presence.{untiled_links, coverage_map, next_of, tail
 use Rattle.vpf_wing.specs.WellFormed.{IsDartOf}
 use Rattle.vpf_tiling.specs.Plans.{IsTileable}
 use Rattle.vpf_tiling_laws.proofs.tiled.Parts.{HasLinks, OfTiled, OneNode, SidesMeet}
-use Rattle.vpf_wing.specs.DartLaws.{never_both}
+use Rattle.vpf_wing.specs.Inner.DartLaws.{never_both}
 use Rattle.vpf_tiling_laws.proofs.tiled.Facts.{MapLaws}
 use Rattle.vpf_tiling_laws.proofs.tiled.CopyLemmas.{copies_have_links}
 use Rattle.vpf_tiling_laws.proofs.tiled.SideLemmas.{node_apart}
 use Rattle.vpf_tiling_laws.proofs.tiled.FollowLemmas.{tile_next, present_stays, next_is_first, copy_flip, library_links, tail_at}
 use Rattle.vpf_tiling_laws.proofs.tiled.NextLemmas.{face_id, sides_apart, tile_arrives, tile_next_is_local}
 use Rattle.vpf_tiling_laws.proofs.tiled.AcrossLemmas.{CopyHere, copy_here}
-use Rattle.vpf_tiling.specs.PresenceLaws.{face_next, in_zero, present_flip, present_has, source_next}
+use Rattle.vpf_tiling.specs.Inner.PresenceLaws.{face_next, in_zero, present_flip, present_has, source_next}
 
 pub without_flip : (m : DartMap) (es : List ℕ) → (without m es).flip ≡ m.flip
 unfolding without_edge

@@ -1,36 +1,34 @@
 -- The tables of a tiled library row by row, and what its tiles carry.
 use Rattle.std.proofs.lemmas.List.FromFn.{length-range_with_len}
-use Rattle.std.proofs.Common.{◌≡◌, ℕ, zero, suc, ◌+◌, ◌^◌, ◌<◌, ◌≤◌, Bool, true, false, not, cond, eqb, leb, ◌||◌, ◌&&◌, refl, sym, ap, ◌∙◌, subst, inl, inr, arith, Option, Some, None, List, [], ◌∷◌, length, get_or}
+use Rattle.std.proofs.Common.{[], ◌≡◌, ℕ, zero, suc, ◌+◌, ◌^◌, ◌<◌, ◌≤◌, Bool, true, false, not, cond, eqb, leb, ◌||◌, ◌&&◌, refl, sym, ap, ◌∙◌, subst, inl, inr, arith, Option, Some, None, List, ◌∷◌, length, get_or}
 use Rattle.std.specs.Prelude.{filter}
 use Rattle.std.specs.List.{list_any}
 use Rattle.std.specs.Option.{unwrap_or, option_map}
-use Rattle.std.proofs.lemmas.Bool.{cases_Bool, cases_eq, and_parts, and_from, eqb-true, leb-true, le-leb}
-use Rattle.vpf_triplet.specs.declared.triplets.Triplet.{Triplet}
-use Rattle.vpf_darts.specs.Darts.{tile_in, edge_in, flip}
+use Rattle.std.proofs.lemmas.Bool.{cases_Bool, cases_eq, and_parts, and_from, leb-true, le-leb}
+use Rattle.vpf_darts.specs.Darts.{tile_in, flip}
 use Rattle.vpf_prims.specs.Lists.{kth}
 use Rattle.vpf_tiling.specs.Ranks.{rank, up_to, numbered_from, numbered}
-use Rattle.vpf_prims.specs.Primitives.{Primitives, Library, EdgePrimitive, EntityPrimitive, untiled, absent_edge, absent_face, absent_entity, absent_node, edges_in, faces_in, nodes_in, entities_in, tile_edges, tile_faces, tile_entities, edge_count, node_count, has_tables, is_there}
+use Rattle.vpf_prims.specs.Primitives.{Primitives, Library, EntityPrimitive, absent_face, absent_entity, absent_node, edges_in, faces_in, nodes_in, entities_in, tile_faces, tile_entities, edge_count, has_tables, is_there}
 use Rattle.vpf_prims.specs.References.{id_of}
-use Rattle.vpf_wing.specs.Links.{link_of, node_by, is_minus}
 use Rattle.vpf_tiling.specs.Presence.{untiled_links, next_of, tail_of, head_of, home, is_present, has_node, present_edges, held_faces, held_entities, local_node, copy_in}
 use Rattle.vpf_tiling.specs.Tiles.{tiled_edge, tiled_edges, numbered_node, numbered_entity, tiled_primitives, tiled_library, is_made}
 use Rattle.vpf_trace.specs.Agreeing.{AreInhabited}
 use Rattle.vpf_findings.specs.Firsts.{unless}
-use Rattle.vpf_findings.specs.FirstLaws.{over_none}
+use Rattle.vpf_findings.specs.Inner.FirstLaws.{over_none}
 use Rattle.vpf_trace.specs.CarriedLines.{first_passing, first_tile, node_carried}
-use Rattle.vpf_prims.specs.Numbering.{IsRowOf, IsReference, IsEdgeOf}
+use Rattle.vpf_prims.specs.Numbering.{IsRowOf}
 use Rattle.vpf_prims.specs.Libraries.{IsLibrary}
-use Rattle.vpf_wing.specs.WellFormed.{IsWellFormed}
 use Rattle.vpf_tiling.specs.Plans.{IsTileable}
 use Rattle.vpf_tiling_laws.proofs.tiled.Parts.{HasLinks, OfTiled, NodeCarried, UniverseCarried, TiledAcross}
-use Rattle.vpf_wing.specs.DartLaws.{never_both, none_is_some, same_some, some-or-none, IsThere, has-there, flip-has}
+use Rattle.vpf_wing.specs.Inner.DartLaws.{never_both, none_is_some, same_some, some-or-none}
 use Rattle.vpf_tiling_laws.proofs.tiled.Facts.{MapLaws}
 use Rattle.vpf_tiling_laws.proofs.tiled.CopyLemmas.{copy_at, copies_have_links, made, tile_is, edges_are}
 use Rattle.vpf_tiling_laws.proofs.tiled.SideLemmas.{present_home, node_there, above}
 use Rattle.vpf_tiling_laws.proofs.tiled.FollowLemmas.{library_links, reference_id, link_here, link_there}
 use Rattle.vpf_tiling_laws.proofs.tiled.AcrossLemmas.{at_each, one_inside, inside_plain, outside_part, same_part, follows, follow_apart, home_flip, home_sign, home_mark, home_carried, goes_on, tiled_loops}
-use Rattle.vpf_tiling.specs.PresenceLaws.{InNodes, Passes, any_at, held, in_zero, no_node_zero, present_flip, present_has, source_next, tail_in_nodes, tail_next}
-use Rattle.vpf_tiling.specs.RankLaws.{count_is, numbered_many, rank_rises, row_of_number}
+use Rattle.vpf_tiling.specs.Inner.PresenceLaws.{InNodes, held, no_node_zero, present_flip, present_has, source_next, tail_in_nodes, tail_next}
+use Rattle.vpf_tiling.specs.Inner.RankLaws.{count_is, numbered_many, rank_rises, row_of_number}
+use Rattle.vpf_trace.specs.CarriedLaws.{passing_is}
 
 pub numbered_at : {X R : Type 0} → (row : ℕ → X → R) (k : ℕ) (xs : List X) (j : ℕ) (d : R) (x : X) → j < length xs
     → get_or (numbered_from k row xs) j d ≡ row (j + k) (get_or xs j x)
@@ -110,13 +108,6 @@ universe_row c plan tiles t m = ap (λ o. (kth (faces_in o) 1 absent_face).carri
 pub first_made : (c : Primitives) (plan : ℕ → ℕ) (tiles : ℕ) → 1 ≤ tiles → is_made c plan tiles 1 ≡ true
 first_made c plan tiles h =
     and_from (leb 1 1 && leb 1 tiles) (eqb 1 1 || list_any (λ f. true) (held_faces c plan 1)) (and_from (leb 1 1) (leb 1 tiles) refl (le-leb 1 tiles h)) refl
-
-passing_is : (p : ℕ → Bool) (k n s : ℕ) → first_passing p k n ≡ Some s → p s ≡ true
-passing_is p k zero s e = absurd (none_is_some s e)
-passing_is p k (suc n) s e = elim (cases_Bool (p k)) [
-  | inl t ↦ (let e' = rw t at e in ap p (sym (same_some k s e')) ∙ t)
-  | inr f ↦ (let e' = rw f at e in passing_is p (suc k) n s e')
-]
 
 pub first_tables : (c : Primitives) (plan : ℕ → ℕ) (tiles : ℕ) → 1 ≤ tiles
     → has_tables (tiled_library c plan tiles) (first_tile (tiled_library c plan tiles)) ≡ true

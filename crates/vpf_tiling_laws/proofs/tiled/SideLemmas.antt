@@ -15,9 +15,9 @@ use Rattle.vpf_tiling.specs.Tiles.{tiled_face}
 use Rattle.vpf_prims.specs.Numbering.{IsFace, IsEdgeOf}
 use Rattle.vpf_wing.specs.WellFormed.{IsWellFormed}
 use Rattle.vpf_tiling.specs.Plans.{IsTileable}
-use Rattle.vpf_wing.specs.DartLaws.{never_both, IsThere, has-there, darts-stand, flip-flip, flip-has}
-use Rattle.vpf_tiling.specs.PresenceLaws.{InFaces, NextIs, any_from, holds_from, in_faces, in_zero, next_is, present_has}
-use Rattle.vpf_tiling.specs.RankLaws.{rank_rises}
+use Rattle.vpf_wing.specs.Inner.DartLaws.{never_both, IsThere, has-there, darts-stand, flip-flip, flip-has}
+use Rattle.vpf_tiling.specs.Inner.PresenceLaws.{InFaces, NextIs, any_from, holds_from, in_faces, in_zero, next_is, present_has}
+use Rattle.vpf_tiling.specs.Inner.RankLaws.{rank_rises}
 
 pub within_from : (c : Primitives) (plan : ℕ → ℕ) → IsWellFormed c → (t d : ℕ) → (untiled_links c).has d ≡ true → face_of c d ≢ 1 → plan (face_of c d) ≡ t
     → is_within c plan t d ≡ true

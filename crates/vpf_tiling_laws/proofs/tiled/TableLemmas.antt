@@ -14,8 +14,9 @@ use Rattle.vpf_prims.specs.Numbering.{IsRowOf, IsFaceOf, IsRingOf, IsNodeOf, IsE
 use Rattle.vpf_wing.specs.WellFormed.{IsWellFormed, StartsRing}
 use Rattle.vpf_tiling.specs.Plans.{IsTileable}
 use Rattle.vpf_tiling_laws.proofs.tiled.Parts.{OfTiled, AllNumbered}
-use Rattle.vpf_tiling_laws.proofs.tiled.Facts.{all_join, MapLaws}
-use Rattle.vpf_wing.specs.DartLaws.{stands_in, flip-flip}
+use Rattle.vpf_tiling_laws.proofs.tiled.Facts.{MapLaws}
+use Rattle.vpf_base.proofs.Lists.{all_joined as all_join}
+use Rattle.vpf_wing.specs.Inner.DartLaws.{stands_in, flip-flip}
 use Rattle.vpf_tiling_laws.proofs.tiled.NumberLemmas.{edges_by_number}
 use Rattle.vpf_tiling_laws.proofs.tiled.CopyLemmas.{tile_is, edges_are}
 use Rattle.vpf_tiling_laws.proofs.tiled.SideLemmas.{within_is, Within}
@@ -24,7 +25,7 @@ use Rattle.vpf_tiling_laws.proofs.tiled.RowLemmas.{item_numbered, made_at, made_
 use Rattle.vpf_tiling_laws.proofs.tiled.RoundLemmas.{within_present}
 use Rattle.vpf_tiling_laws.proofs.tiled.PlaceLemmas.{all_item, all_from, all_of, all_flat, all_passing, stands_passing, Passing, passing, first_last, first_some, some_first, FirstRow, first_row, any_right, any_flat, any_passing, any_item}
 use Rattle.vpf_tiling_laws.proofs.tiled.ReferenceLemmas.{nodes_many, faces_many, rings_are, rings_many, edge_to, edge_row_in, FaceHere, face_here, universe_in, edges_numbered}
-use Rattle.vpf_tiling.specs.PresenceLaws.{AtNode, InFaces, at_node, dart_is, edge_present, in_faces, no_node_zero, other-code, plus_or, present_has, stands_filter, up_stands}
+use Rattle.vpf_tiling.specs.Inner.PresenceLaws.{AtNode, InFaces, at_node, dart_is, edge_present, in_faces, no_node_zero, other-code, plus_or, present_has, stands_filter, up_stands}
 
 -- what a ring of a tile goes round: the cycle of a present dart, which has its edge and its face
 pub record RingDart (c : Primitives) (plan : ℕ → ℕ) (t : ℕ) (r : Ring) : Type 0 where

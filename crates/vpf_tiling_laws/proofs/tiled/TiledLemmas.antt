@@ -4,7 +4,7 @@ use Rattle.std.specs.Prelude.{filter, flat_map}
 use Rattle.std.specs.List.{list_any}
 use Rattle.std.proofs.lemmas.Bool.{cases_Bool, and_parts, and_from, or_cases, or_left, or_right, eqb-true, eq-eqb}
 use Rattle.vpf_darts.specs.Darts.{edge_in}
-use Rattle.vpf_darts.specs.Laws.{RemovalLeavesAMap, DartLiesOnCycle}
+use Rattle.vpf_darts.specs.Inner.Laws.{RemovalLeavesAMap, DartLiesOnCycle}
 use Rattle.vpf_prims.specs.Lists.{kth, first_item}
 use Rattle.vpf_tiling.specs.Ranks.{up_to, is_least, leasts}
 use Rattle.vpf_prims.specs.Primitives.{Primitives, RingPrimitive, untiled, absent_ring, ring_count}
@@ -16,9 +16,9 @@ use Rattle.vpf_tiling.specs.Tiles.{Ring, outer_darts, outer_rings, face_rings, t
 use Rattle.vpf_prims.specs.Numbering.{IsRowOf}
 use Rattle.vpf_wing.specs.WellFormed.{GoesRound}
 use Rattle.vpf_tiling.specs.Plans.{IsTileable}
-use Rattle.vpf_tiling_laws.specs.Tiled.Laws.{TiledAgrees}
+use Rattle.vpf_tiling_laws.specs.Inner.Tiled.Laws.{TiledAgrees}
 use Rattle.vpf_tiling_laws.proofs.tiled.Parts.{OfTiled, CyclesRinged, TiledCycles}
-use Rattle.vpf_wing.specs.DartLaws.{never_both, stands_in}
+use Rattle.vpf_wing.specs.Inner.DartLaws.{never_both, stands_in}
 use Rattle.vpf_tiling_laws.proofs.tiled.Facts.{MapLaws}
 use Rattle.vpf_tiling_laws.proofs.tiled.NextLemmas.{id_within, id_not, face_id}
 use Rattle.vpf_tiling_laws.proofs.tiled.AcrossLemmas.{CopyHere, copy_here, has_nexts, nexts_apart, tiled_loops}
@@ -31,7 +31,7 @@ use Rattle.vpf_tiling_laws.proofs.tiled.RingLemmas.{starts_at, rings_start, ring
 use Rattle.vpf_tiling_laws.proofs.tiled.WalkLemmas.{steps_keep, least_on, least_is}
 use Rattle.vpf_tiling_laws.proofs.tiled.InnerLemmas.{face_ring}
 use Rattle.vpf_tiling_laws.proofs.tiled.OnceLemmas.{Outer, outer_next, outer_stands, steps_ahead, rings_once}
-use Rattle.vpf_tiling.specs.PresenceLaws.{face_next, in_zero, present_has, source_next, stands_filter, up_stands}
+use Rattle.vpf_tiling.specs.Inner.PresenceLaws.{face_next, in_zero, present_has, source_next, stands_filter, up_stands}
 
 pub any_both : {X Y : Type 0} → (q : Y → Bool) (g : X → Y) (p r : X → Bool) (xs : List X) → ((x : X) → r x ≡ true → p x ≡ true)
     → ((x : X) → r x ≡ true → q (g x) ≡ true) → list_any r xs ≡ true → list_any q (map g (filter p xs)) ≡ true

@@ -1,7 +1,7 @@
 //! What is so of every coverage that may be tiled, and of every plan.
 
-ghost use Rattle.vpf_tiling_laws.specs.Gluing.Gluing.{GluingGivesRenumbered, WholeIsNamed};
-ghost use Rattle.vpf_tiling_laws.specs.Gluing.Renumbering.{EdgesAreMoved, EdgesStayApart, FacesAreMoved, FacesStayApart, NodesAreMoved, NodesStayApart};
+ghost use Rattle.vpf_tiling_laws.specs.Inner.Gluing.Gluing.{GluingGivesRenumbered, WholeIsNamed};
+ghost use Rattle.vpf_tiling_laws.specs.Inner.Gluing.Renumbering.{EdgesAreMoved, EdgesStayApart, FacesAreMoved, FacesStayApart, NodesAreMoved, NodesStayApart};
 
 use crate::tiled::laws::map_is_named;
 

@@ -1,9 +1,9 @@
 //! What is so of every coverage that may be tiled, and of every plan.
 
-ghost use Rattle.vpf_tiling_laws.specs.Tiled.Example.{IsTiled, IsTraced, coverage, plan};
+ghost use Rattle.vpf_tiling_laws.specs.Inner.Tiled.Example.{IsTiled, IsTraced, coverage, plan};
 ghost use Rattle.vpf_tiling.specs.Plans.{IsTileable};
-ghost use Rattle.vpf_tiling_laws.specs.Tiled.Laws.{CyclesAreNamed, FollowingIsNext, HomeIsName};
-ghost use Rattle.vpf_tiling_laws.specs.Tiled.Laws.{ListingIsNamed, MapIsNamed, TiledAgrees, TileNextIsFirstPresent};
+ghost use Rattle.vpf_tiling_laws.specs.Inner.Tiled.Laws.{CyclesAreNamed, FollowingIsNext, HomeIsName};
+ghost use Rattle.vpf_tiling_laws.specs.Inner.Tiled.Laws.{ListingIsNamed, MapIsNamed, TiledAgrees, TileNextIsFirstPresent};
 
 use vpf_darts::laws::{
     darts_lie_on_cycles, first_kept_dart, removal_leaves_a_map, renaming_keeps_cycles,

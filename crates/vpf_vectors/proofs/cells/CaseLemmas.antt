@@ -1,7 +1,7 @@
 -- The next dart of a grid permutes its darts: by cases.
 use Rattle.std.proofs.Common.{◌≡◌, ℕ, ◌≤◌, true, arith}
 use Rattle.std.proofs.lemmas.Bool.Decides.{nat_tests}
-use Rattle.vpf_vectors.specs.Cells.Laws.{NextByCases}
+use Rattle.vpf_vectors.specs.Inner.Cells.Laws.{NextByCases}
 use Rattle.vpf_vectors.specs.Cells.Corners.{Way, East, North, West, South, has_arrow, next_arrow, next_from}
 use Rattle.vpf_vectors.proofs.cells.ArrowLemmas.{arrow}
 

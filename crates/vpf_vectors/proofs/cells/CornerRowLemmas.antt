@@ -8,7 +8,7 @@ use Rattle.vpf_vectors.specs.Cells.Corners.{Way, East, North, West, South, Arrow
 use Rattle.vpf_vectors.specs.Cells.Numbers.{east_edge, north_edge, arrow_number, number_from, arrow_in, node_of, face_at}
 use Rattle.vpf_vectors.specs.Cells.Maps.{next_in_grid}
 use Rattle.vpf_vectors.specs.Cells.Rows.{row_of_edge, after_east, after_west, after_north, after_south, divides_tiles}
-use Rattle.vpf_vectors.specs.Cells.Laws.{EastRows, NorthRows}
+use Rattle.vpf_vectors.specs.Inner.Cells.Laws.{EastRows, NorthRows}
 use Rattle.vpf_vectors.proofs.cells.ArrowLemmas.{arrow}
 use Rattle.vpf_vectors.proofs.cells.CaseLemmas.{cases_agree}
 use Rattle.vpf_vectors.proofs.cells.NumberLemmas.{arrow_of_number}

@@ -5,8 +5,8 @@ use Rattle.vpf_darts.specs.Darts.{flip}
 use Rattle.vpf_vectors.specs.Cells.Corners.{beside_x, beside_y}
 use Rattle.vpf_vectors.specs.Cells.Numbers.{nodes, arrow_in}
 use Rattle.vpf_vectors.specs.Cells.Maps.{has_dart, next_in_grid, tail_in, IsOneCycle, border_dart}
-use Rattle.vpf_vectors.specs.Cells.Laws.{NumbersNameArrows, ArrowsHaveNumbers, FlipIsBack, DartsAreInRange, NextsFit}
-use Rattle.vpf_vectors.specs.Cells.Laws.{FaceIsOneCycle, BorderIsOneCycle, RingsStartLeast, FirstEdgesAreLeast, IsLeastDart}
+use Rattle.vpf_vectors.specs.Inner.Cells.Laws.{NumbersNameArrows, ArrowsHaveNumbers, FlipIsBack, DartsAreInRange, NextsFit}
+use Rattle.vpf_vectors.specs.Inner.Cells.Laws.{FaceIsOneCycle, BorderIsOneCycle, RingsStartLeast, FirstEdgesAreLeast, IsLeastDart}
 use Rattle.vpf_vectors.proofs.cells.NumberLemmas.{number_has, arrow_of_number, arrow_has, number_of_arrow, flip_number}
 use Rattle.vpf_vectors.proofs.cells.FaceLemmas.{next-face, next-tail, head-flip, no_loop}
 use Rattle.vpf_vectors.proofs.cells.ArrowLemmas.{has_parts}

@@ -1,6 +1,5 @@
 -- The boundaries of the faces are the listing of the grid's map.
-use Rattle.std.proofs.Common.{◌≡◌, ◌≢◌, ℕ, zero, suc, ◌+◌, ◌<◌, ◌≤◌, true, false, ◌==◌, if◌then◌else◌, List}
-use Rattle.std.proofs.Common.{[], ◌∷◌, ◌++◌, map, refl, sym, ap, subst, ◌∙◌, inl, inr, arith}
+use Rattle.std.proofs.Common.{[], ◌≡◌, ◌≢◌, ℕ, zero, suc, ◌+◌, ◌<◌, ◌≤◌, true, false, ◌==◌, if◌then◌else◌, List, ◌∷◌, map, refl, sym, ap, subst, ◌∙◌, inl, inr, arith}
 use Rattle.std.specs.List.{range_with_len, concat, AllByRecursion}
 use Rattle.std.proofs.lemmas.Bool.{cases_Bool, cases_eq}
 use Rattle.std.proofs.lemmas.Bool.Decides.{nat_tests}
@@ -8,21 +7,18 @@ use Rattle.vpf_darts.specs.Darts.{code}
 use Rattle.vpf_darts.specs.Cycles.{count_of, first_of, IsCycle, BeginsWithLeast, FirstsRise}
 use Rattle.vpf_vectors.specs.Cells.Maps.{has_dart, next_in_grid, face_in, IsOneCycle}
 use Rattle.vpf_vectors.specs.Cells.Rows.{start_dart, face_darts}
-use Rattle.vpf_vectors.specs.Cells.Laws.{FacesAreListed}
+use Rattle.vpf_vectors.specs.Inner.Cells.Laws.{FacesAreListed}
 use Rattle.vpf_vectors.proofs.cells.CellLemmas.{bounds, bounds_from, bounds_parts}
 use Rattle.vpf_vectors.proofs.cells.PlaceLemmas.{face_in_range}
 use Rattle.vpf_vectors.proofs.cells.RingLemmas.{face_has_cycle}
 use Rattle.vpf_vectors.specs.Cells.Numbers.{faces, arrow_in}
 use Rattle.vpf_vectors.specs.Cells.Corners.{beside_x, beside_y}
+use Rattle.vpf_darts.specs.Inner.CycleLaws.{count_of-append}
 
 -- what holds of each holds of all
 all_mapped : (P : List ℕ → Type 0) (f : ℕ → List ℕ) (a k : ℕ) → ((j : ℕ) → a ≤ j → j < a + k → P (f j)) → AllByRecursion P (map f (range_with_len a k))
 all_mapped P f a zero h = tt
 all_mapped P f a (suc k) h = (h a (omega arith) (omega arith), all_mapped P f (a + 1) k (λ j low high. h j (omega arith) (omega arith)))
-
-count_of-append : (d : ℕ) (xs ys : List ℕ) → count_of d (xs ++ ys) ≡ count_of d xs + count_of d ys
-count_of-append d [] ys = omega arith
-count_of-append d (x ∷ xs) ys = omega (arith, count_of-append d xs ys)
 
 -- a dart that stands in none of the lists, and one that stands in one of them
 none_of : (d : ℕ) (f : ℕ → List ℕ) (a k : ℕ) → ((j : ℕ) → a ≤ j → j < a + k → count_of d (f j) ≡ 0) → count_of d (concat (map f (range_with_len a k))) ≡ 0

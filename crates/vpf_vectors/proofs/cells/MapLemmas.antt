@@ -52,7 +52,7 @@ flip_among e d h =
 pub flip_has : (n d : ℕ) → has_dart n d ≡ true → has_dart n (flip d) ≡ true
 flip_has n d h = flip_among (edges n) d h
 
-flip_flip : (d : ℕ) → flip (flip d) ≡ d
+pub flip_flip : (d : ℕ) → flip (flip d) ≡ d
 unfolding flip
 flip_flip d = omega arith
 

@@ -6,7 +6,7 @@ use Rattle.std.proofs.lemmas.Nat.{mul-add-lt, div-add-mod', div_below, mod_below
 use Rattle.vpf_vectors.specs.declared.cells.rows.EdgeRow.{EdgeRow}
 use Rattle.vpf_vectors.specs.Cells.Numbers.{face_at, cell_x, cell_y}
 use Rattle.vpf_vectors.specs.Cells.Rows.{cell_tile, tile_of, divides_tiles}
-use Rattle.vpf_vectors.specs.Cells.Laws.{FacesHaveTiles, TilesHaveFaces, EastLines, NorthLines}
+use Rattle.vpf_vectors.specs.Inner.Cells.Laws.{FacesHaveTiles, TilesHaveFaces, EastLines, NorthLines}
 use Rattle.vpf_vectors.proofs.cells.FaceLemmas.{face-outside}
 use Rattle.vpf_vectors.proofs.cells.PlaceLemmas.{cell_of, cell_given}
 use Rattle.vpf_vectors.proofs.cells.CornerRowLemmas.{east_rows, north_rows}

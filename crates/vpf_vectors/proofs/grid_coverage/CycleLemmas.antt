@@ -1,6 +1,5 @@
 -- The cycles of the grid, its rings and its first edges.
-use Rattle.std.proofs.Common.{◌≡◌, ◌≢◌, ◌⊎◌, ℕ, ◌/◌, ◌^◌, ◌<◌, ◌≤◌, Bool, true, false, ◌&&◌}
-use Rattle.std.proofs.Common.{◌==◌, List, Some, if◌then◌else◌, refl, sym, ap, subst, ◌∙◌, inl, inr, arith}
+use Rattle.std.proofs.Common.{◌≡◌, ◌≢◌, ◌⊎◌, ℕ, ◌/◌, ◌^◌, ◌<◌, ◌≤◌, Bool, true, false, ◌&&◌, ◌==◌, List, Some, if◌then◌else◌, refl, sym, ap, subst, ◌∙◌, inl, inr, arith}
 use Rattle.std.proofs.lemmas.Bool.{cases_Bool}
 use Rattle.std.proofs.lemmas.Bool.Decides.{nat_tests}
 use Rattle.vpf_darts.specs.Cycles.{count_of}
@@ -16,11 +15,12 @@ use Rattle.vpf_wing.specs.WellFormed.{StartsRing, GoesRound, IsAtNode, HasCycles
 use Rattle.vpf_vectors.specs.Cells.Numbers.{nodes, edges, faces, node_of, node_x, node_y}
 use Rattle.vpf_vectors.specs.Cells.Maps.{has_dart, next_in_grid, grid_map, tail_in, face_in, IsOneCycle}
 use Rattle.vpf_vectors.specs.Cells.Rows.{first_edge, start_dart}
-use Rattle.vpf_vectors.specs.GridCoverage.Coverage.{grid_ring, grid_library, grid_links}
+use Rattle.vpf_vectors.specs.Inner.GridCoverage.Coverage.{grid_ring, grid_library, grid_links}
 use Rattle.vpf_vectors.proofs.grid_coverage.GridFacts.{GridFacts}
 use Rattle.vpf_vectors.proofs.grid_coverage.WalkLemmas.{cycle_leads, kept_on}
 use Rattle.vpf_vectors.proofs.grid_coverage.RowLemmas.{first_row}
-use Rattle.vpf_vectors.proofs.grid_coverage.DartLemmas.{plus_dart, minus_dart, there_only, is_dart, edge-is, tail-is, face-is, flip_there}
+use Rattle.vpf_vectors.proofs.grid_coverage.DartLemmas.{is_dart, tail-is}
+use Rattle.vpf_vectors.specs.Inner.GridCoverage.DartLaws.{plus_dart, minus_dart, there_only, edge-is, face-is, flip_there}
 use Rattle.vpf_vectors.proofs.grid_coverage.NextLemmas.{next-is, map-is}
 use Rattle.vpf_vectors.proofs.grid_coverage.NumberLemmas.{count_faces, count_rings, count_nodes, face-at, ring-at, node-at, counted}
 

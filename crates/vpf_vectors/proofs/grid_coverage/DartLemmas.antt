@@ -1,65 +1,21 @@
 -- What the rows of the grid say of each dart: its tile and its edge, its nodes, its face and its wing.
-use Rattle.std.proofs.Common.{◌≡◌, ◌≢◌, ℕ, ◌+◌, ◌-◌, ◌*◌, ◌/◌, ◌%◌, ◌^◌, ◌<◌, ◌≤◌, Bool, true, false, ◌&&◌, nat_le, sym, ap, subst, ◌∙◌, inl, inr, arith}
+use Rattle.std.proofs.Common.{◌≡◌, ℕ, ◌-◌, ◌/◌, ◌%◌, ◌^◌, ◌<◌, ◌≤◌, true, sym, ap, ◌∙◌, inl, inr, arith}
 use Rattle.std.proofs.lemmas.Bool.{cases_Bool}
 use Rattle.std.proofs.lemmas.Bool.Decides.{nat_tests}
-use Rattle.std.proofs.lemmas.Nat.{mul-le}
-use Rattle.std.proofs.lemmas.List.FromFn.{length-map-range_with_len}
-use Rattle.vpf_darts.specs.Darts.{code, tile_in, edge_in, sign_in, flip}
-use Rattle.vpf_darts.specs.MapLists.{is_among}
+use Rattle.vpf_darts.specs.Darts.{code, edge_in, sign_in, flip}
 use Rattle.vpf_prims.specs.References.{id_of}
-use Rattle.vpf_prims.specs.Lists.{kth}
-use Rattle.vpf_prims.specs.Primitives.{absent_edge, tile_edges, edge_count}
-use Rattle.vpf_wing.specs.Links.{edge_of_dart, wing_by, node_by, face_by, is_minus, tail_node}
+use Rattle.vpf_prims.specs.Primitives.{edge_count}
+use Rattle.vpf_wing.specs.Links.{wing_by, node_by, is_minus, tail_node}
 use Rattle.vpf_wing.specs.WellFormed.{IsDartOf}
 use Rattle.vpf_vectors.specs.Cells.Numbers.{edges}
-use Rattle.vpf_vectors.specs.Cells.Maps.{has_dart, next_in_grid, tail_in, head_in, face_in}
-use Rattle.vpf_vectors.specs.GridCoverage.Coverage.{grid_edge, grid_library, grid_links}
+use Rattle.vpf_vectors.specs.Cells.Maps.{has_dart, next_in_grid, tail_in, head_in}
+use Rattle.vpf_vectors.specs.Inner.GridCoverage.Coverage.{grid_edge, grid_library, grid_links}
 use Rattle.vpf_vectors.proofs.grid_coverage.GridFacts.{GridFacts}
-use Rattle.vpf_vectors.proofs.grid_coverage.RowLemmas.{kth_row}
-
--- the parts of a number that is no greater than those of an untiled coverage
-tile_zero : (d : ℕ) → d < 2 ^ 33 → tile_in d ≡ 0
-unfolding tile_in
-tile_zero d h = omega arith
-
-edge_half : (d : ℕ) → d < 2 ^ 33 → edge_in d ≡ d / 2
-unfolding edge_in
-edge_half d h = omega arith
-
-below_tile : (d : ℕ) → tile_in d ≡ 0 → d < 2 ^ 33
-unfolding tile_in
-below_tile d h = omega arith
-
--- the darts of m edges
-among_parts : (m d : ℕ) → is_among (2 * m) d ≡ true → (1 ≤ d / 2) × (d / 2 ≤ m)
-among_parts m d h = let b : (2 ≤ d) × (d < 2 * m + 2) = grind (arith, nat_tests) in (omega (arith, b), omega (arith, b))
-
-among_from : (m d : ℕ) → 1 ≤ d / 2 → d / 2 ≤ m → is_among (2 * m) d ≡ true
-among_from m d low high = let a : 2 ≤ d = omega arith in let b : d < 2 * m + 2 = omega arith in grind (arith, nat_tests)
-
-abbrev test : ℕ → ℕ → ℕ → Bool
-test m e t = nat_le 1 e && nat_le e m && nat_le t 0
-
-test_parts : (m e t : ℕ) → test m e t ≡ true → (1 ≤ e) × (e ≤ m) × (t ≡ 0)
-test_parts m e t h = grind (arith, nat_tests)
+use Rattle.vpf_vectors.specs.Inner.GridCoverage.DartLaws.{there_only, count_edges, test, edge_half, flip_there, among_parts, minus_dart, plus_dart, row-is, small_grid as small, tile_zero}
+use Rattle.vpf_vectors.proofs.cells.MapLemmas.{flip_flip}
 
 test_from : (m e : ℕ) → 1 ≤ e → e ≤ m → test m e 0 ≡ true
 test_from m e low high = grind (arith, nat_tests)
-
-pub count_edges : (n : ℕ) → edge_count (grid_library n) 0 ≡ edges n
-count_edges n = length-map-range_with_len (grid_edge n) 1 (edges n)
-
--- a grid of 200 cells a side has few edges
-pub few_edges : (n : ℕ) → n ≤ 200 → edges n < 2 ^ 24
-unfolding edges
-few_edges n most = let m : n * (n + 1) ≤ 200 * 201 = mul-le n (n + 1) 200 201 most (omega arith) in omega arith
-
-pub small_edges : (n : ℕ) → n ≤ 200 → edges n < 2 ^ 32
-small_edges n most = let few : edges n < 2 ^ 24 = few_edges n most in omega arith
-
--- a dart of the grid is below 2^33
-small : (n d : ℕ) → edges n < 2 ^ 32 → has_dart n d ≡ true → d < 2 ^ 33
-small n d few h = let b = among_parts (edges n) d h in omega (arith, b)
 
 pub there : (n d : ℕ) → edges n < 2 ^ 32 → has_dart n d ≡ true → (grid_links n).has d ≡ true
 there n d few h =
@@ -68,14 +24,6 @@ there n d few h =
     ap (λ t. test (edge_count (grid_library n) t) (edge_in d) t) (tile_zero d s) ∙ ap (λ m. test m (edge_in d) 0) (count_edges n)
     ∙ ap (λ e. test (edges n) e 0) (edge_half d s)
     ∙ test_from (edges n) (d / 2) b.0 b.1
-
-pub there_only : (n d : ℕ) → (grid_links n).has d ≡ true → has_dart n d ≡ true
-there_only n d h =
-    let p = test_parts (edge_count (grid_library n) (tile_in d)) (edge_in d) (tile_in d) h in
-    let s : d < 2 ^ 33 = below_tile d p.2 in
-    let e : edge_in d ≡ d / 2 = edge_half d s in
-    let m : edge_count (grid_library n) (tile_in d) ≡ edges n = ap (edge_count (grid_library n)) p.2 ∙ count_edges n in
-    among_from (edges n) d (subst (λ k. 1 ≤ k) e p.0) (subst (λ k. d / 2 ≤ k) m (subst (λ k. k ≤ edge_count (grid_library n) (tile_in d)) e p.1))
 
 pub has-is : (n d : ℕ) → edges n < 2 ^ 32 → (grid_links n).has d ≡ has_dart n d
 has-is n d few = elim (cases_Bool (has_dart n d)) [
@@ -87,43 +35,9 @@ has-is n d few = elim (cases_Bool (has_dart n d)) [
 pub is_dart : (n d : ℕ) → edges n < 2 ^ 32 → has_dart n d ≡ true → IsDartOf (grid_links n) 0 d
 is_dart n d few h = record { has = there n d few h; tile = tile_zero d (small n d few h) }
 
-pub tile-is : (n d : ℕ) → edges n < 2 ^ 32 → has_dart n d ≡ true → tile_in d ≡ 0
-tile-is n d few h = tile_zero d (small n d few h)
-
-pub edge-is : (n d : ℕ) → edges n < 2 ^ 32 → has_dart n d ≡ true → edge_in d ≡ d / 2
-edge-is n d few h = edge_half d (small n d few h)
-
--- the row of a dart's edge
-row-is : (n d : ℕ) → edges n < 2 ^ 32 → has_dart n d ≡ true → edge_of_dart (grid_library n) d ≡ grid_edge n (d / 2)
-row-is n d few h =
-    let b = among_parts (edges n) d h in
-    ap (λ t. kth (tile_edges (grid_library n) t) (edge_in d) absent_edge) (tile-is n d few h)
-    ∙ ap (λ e. kth (tile_edges (grid_library n) 0) e absent_edge) (edge-is n d few h)
-    ∙ kth_row (grid_edge n) (edges n) (d / 2) absent_edge b.0 b.1
-
--- the + dart and the - dart of an edge
-pub plus_dart : (d : ℕ) → is_minus d ≡ false → code 0 (d / 2) 0 ≡ d
-unfolding code sign_in
-plus_dart d h = let e : d % 2 ≢ 1 = grind (arith, nat_tests) in omega arith
-
-pub minus_dart : (d : ℕ) → is_minus d ≡ true → code 0 (d / 2) 1 ≡ d
-unfolding code sign_in
-minus_dart d h = let e : d % 2 ≡ 1 = grind (arith, nat_tests) in omega arith
-
 pub plus_of_minus : (d : ℕ) → is_minus d ≡ true → code 0 (d / 2) 0 ≡ flip d
 unfolding code sign_in flip
 plus_of_minus d h = let e : d % 2 ≡ 1 = grind (arith, nat_tests) in omega arith
-
-pub flip_flip : (d : ℕ) → flip (flip d) ≡ d
-unfolding flip
-flip_flip d = omega arith
-
-pub flip_there : (n d : ℕ) → has_dart n d ≡ true → has_dart n (flip d) ≡ true
-unfolding flip
-flip_there n d h =
-    let b = among_parts (edges n) d h in
-    let e : (d + 1 - 2 * (d % 2)) / 2 ≡ d / 2 = omega arith in
-    among_from (edges n) (d + 1 - 2 * (d % 2)) (omega (arith, b, e)) (omega (arith, b, e))
 
 -- where a dart ends
 pub node-is : (F : GridFacts) (n d : ℕ) → 1 ≤ n → edges n < 2 ^ 32 → has_dart n d ≡ true → ((grid_links n).node d).id ≡ head_in n d
@@ -137,15 +51,6 @@ node-is F n d le few h =
 -- where it begins
 pub tail-is : (F : GridFacts) (n d : ℕ) → 1 ≤ n → edges n < 2 ^ 32 → has_dart n d ≡ true → tail_node (grid_links n) d ≡ tail_in n d
 tail-is F n d le few h = let g = flip_there n d h in node-is F n (flip d) le few g ∙ sym (F.fit n (flip d) le g).back ∙ ap (tail_in n) (flip_flip d)
-
--- its face
-pub face-is : (n d : ℕ) → edges n < 2 ^ 32 → has_dart n d ≡ true → ((grid_links n).face d).id ≡ face_in n d
-face-is n d few h =
-    ap (λ e. id_of (face_by (is_minus d) e)) (row-is n d few h)
-    ∙ elim (cases_Bool (is_minus d)) [
-      | inl t ↦ ap (λ b. id_of (face_by b (grid_edge n (d / 2)))) t ∙ ap (face_in n) (minus_dart d t)
-      | inr f ↦ ap (λ b. id_of (face_by b (grid_edge n (d / 2)))) f ∙ ap (face_in n) (plus_dart d f)
-    ]
 
 -- its wing
 pub wing-is : (n d : ℕ) → edges n < 2 ^ 32 → has_dart n d ≡ true → ((grid_links n).wing d).id ≡ next_in_grid n d / 2

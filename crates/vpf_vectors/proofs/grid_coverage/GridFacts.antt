@@ -1,5 +1,5 @@
 -- What the laws of the grid say, together.
-use Rattle.vpf_vectors.specs.Cells.Laws.{CornersHaveNodes, DartsAreInRange, NextsFit, GridIsMap, NodeIsOneCycle, FaceIsOneCycle, RingsStartLeast, FirstEdgesAreLeast}
+use Rattle.vpf_vectors.specs.Inner.Cells.Laws.{CornersHaveNodes, DartsAreInRange, NextsFit, GridIsMap, NodeIsOneCycle, FaceIsOneCycle, RingsStartLeast, FirstEdgesAreLeast}
 
 pub record GridFacts : Type 0 where
   pub corner : CornersHaveNodes

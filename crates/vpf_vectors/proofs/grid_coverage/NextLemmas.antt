@@ -1,6 +1,5 @@
 -- The next of a dart that the rows of the grid say is the next in the grid.
-use Rattle.std.proofs.Common.{◌≡◌, ◌≢◌, ℕ, ◌/◌, ◌^◌, ◌<◌, ◌≤◌, Bool, true, false, ◌&&◌}
-use Rattle.std.proofs.Common.{◌==◌, Option, Some, if◌then◌else◌, refl, sym, ap, ◌∙◌, inl, inr, arith}
+use Rattle.std.proofs.Common.{◌≡◌, ◌≢◌, ℕ, ◌/◌, ◌^◌, ◌<◌, ◌≤◌, Bool, true, false, ◌&&◌, ◌==◌, Option, Some, if◌then◌else◌, refl, sym, ap, ◌∙◌, inl, inr, arith}
 use std.Path.{fun_ext}
 use Rattle.std.specs.Option.{unwrap_or}
 use Rattle.std.proofs.lemmas.Bool.{cases_Bool}
@@ -10,9 +9,11 @@ use Rattle.vpf_darts.specs.Maps.{DartMap}
 use Rattle.vpf_wing.specs.Links.{is_minus, only, is_next, next_to, local_next, local_map, tail_node}
 use Rattle.vpf_vectors.specs.Cells.Numbers.{edges}
 use Rattle.vpf_vectors.specs.Cells.Maps.{has_dart, next_in_grid, grid_map, head_in, face_in}
-use Rattle.vpf_vectors.specs.GridCoverage.Coverage.{grid_links}
+use Rattle.vpf_vectors.specs.Inner.GridCoverage.Coverage.{grid_links}
 use Rattle.vpf_vectors.proofs.grid_coverage.GridFacts.{GridFacts}
-use Rattle.vpf_vectors.proofs.grid_coverage.DartLemmas.{there, has-is, tile-is, node-is, tail-is, face-is, wing-is, flip_there, plus_dart, plus_of_minus, flip_flip}
+use Rattle.vpf_vectors.proofs.grid_coverage.DartLemmas.{there, has-is, node-is, tail-is, wing-is, plus_of_minus}
+use Rattle.vpf_vectors.proofs.cells.MapLemmas.{flip_flip}
+use Rattle.vpf_vectors.specs.Inner.GridCoverage.DartLaws.{tile-is, face-is, flip_there, plus_dart}
 
 -- where one dart of an edge passes and the other doesn't, it is the one that passes
 only_first : (p : ℕ → Bool) (x : ℕ) → p x ≡ true → p (flip x) ≡ false → only p x ≡ Some x

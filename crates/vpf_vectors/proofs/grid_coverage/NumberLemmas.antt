@@ -1,23 +1,21 @@
 -- The rows of the grid are numbered, and what they name is there.
-use Rattle.std.proofs.Common.{◌≡◌, ℕ, ◌+◌, ◌*◌, ◌/◌, ◌^◌, ◌<◌, ◌≤◌, Bool, true, false, ◌==◌, length}
-use Rattle.std.proofs.Common.{Some, None, if◌then◌else◌, refl, sym, ap, subst, ◌∙◌, inl, inr, arith}
-use Rattle.std.proofs.lemmas.Bool.{cases_Bool, cases_lt}
+use Rattle.std.proofs.Common.{◌≡◌, ℕ, ◌+◌, ◌*◌, ◌/◌, ◌^◌, ◌<◌, ◌≤◌, Bool, true, false, ◌==◌, length, Some, None, if◌then◌else◌, refl, sym, ap, subst, ◌∙◌, inl, inr, arith}
+use Rattle.std.proofs.lemmas.Bool.{cases_Bool, cases_lt, false≢true as no_yes}
 use Rattle.std.proofs.lemmas.Bool.Decides.{nat_tests}
 use Rattle.std.proofs.lemmas.List.FromFn.{length-map-range_with_len}
 use Rattle.vpf_darts.specs.Darts.{code}
 use Rattle.vpf_prims.specs.References.{plain}
 use Rattle.vpf_prims.specs.Lists.{kth}
-use Rattle.vpf_prims.specs.Primitives.{edges_in, absent_edge, absent_face, absent_ring, absent_node, tile_edges, tile_faces}
-use Rattle.vpf_prims.specs.Primitives.{tile_rings, tile_nodes, edge_count, face_count, ring_count, node_count}
+use Rattle.vpf_prims.specs.Primitives.{edges_in, absent_edge, absent_face, absent_ring, absent_node, tile_edges, tile_faces, tile_rings, tile_nodes, edge_count, face_count, ring_count, node_count}
 use Rattle.vpf_prims.specs.Numbering.{IsRowOf, IsPlain, IsLineMark, IsEdgeOf, IsFaceOf, IsRingOf, IsNodeOf, IsNumbered}
 use Rattle.vpf_vectors.specs.Cells.Numbers.{nodes, edges, faces}
 use Rattle.vpf_vectors.specs.Cells.Maps.{has_dart, next_in_grid}
 use Rattle.vpf_vectors.specs.Cells.Rows.{row_of_edge, first_edge, start_edge}
-use Rattle.vpf_vectors.specs.GridCoverage.Coverage.{grid_edge, grid_face, grid_ring, grid_node, grid_library}
-use Rattle.vpf_vectors.specs.GridCoverage.Laws.{GridIsLibrary}
+use Rattle.vpf_vectors.specs.Inner.GridCoverage.Coverage.{grid_edge, grid_face, grid_ring, grid_node, grid_library}
+use Rattle.vpf_vectors.specs.Inner.GridCoverage.Laws.{GridIsLibrary}
 use Rattle.vpf_vectors.proofs.grid_coverage.GridFacts.{GridFacts}
-use Rattle.vpf_vectors.proofs.grid_coverage.RowLemmas.{kth_row}
-use Rattle.vpf_vectors.proofs.grid_coverage.DartLemmas.{few_edges, count_edges}
+use Rattle.vpf_vectors.specs.Inner.GridCoverage.RowLaws.{kth_row}
+use Rattle.vpf_vectors.specs.Inner.GridCoverage.DartLaws.{few_grid_edges as few_edges, count_edges}
 
 pub count_faces : (n : ℕ) → face_count (grid_library n) 0 ≡ faces n
 count_faces n = length-map-range_with_len grid_face 1 (faces n)
@@ -147,9 +145,6 @@ few_in n t most = elim (cases_lt 0 t) [
   | inl h ↦ (let z : length (edges_in ((grid_library n).tile t)) ≡ 0 = ap (λ c. length (edges_in c)) (none_after n t h) in omega (arith, z))
   | inr h ↦ (let e : t ≡ 0 = omega arith in subst (λ k. k < 2 ^ 24) (sym (ap (edge_count (grid_library n)) e ∙ count_edges n)) (few_edges n most))
 ]
-
-no_yes : false ≡ true → ⊥
-no_yes e = cc
 
 pub tiles_make_library : GridIsLibrary
 tiles_make_library n most = record {

@@ -2,13 +2,7 @@
 use Rattle.std.proofs.Common.{◌≡◌, ◌≢◌, ℕ, zero, suc, ◌+◌, ◌<◌, ◌≤◌, Bool, true, false, map, ap, ◌∙◌, inl, inr, arith}
 use Rattle.std.specs.List.{range_with_len}
 use Rattle.std.proofs.lemmas.Bool.{cases_eq}
-use Rattle.std.proofs.lemmas.List.FromFn.{get_or-map-range_with_len}
-use Rattle.vpf_prims.specs.Lists.{kth, first_from, first_item}
-
--- the row of an id
-pub kth_row : {X : Type 0} (f : ℕ → X) (n k : ℕ) (d : X) → 1 ≤ k → k ≤ n → kth (map f (range_with_len 1 n)) k d ≡ f k
-kth_row f n zero d low high = absurd (omega arith)
-kth_row f n (suc k) d low high = get_or-map-range_with_len f 1 n k (suc k) d (omega arith) (omega arith)
+use Rattle.vpf_prims.specs.Lists.{first_from, first_item}
 
 -- the first row that passes is the one that does
 first_row_from : {X : Type 0} (p : X → Bool) (f : ℕ → X) (a n k : ℕ) → a ≤ k → k < a + n → p (f k) ≡ true → ((j : ℕ) → j ≢ k → p (f j) ≡ false)

@@ -1,11 +1,11 @@
 //! What is so of the grid of n by n cells, for each n from 1.
 
-ghost use Rattle.vpf_vectors.specs.Cells.Laws.{NextByCases, NumbersNameArrows, ArrowsHaveNumbers, FlipIsBack};
-ghost use Rattle.vpf_vectors.specs.Cells.Laws.{NodesNameCorners, CornersHaveNodes, FacesNameCells, CellsHaveFaces};
-ghost use Rattle.vpf_vectors.specs.Cells.Laws.{DartsAreInRange, NextsFit, GridIsMap, FacesAreListed};
-ghost use Rattle.vpf_vectors.specs.Cells.Laws.{NodeIsOneCycle, FaceIsOneCycle, CellIsOneCycle, BorderIsOneCycle};
-ghost use Rattle.vpf_vectors.specs.Cells.Laws.{RingsStartLeast, FirstEdgesAreLeast, EastRows, NorthRows};
-ghost use Rattle.vpf_vectors.specs.Cells.Laws.{FacesHaveTiles, TilesHaveFaces, EastLines, NorthLines};
+ghost use Rattle.vpf_vectors.specs.Inner.Cells.Laws.{NextByCases, NumbersNameArrows, ArrowsHaveNumbers, FlipIsBack};
+ghost use Rattle.vpf_vectors.specs.Inner.Cells.Laws.{NodesNameCorners, CornersHaveNodes, FacesNameCells, CellsHaveFaces};
+ghost use Rattle.vpf_vectors.specs.Inner.Cells.Laws.{DartsAreInRange, NextsFit, GridIsMap, FacesAreListed};
+ghost use Rattle.vpf_vectors.specs.Inner.Cells.Laws.{NodeIsOneCycle, FaceIsOneCycle, CellIsOneCycle, BorderIsOneCycle};
+ghost use Rattle.vpf_vectors.specs.Inner.Cells.Laws.{RingsStartLeast, FirstEdgesAreLeast, EastRows, NorthRows};
+ghost use Rattle.vpf_vectors.specs.Inner.Cells.Laws.{FacesHaveTiles, TilesHaveFaces, EastLines, NorthLines};
 
 /// The next of a dart by its direction: along a cell its four sides, along the border straight on, and round the corners of the
 /// grid to the left.

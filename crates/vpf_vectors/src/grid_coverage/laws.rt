@@ -1,6 +1,6 @@
 //! What is so of the grid of n by n cells as a coverage, for each n from 1 to 200.
 
-ghost use Rattle.vpf_vectors.specs.GridCoverage.Laws.{GridIsWellFormed, GridIsLibrary, RowsSayNexts, RowsMakeMap, BoundariesAreListed};
+ghost use Rattle.vpf_vectors.specs.Inner.GridCoverage.Laws.{GridIsWellFormed, GridIsLibrary, RowsSayNexts, RowsMakeMap, BoundariesAreListed};
 
 /// The rows of the grid are a well-formed untiled coverage; the next that they say of each dart is that of the grid, so that their map is
 /// the grid's, and the boundaries of its faces the listing.

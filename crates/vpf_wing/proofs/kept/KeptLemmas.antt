@@ -5,13 +5,13 @@ use Rattle.std.proofs.lemmas.List.{get_or-map, length-map}
 use Rattle.vpf_darts.specs.declared.darts.TileDart.{TileDart}
 use Rattle.vpf_darts.specs.Cycles.{IsListing}
 use Rattle.vpf_darts.specs.Darts.{tile_dart_code}
-use Rattle.vpf_darts.specs.Laws.{RisingRenamingKeepsListing}
+use Rattle.vpf_darts.specs.Inner.Laws.{RisingRenamingKeepsListing}
 use Rattle.vpf_darts.specs.Listings.{numbers_of}
 use Rattle.vpf_darts.specs.Maps.{DartMap, is_of_any, without}
-use Rattle.vpf_darts.specs.Ranks.{IsRanking, IsRankedListing}
-use Rattle.vpf_darts.proofs.WithoutLemmas.{live_without_all, without-is_map}
-use Rattle.vpf_wing.specs.DartLaws.{stands_in}
-use Rattle.vpf_wing.specs.Kept.Kept.{AreKept, next_rank, place_among}
+use Rattle.vpf_darts.specs.Inner.Ranks.{IsRanking, IsRankedListing}
+use Rattle.vpf_darts.specs.Inner.WithoutLaws.{live_without_all, without-is_map}
+use Rattle.vpf_wing.specs.Inner.DartLaws.{stands_in}
+use Rattle.vpf_wing.specs.Inner.Kept.Kept.{AreKept, next_rank, place_among}
 use Rattle.vpf_wing.proofs.kept.RankLemmas.{AreRanked, is_ranking, listing_by_ranks, live_at, next_inside}
 
 pub kept_ranked : (m : DartMap) (es : List ℕ) (darts : List TileDart) → AreKept m es darts → AreRanked (without m es) (map tile_dart_code darts)

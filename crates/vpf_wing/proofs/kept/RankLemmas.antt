@@ -4,13 +4,13 @@ use Rattle.std.specs.List.Sorted.{IsStrictlyIncreasing}
 use Rattle.std.proofs.lemmas.Bool.{cases_lt, ltb-true, lt-ltb, le-ltb}
 use Rattle.vpf_darts.specs.declared.darts.TileDart.{TileDart}
 use Rattle.vpf_darts.specs.Cycles.{IsListing}
-use Rattle.vpf_darts.specs.Laws.{IsRenaming, RisingRenamingKeepsListing}
+use Rattle.vpf_darts.specs.Inner.Laws.{IsRenaming, RisingRenamingKeepsListing}
 use Rattle.vpf_darts.specs.Listings.{numbers_of}
 use Rattle.vpf_darts.specs.Maps.{DartMap, IsMap}
-use Rattle.vpf_darts.specs.Ranks.{IsRanking, IsRankedListing}
-use Rattle.vpf_wing.specs.DartLaws.{stands_in}
-use Rattle.vpf_wing.specs.Kept.Kept.{next_rank, place_among}
-use Rattle.vpf_wing.specs.Kept.PlaceLaws.{apart_at, at_place, place_of_at, rises, stands_at}
+use Rattle.vpf_darts.specs.Inner.Ranks.{IsRanking, IsRankedListing}
+use Rattle.vpf_wing.specs.Inner.DartLaws.{stands_in}
+use Rattle.vpf_wing.specs.Inner.Kept.Kept.{next_rank, place_among}
+use Rattle.vpf_wing.specs.Inner.Kept.PlaceLaws.{apart_at, at_place, place_of_at, rises, stands_at}
 
 -- ---- the nexts of ranks are those of the darts
 

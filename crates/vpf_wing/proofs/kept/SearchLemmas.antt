@@ -10,9 +10,9 @@ use Rattle.std.specs.declared.cmp.Ordering.{Ordering}
 use Rattle.std.specs.declared.cmp.Ordering.TheVariants.{Less, Equal, Greater}
 use Rattle.vpf_darts.specs.declared.darts.TileDart.{TileDart}
 use Rattle.vpf_darts.specs.Darts.{tile_dart_code}
-use Rattle.vpf_wing.specs.DartLaws.{stands_in}
-use Rattle.vpf_wing.specs.Kept.Kept.{AreInOrder, place_among}
-use Rattle.vpf_wing.specs.Kept.PlaceLaws.{at_place, place_of_at, rises}
+use Rattle.vpf_wing.specs.Inner.DartLaws.{stands_in}
+use Rattle.vpf_wing.specs.Inner.Kept.Kept.{AreInOrder, place_among}
+use Rattle.vpf_wing.specs.Inner.Kept.PlaceLaws.{at_place, place_of_at, rises}
 
 -- a comparison of darts is that of their numbers
 abbrev pub ComparesNumbers : (TileDart → TileDart → Ordering) → Type 0

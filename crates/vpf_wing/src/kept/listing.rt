@@ -6,8 +6,8 @@ ghost use Rattle.vpf_darts.specs.Cycles.{IsListing};
 ghost use Rattle.vpf_darts.specs.Darts.{tile_dart_code};
 ghost use Rattle.vpf_darts.specs.Listings.{numbers_of};
 ghost use Rattle.vpf_darts.specs.Maps.{without};
-ghost use Rattle.vpf_wing.specs.DartLaws.{stands_in};
-ghost use Rattle.vpf_wing.specs.Kept.Kept.{AreInOrder, AreKept, next_rank, place_among};
+ghost use Rattle.vpf_wing.specs.Inner.DartLaws.{stands_in};
+ghost use Rattle.vpf_wing.specs.Inner.Kept.Kept.{AreInOrder, AreKept, next_rank, place_among};
 
 use std::alloc::{AllocError, Global};
 use vpf_darts::laws::{numbers_keep_order, renaming_keeps_cycles};
@@ -39,7 +39,7 @@ impl<W: Walk> Ranked for Kept<'_, W> {
     ghost use Rattle.std.specs.Prelude.{length, map, nat_lt, slice_index};
     ghost use Rattle.vpf_darts.specs.Darts.{tile_dart_code};
     ghost use Rattle.vpf_darts.specs.Maps.{without};
-    ghost use Rattle.vpf_wing.specs.Kept.Kept.{next_rank};
+    ghost use Rattle.vpf_wing.specs.Inner.Kept.Kept.{next_rank};
 
     ghost count = { λ s. length s.darts.now };
 

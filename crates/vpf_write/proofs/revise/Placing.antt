@@ -1,5 +1,5 @@
 -- Lists whose elements are changed by their positions.
-use Rattle.std.proofs.Common.{◌≡◌, ◌≢◌, ℕ, zero, suc, ◌+◌, ◌≤◌, List, [], ◌∷◌, length, map, Option, Some, None, refl, arith}
+use Rattle.std.proofs.Common.{[], ◌≡◌, ◌≢◌, ℕ, zero, suc, ◌+◌, ◌≤◌, List, ◌∷◌, length, map, Option, Some, None, refl, arith}
 use Rattle.std.specs.List.{enumerate_from, slice_get}
 use Rattle.std.specs.Option.{option_map}
 use Rattle.std.proofs.Math.ListN.{set}
@@ -46,15 +46,6 @@ each_own f n [] e = refl
 each_own f n (x ∷ xs) e =
     let first = e n x in
     let rest = each_own f (n + 1) xs e in
-    cc
-
--- what a change leaves as it is in each element
-pub each_kept : {X Y : Type 0} (f : ℕ × X → X) (g : X → Y) (n : ℕ) (xs : List X) → ((c : ℕ) (x : X) → g (f (c, x)) ≡ g x)
-    → map g (map f (enumerate_from n xs)) ≡ map g xs
-each_kept f g n [] e = refl
-each_kept f g n (x ∷ xs) e =
-    let first = e n x in
-    let rest = each_kept f g (n + 1) xs e in
     cc
 
 -- the value before a change

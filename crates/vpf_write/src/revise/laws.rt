@@ -6,7 +6,7 @@ ghost use Rattle.vpf_triplet.specs.declared.kinds.Count.TheVariants.{Fixed};
 ghost use Rattle.vpf_triplet.specs.declared.kinds.Kind.TheVariants.{I, K};
 ghost use Rattle.vpf_triplet.specs.declared.triplets.Triplet.{Triplet};
 ghost use Rattle.vpf_triplet.specs.Reading.{is_small};
-ghost use Rattle.vpf_value.specs.Fitting.{FitsCell};
+ghost use Rattle.vpf_value.specs.Inner.Fitting.{FitsCell};
 ghost use Rattle.vpf_value.specs.Values.{NumberOf, TripletOf, Value};
 ghost use Rattle.vpf_head.specs.Head.{Col, names};
 ghost use Rattle.vpf_table.specs.Canonical.{FitsRow};

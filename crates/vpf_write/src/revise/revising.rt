@@ -19,7 +19,7 @@ pub struct RevisedTable<'h, 'b, 'a> {
 
 impl<'h, 'b, 'a> Model for RevisedTable<'h, 'b, 'a> {
     ghost use Rattle.std.specs.Prelude.{◌≡◌, length, vec_len};
-    ghost use Rattle.vpf_write.specs.Tallies.{Tally};
+    ghost use Rattle.vpf_write.specs.Inner.Tallies.{Tally};
 
     ghost Value = { Tally };
 
@@ -32,7 +32,7 @@ impl<'h, 'b, 'a> RevisedTable<'h, 'b, 'a> {
     ghost use Rattle.std.specs.Prelude.{◌≡◌, ◌++◌, ◌∷◌, [], All, IfOk, List, IsErr, OnErr, OnOk, Err, map, true, false};
     ghost use Rattle.vpf_table.specs.Grid.{Row};
     ghost use Rattle.vpf_write.specs.declared.writing.WriteError.TheVariants.{NoMemory};
-    ghost use Rattle.vpf_write.specs.Tallies.{Holds, grid_with};
+    ghost use Rattle.vpf_write.specs.Inner.Tallies.{Holds, grid_with};
     ghost use Rattle.vpf_write.specs.Writing.{Writes};
     ghost use Rattle.vpf_write.specs.Revise.Revising.{FitsElsewhere, FitsIn, new_value, revised};
 

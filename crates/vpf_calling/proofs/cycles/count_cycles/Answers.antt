@@ -1,4 +1,4 @@
-use Rattle.vpf_calling.proofs.Learnings.{unloaded}
+use Rattle.vpf_calling.proofs.Learnings.{not_stopped, unloaded}
 use Rattle.vpf_calling.proofs.cycles.count_cycles.Goals as goal
 
 pub returns-in-Ok-clause-learned : goal.returns-in-Ok-clause-learned
@@ -8,3 +8,6 @@ returns-in-Ok-clause-learned g c = λ files e loaded n is.
 pub returns-in-Err-clause-learned : goal.returns-in-Err-clause-learned
 returns-in-Err-clause-learned g c = λ files e loaded n is.
     unloaded loaded n c.in-Err.stop c.unread.result _ c.unread.ensures (c.in-Err.ensures.told files e) is
+
+pub returns-in-Ok-clause-unread : goal.returns-in-Ok-clause-unread
+returns-in-Ok-clause-unread g c = λ files e stop n is. absurd (not_stopped stop n _ _ (c.in-Ok.ensures.told files e) is)

@@ -2,8 +2,8 @@ use Rattle.std.proofs.Common.{◌≡◌, ℕ, ◌-◌, ◌+◌, ◌<◌, ◌^◌
 use Rattle.std.proofs.lemmas.Result.{err_from_is_err_and}
 use Rattle.vpf_findings.specs.Findings.{Disagreement}
 use Rattle.vpf_findings.specs.Firsts.{first_over}
-use Rattle.vpf_findings.specs.FirstLaws.{over_pass}
-use Rattle.vpf_coverage.specs.Opening.Opened.{opened_coverage}
+use Rattle.vpf_findings.specs.Inner.FirstLaws.{over_pass}
+use Rattle.vpf_coverage.specs.Inner.Opening.Opened.{opened_coverage}
 use Rattle.vpf_numbers.specs.Around.{Around, around_of}
 use Rattle.vpf_numbers.specs.TableLines.{numbers_finding}
 use Rattle.vpf_prims.specs.Coverages.{tile_at}

@@ -4,8 +4,8 @@ use Rattle.vpf_prims.specs.Coverages.{tile_at}
 use Rattle.vpf_prims.specs.Libraries.{in_tile}
 use Rattle.vpf_numbers.specs.Around.{around_of}
 use Rattle.vpf_numbers.specs.TableLines.{coverage_numbers, numbers_finding}
-use Rattle.vpf_coverage.specs.Opening.Opened.{opened_coverage}
-use Rattle.vpf_coverage.specs.Opened.{AreRightIn}
+use Rattle.vpf_coverage.specs.Inner.Opening.Opened.{opened_coverage}
+use Rattle.vpf_coverage.specs.Inner.Opened.{AreRightIn}
 use Rattle.vpf_coverage.proofs.RightLemmas.{tile_line}
 use Rattle.vpf_coverage.proofs.columns.columns_of.Given as goal
 

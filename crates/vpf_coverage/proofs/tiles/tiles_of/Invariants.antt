@@ -1,8 +1,8 @@
 use Rattle.std.proofs.Common.{◌≡◌, ◌++◌, ◌<◌, ◌^◌, length}
 use Rattle.std.specs.Prelude.{All}
 use Rattle.std.specs.Vec.Iter.{into_iter_items}
-use Rattle.vpf_coverage.specs.Opening.Opened.{placed_views}
-use Rattle.vpf_coverage.specs.Opened.{AreAllRight}
+use Rattle.vpf_coverage.specs.Inner.Opening.Opened.{placed_views}
+use Rattle.vpf_coverage.specs.Inner.Opened.{AreAllRight}
 use Rattle.vpf_coverage.proofs.tiles.tiles_of.Given as goal
 
 abbrev pub invariant-loop-views : goal.invariant-loop-views

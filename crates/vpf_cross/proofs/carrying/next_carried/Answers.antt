@@ -1,5 +1,5 @@
 use Rattle.std.proofs.Common.{◌<◌, length, map, sym, ◌∙◌, arith}
-use Rattle.vpf_head.specs.Views.{col}
+use Rattle.vpf_head.specs.Inner.Views.{col}
 use Rattle.vpf_prims.specs.Roles.{role_of}
 use Rattle.vpf_cross.proofs.CarryLemmas.{cell_passed}
 use Rattle.vpf_cross.proofs.carrying.next_carried.Goals as goal

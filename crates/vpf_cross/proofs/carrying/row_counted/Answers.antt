@@ -1,5 +1,5 @@
 use Rattle.std.proofs.Common.{[], sym}
-use Rattle.vpf_cross.proofs.CarryLemmas.{item_found}
+use Rattle.vpf_prims.specs.Inner.ItemLaws.{item_found}
 use Rattle.vpf_cross.proofs.carrying.row_counted.Goals as goal
 
 pub returns-clause-row : goal.returns-clause-row

@@ -1,6 +1,6 @@
 use Rattle.std.proofs.Common.{◌<◌, ◌+◌, length, drop, map, sym, ◌∙◌, arith}
 use Rattle.vpf_value.specs.Values.{view}
-use Rattle.vpf_head.specs.Views.{col}
+use Rattle.vpf_head.specs.Inner.Views.{col}
 use Rattle.vpf_prims.specs.Reading.{carried_in}
 use Rattle.vpf_prims.specs.Roles.{role_of}
 use Rattle.vpf_cross.specs.Carrying.{cell_difference, difference_of}

@@ -1,6 +1,6 @@
 use Rattle.std.proofs.Common.{◌+◌, ◌<◌, Some, length, sym, ◌∙◌, arith}
 use Rattle.std.proofs.lemmas.Result.{err_from_is_err_and}
-use Rattle.vpf_findings.specs.FirstLaws.{over_stop}
+use Rattle.vpf_findings.specs.Inner.FirstLaws.{over_stop}
 use Rattle.vpf_prims.specs.Lists.{kth}
 use Rattle.vpf_prims.specs.Primitives.{absent_entity, entities_in}
 use Rattle.vpf_prims.specs.Reading.{primitives_of}

@@ -1,7 +1,7 @@
 use Rattle.std.proofs.Common.{◌≡◌, ◌+◌, ◌-◌, true, Some, length}
 use Rattle.vpf_darts.specs.Darts.{tile_dart_code}
 use Rattle.vpf_follow.specs.Following.{follow, is_home}
-use Rattle.vpf_follow.specs.Homes.{IsDartIn}
+use Rattle.vpf_follow.specs.Inner.Homes.{IsDartIn}
 use Rattle.vpf_cross.specs.HomeLines.{coverage_links}
 use Rattle.vpf_cross.specs.RoundLines.{first_copy}
 use Rattle.vpf_cross.proofs.rounds.first_copy.Given as goal

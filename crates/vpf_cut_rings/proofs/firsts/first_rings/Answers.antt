@@ -1,7 +1,7 @@
 use Rattle.std.proofs.Common.{◌≡◌, ℕ, ◌+◌, ◌&&◌, ltb, eqb, arith, length, get_or, take, drop, ◌++◌}
 use Rattle.std.proofs.lemmas.List.{with_items_is}
 use Rattle.vpf_cut_rings.specs.declared.rings.CutRing.{CutRing}
-use Rattle.vpf_cut_rings.specs.Rings.{first_with}
+use Rattle.vpf_cut_rings.specs.Inner.Rings.{first_with}
 use Rattle.vpf_cut_rings.proofs.FirstLemmas.{all_inside, hold_all, hold_more}
 use Rattle.vpf_cut_rings.proofs.firsts.first_rings.Goals as goal
 

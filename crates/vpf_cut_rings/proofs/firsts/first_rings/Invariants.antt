@@ -1,7 +1,7 @@
 use Rattle.std.proofs.Common.{◌≡◌, ℕ, ◌<◌, eqb, length, map, get_or, take, suc}
 use Rattle.vpf_prims.specs.Lists.{first_item}
 use Rattle.vpf_tiling.specs.Tiles.{Ring}
-use Rattle.vpf_cut_rings.specs.Rings.{ring_of}
+use Rattle.vpf_cut_rings.specs.Inner.Rings.{ring_of}
 use Rattle.vpf_cut_rings.proofs.firsts.first_rings.Given as goal
 
 abbrev pub invariant-loop-k : goal.invariant-loop-k

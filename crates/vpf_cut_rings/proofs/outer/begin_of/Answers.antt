@@ -1,4 +1,4 @@
-use Rattle.vpf_cutting.specs.Cuts.{plan_by}
+use Rattle.vpf_cutting.specs.Inner.Cuts.{plan_by}
 use Rattle.vpf_darts.specs.declared.darts.TileDart.{TileDart}
 use Rattle.vpf_cut_rings.proofs.BeginLemmas.{begins_here}
 use Rattle.vpf_cut_rings.proofs.outer.begin_of.Goals as goal

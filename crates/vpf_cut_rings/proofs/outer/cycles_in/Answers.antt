@@ -1,6 +1,6 @@
 use Rattle.std.proofs.Common.{sym, subst}
-use Rattle.vpf_cutting.specs.Cuts.{plan_by}
-use Rattle.vpf_wing.specs.Kept.Kept.{AreKept}
+use Rattle.vpf_cutting.specs.Inner.Cuts.{plan_by}
+use Rattle.vpf_wing.specs.Inner.Kept.Kept.{AreKept}
 use Rattle.vpf_tiling.specs.Presence.{absent_darts, coverage_map}
 use Rattle.vpf_cut_rings.proofs.WithinLemmas.{are_kept}
 use Rattle.vpf_cut_rings.proofs.outer.cycles_in.Goals as goal

@@ -2,11 +2,11 @@ use Rattle.std.proofs.Common.{◌≡◌, ◌∙◌, ◌<◌, ◌≤◌, ◌++◌
 use Rattle.std.specs.Prelude.{All}
 use Rattle.std.proofs.lemmas.List.Elements.{All-push}
 use Rattle.std.proofs.lemmas.List.{length-map, take_all}
-use Rattle.vpf_cutting.specs.Cuts.{plan_by}
+use Rattle.vpf_cutting.specs.Inner.Cuts.{plan_by}
 use Rattle.vpf_darts.specs.Darts.{dart_code, tile_dart_code}
 use Rattle.vpf_darts.specs.Listings.{numbers_of}
 use Rattle.vpf_tiling.specs.Presence.{is_within, local_edge}
-use Rattle.vpf_cut_rings.specs.Rings.{HasSmallNumbers, ring_of}
+use Rattle.vpf_cut_rings.specs.Inner.Rings.{HasSmallNumbers, ring_of}
 use Rattle.vpf_cut_rings.proofs.BeginLemmas.{outer_none, outer_one, rings_to}
 use Rattle.vpf_cut_rings.proofs.WithinLemmas.{edge_is, edge_of_tile}
 use Rattle.vpf_cut_rings.proofs.outer.rings_of_cycles.Goals as goal

@@ -1,7 +1,7 @@
 use Rattle.std.proofs.Common.{◌≡◌, ℕ, ◌≤◌, ◌∙◌, sym, subst, List}
 use Rattle.std.specs.Prelude.{All}
 use Rattle.vpf_prims.specs.Reading.{primitives_of}
-use Rattle.vpf_cut_rings.specs.Rings.{ring_faces}
+use Rattle.vpf_cut_rings.specs.Inner.Rings.{ring_faces}
 use Rattle.vpf_cut_rings.proofs.PlaceLemmas.{faces_within}
 use Rattle.vpf_cut_rings.proofs.rings.rings_by_face.Goals as goal
 

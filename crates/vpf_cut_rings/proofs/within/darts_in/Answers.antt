@@ -1,7 +1,7 @@
 use Rattle.std.proofs.Common.{◌≡◌, ◌≤◌, ◌∙◌, sym, ap, arith, length}
 use Rattle.std.proofs.lemmas.List.{take_all}
 use Rattle.std.specs.Prelude.{flat_map}
-use Rattle.vpf_cutting.specs.Cuts.{plan_by}
+use Rattle.vpf_cutting.specs.Inner.Cuts.{plan_by}
 use Rattle.vpf_tiling.specs.Presence.{present_edges}
 use Rattle.vpf_cut_rings.proofs.DartLemmas.{both_darts, darts_by_edges}
 use Rattle.vpf_cut_rings.proofs.within.darts_in.Goals as goal

@@ -1,4 +1,4 @@
-use Rattle.vpf_cutting.specs.Cuts.{plan_by}
+use Rattle.vpf_cutting.specs.Inner.Cuts.{plan_by}
 use Rattle.vpf_cut_rings.proofs.WithinLemmas.{edge_of_tile}
 use Rattle.vpf_cut_rings.proofs.within.is_within.Goals as goal
 

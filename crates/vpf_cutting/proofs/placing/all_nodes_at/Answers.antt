@@ -2,7 +2,7 @@ use Rattle.std.proofs.Common.{◌<◌, ◌≤◌, ap, ◌∙◌, arith, length, 
 use Rattle.std.proofs.lemmas.List.{take_all}
 use Rattle.vpf_prims.specs.Primitives.{absent_edge}
 use Rattle.vpf_prims.specs.Reading.{primitives_of}
-use Rattle.vpf_cutting.specs.Sides.{nodes_at}
+use Rattle.vpf_cutting.specs.Inner.Sides.{nodes_at}
 use Rattle.vpf_cutting.proofs.PlacingLemmas.{map_more}
 use Rattle.vpf_cutting.proofs.placing.all_nodes_at.Goals as goal
 

@@ -2,8 +2,8 @@ use Rattle.std.proofs.Common.{◌<◌, ◌≤◌, ap, ◌∙◌, arith, length, 
 use Rattle.std.proofs.lemmas.List.{take_all}
 use Rattle.vpf_prims.specs.Primitives.{absent_edge}
 use Rattle.vpf_prims.specs.Reading.{primitives_of}
-use Rattle.vpf_cutting.specs.Cuts.{plan_by}
-use Rattle.vpf_cutting.specs.Sides.{tiles_beside}
+use Rattle.vpf_cutting.specs.Inner.Cuts.{plan_by}
+use Rattle.vpf_cutting.specs.Inner.Sides.{tiles_beside}
 use Rattle.vpf_cutting.proofs.PlacingLemmas.{map_more}
 use Rattle.vpf_cutting.proofs.placing.all_tiles_beside.Goals as goal
 

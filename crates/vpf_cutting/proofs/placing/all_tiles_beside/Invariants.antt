@@ -1,7 +1,7 @@
 use Rattle.std.proofs.Common.{◌≡◌, map, take}
 use Rattle.vpf_prims.specs.Reading.{primitives_of}
-use Rattle.vpf_cutting.specs.Cuts.{plan_by}
-use Rattle.vpf_cutting.specs.Sides.{tiles_beside}
+use Rattle.vpf_cutting.specs.Inner.Cuts.{plan_by}
+use Rattle.vpf_cutting.specs.Inner.Sides.{tiles_beside}
 use Rattle.vpf_cutting.proofs.placing.all_tiles_beside.Given as goal
 
 abbrev pub invariant-loop-k : goal.invariant-loop-k

@@ -2,8 +2,8 @@ use Rattle.std.proofs.Common.{◌<◌, ◌≤◌, Some, ap, ◌∙◌, arith, le
 use Rattle.std.proofs.lemmas.List.{take_all}
 use Rattle.vpf_prims.specs.Primitives.{absent_entity, entities_in}
 use Rattle.vpf_prims.specs.Reading.{primitives_of}
-use Rattle.vpf_cutting.specs.Cuts.{plan_by}
-use Rattle.vpf_cutting.specs.Sides.{tile_round}
+use Rattle.vpf_cutting.specs.Inner.Cuts.{plan_by}
+use Rattle.vpf_cutting.specs.Inner.Sides.{tile_round}
 use Rattle.vpf_cutting.proofs.PlacingLemmas.{map_more}
 use Rattle.vpf_cutting.proofs.placing.all_tiles_round.Goals as goal
 

@@ -1,11 +1,11 @@
 use Rattle.std.proofs.Common.{◌∙◌, ap, sym, subst, arith, length}
 use Rattle.std.specs.Prelude.{All}
 use Rattle.std.proofs.lemmas.List.{length-map}
-use Rattle.vpf_copies.specs.Placing.{AreTiles, is_beside}
+use Rattle.vpf_cutting.specs.Inner.Copies.Placing.{AreTiles, is_beside}
 use Rattle.vpf_prims.specs.Reading.{primitives_of}
 use Rattle.vpf_tiling.specs.Presence.{has_edge}
-use Rattle.vpf_cutting.specs.Cuts.{plan_by}
-use Rattle.vpf_cutting.specs.Sides.{tiles_beside}
+use Rattle.vpf_cutting.specs.Inner.Cuts.{plan_by}
+use Rattle.vpf_cutting.specs.Inner.Sides.{tiles_beside}
 use Rattle.vpf_cutting.proofs.PlacingLemmas.{copies_made, edges_beside, tiles_within}
 use Rattle.vpf_cutting.proofs.placing.edges_in_tiles.Goals as goal
 

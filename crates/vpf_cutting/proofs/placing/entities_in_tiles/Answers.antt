@@ -1,12 +1,12 @@
 use Rattle.std.proofs.Common.{◌<◌, ◌≤◌, ◌^◌, ◌∙◌, ap, sym, subst, arith, length, Some}
 use Rattle.std.specs.Prelude.{All}
 use Rattle.std.proofs.lemmas.List.{length-map}
-use Rattle.vpf_copies.specs.Placing.{is_at}
+use Rattle.vpf_cutting.specs.Inner.Copies.Placing.{is_at}
 use Rattle.vpf_prims.specs.Primitives.{entities_in}
 use Rattle.vpf_prims.specs.Reading.{primitives_of}
 use Rattle.vpf_tiling.specs.Presence.{holds_entity}
-use Rattle.vpf_cutting.specs.Cuts.{plan_by}
-use Rattle.vpf_cutting.specs.Sides.{tile_round}
+use Rattle.vpf_cutting.specs.Inner.Cuts.{plan_by}
+use Rattle.vpf_cutting.specs.Inner.Sides.{tile_round}
 use Rattle.vpf_cutting.proofs.PlacingLemmas.{copies_made, entities_at, places_within}
 use Rattle.vpf_cutting.proofs.placing.entities_in_tiles.Goals as goal
 

@@ -1,7 +1,7 @@
 use Rattle.std.proofs.Common.{◌<◌, ◌^◌, arith, length}
 use Rattle.vpf_prims.specs.Reading.{primitives_of}
 use Rattle.vpf_tiling.specs.Presence.{holds_face}
-use Rattle.vpf_cutting.specs.Cuts.{plan_by}
+use Rattle.vpf_cutting.specs.Inner.Cuts.{plan_by}
 use Rattle.vpf_cutting.proofs.PlacingLemmas.{copies_made, faces_at, plan_all}
 use Rattle.vpf_cutting.proofs.placing.faces_in_tiles.Goals as goal
 

@@ -1,9 +1,9 @@
 use Rattle.std.proofs.Common.{◌<◌, ◌^◌, ◌∙◌, ap, sym, subst, arith, length, map}
 use Rattle.std.specs.Prelude.{All}
 use Rattle.std.proofs.lemmas.List.{length-map}
-use Rattle.vpf_copies.specs.Placing.{AreNodes, has_end}
+use Rattle.vpf_cutting.specs.Inner.Copies.Placing.{AreNodes, has_end}
 use Rattle.vpf_prims.specs.Reading.{primitives_of}
-use Rattle.vpf_cutting.specs.Sides.{nodes_at}
+use Rattle.vpf_cutting.specs.Inner.Sides.{nodes_at}
 use Rattle.vpf_cutting.proofs.PlacingLemmas.{copies_made, nodes_within}
 use Rattle.vpf_cutting.proofs.placing.nodes_in_tiles.Goals as goal
 

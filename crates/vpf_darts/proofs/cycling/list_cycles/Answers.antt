@@ -1,7 +1,7 @@
 use Rattle.std.proofs.Common.{◌≡◌, ◌<◌, ◌++◌, ◌∷◌, [], ◌+◌, true, length, map, sym, ap, ◌∙◌, arith, rules}
 use Rattle.std.proofs.lemmas.List.{length-map, with_items_is}
 use Rattle.vpf_darts.specs.Darts.{tile_dart_code}
-use Rattle.vpf_darts.specs.Ranks.{AddsCycle, marked}
+use Rattle.vpf_darts.specs.Inner.Ranks.{AddsCycle, marked}
 use Rattle.vpf_darts.proofs.MarkLemmas.{mark_read}
 use Rattle.vpf_darts.proofs.RankLemmas.{IsListedTo, list_begins, list_skips, list_adds, list_ends}
 use Rattle.vpf_darts.proofs.cycling.list_cycles.Goals as goal

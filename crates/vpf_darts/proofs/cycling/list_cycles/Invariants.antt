@@ -1,6 +1,6 @@
 use Rattle.std.proofs.Common.{◌≡◌, length, map}
 use Rattle.vpf_darts.specs.Darts.{tile_dart_code}
-use Rattle.vpf_darts.specs.Ranks.{marked}
+use Rattle.vpf_darts.specs.Inner.Ranks.{marked}
 use Rattle.vpf_darts.proofs.RankLemmas.{IsListedTo}
 use Rattle.vpf_darts.proofs.cycling.list_cycles.Given as goal
 

@@ -1,7 +1,7 @@
 use Rattle.std.proofs.Common.{◌≡◌, ℕ, ◌+◌, ◌<◌, ◌≤◌, ◌++◌, ◌∷◌, [], Bool, true, not, length, below_more, ap, subst, List, ◌∙◌, inl, inr, arith}
 use Rattle.std.proofs.lemmas.Bool.{cases_Bool, cases_lt}
 use Rattle.std.proofs.lemmas.List.{length-append, get_or_append_left, get_or_at, get_or_past}
-use Rattle.vpf_darts.specs.Ranks.{marked}
+use Rattle.vpf_darts.specs.Inner.Ranks.{marked}
 use Rattle.vpf_darts.proofs.cycling.marks_of_dead.Goals as goal
 
 -- the mark of one more rank is put

@@ -1,5 +1,5 @@
 use Rattle.std.proofs.Common.{◌≡◌, ℕ, ◌<◌, not, length}
-use Rattle.vpf_darts.specs.Ranks.{marked}
+use Rattle.vpf_darts.specs.Inner.Ranks.{marked}
 use Rattle.vpf_darts.proofs.cycling.marks_of_dead.Given as goal
 
 abbrev pub invariant-loop-rank : goal.invariant-loop-rank

@@ -1,7 +1,7 @@
 use Rattle.std.proofs.Common.{◌≡◌, ◌<◌, ◌++◌, ◌∷◌, [], true, false, length, map, refl, ◌∙◌, arith}
 use Rattle.std.proofs.lemmas.List.{map-append}
 use Rattle.vpf_darts.specs.Darts.{tile_dart_code}
-use Rattle.vpf_darts.specs.Ranks.{marked}
+use Rattle.vpf_darts.specs.Inner.Ranks.{marked}
 use Rattle.vpf_darts.proofs.MarkLemmas.{any_default}
 use Rattle.vpf_darts.proofs.RankLemmas.{round_goes, round_ends}
 use Rattle.vpf_darts.proofs.cycling.push_cycle.Goals as goal

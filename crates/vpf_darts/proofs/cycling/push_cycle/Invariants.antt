@@ -1,7 +1,7 @@
 use Rattle.std.proofs.Common.{map, not}
 use Rattle.std.specs.List.{count_by}
 use Rattle.vpf_darts.specs.Darts.{tile_dart_code}
-use Rattle.vpf_darts.specs.Ranks.{marked}
+use Rattle.vpf_darts.specs.Inner.Ranks.{marked}
 use Rattle.vpf_darts.proofs.RankLemmas.{IsGoingRound}
 use Rattle.vpf_darts.proofs.cycling.push_cycle.Given as goal
 

@@ -1,4 +1,5 @@
-use Rattle.vpf_darts.proofs.WithoutLemmas.{without-is_map, without_dead}
+use Rattle.vpf_darts.proofs.WithoutLemmas.{without_dead}
+use Rattle.vpf_darts.specs.Inner.WithoutLaws.{without-is_map}
 use Rattle.vpf_darts.proofs.SetLemmas.{without-same_set}
 use Rattle.vpf_darts.proofs.ExistenceLemmas.{remainder_has_listing}
 use Rattle.vpf_darts.proofs.laws.removal_leaves_a_map.Goals as goal

@@ -4,11 +4,11 @@ use Rattle.vpf_darts.specs.Listings.{numbers_of}
 use Rattle.vpf_prims.specs.Coverages.{CoverageTables}
 use Rattle.vpf_prims.specs.Libraries.{library_of}
 use Rattle.vpf_library_files.specs.Loading.Holding.{AreCoverageFiles}
-use Rattle.vpf_trace.specs.Tracing.{IsTrace}
+use Rattle.vpf_library_commands.specs.TraceTracing.{IsTrace}
 use Rattle.vpf_cross.specs.CrossFinding.{topology_finding}
 use Rattle.vpf_drill.specs.GridCutting.Reading.{grid_request}
 use Rattle.vpf_drill.specs.Numbers.{tiled_numbers}
-use Rattle.vpf_drill.specs.Traced.{IsOfTiled}
+use Rattle.vpf_drill.specs.Inner.Traced.{IsOfTiled}
 use Rattle.vpf_drill.proofs.DrillLemmas.{if_given, none_first, none_second}
 use Rattle.vpf_drill.proofs.drilling.count_tiled.Goals as goal
 

@@ -2,7 +2,7 @@ use Rattle.std.proofs.Common.{◌∙◌, Some, List, ap}
 use Rattle.vpf_source.specs.declared.file.File.{File}
 use Rattle.vpf_source.specs.Making.{with_all}
 use Rattle.vpf_replies.specs.Answer.{Answer}
-use Rattle.vpf_tile_theorem.specs.Tile.{tile_answer}
+use Rattle.vpf_library_commands.specs.Tile.{tile_answer}
 use Rattle.vpf_drill.specs.GridCutting.Held.{grid_held}
 use Rattle.vpf_drill.proofs.DrillLemmas.{settled_is}
 use Rattle.vpf_drill.proofs.drilling.cut_grid.Goals as goal

@@ -6,7 +6,8 @@ use Rattle.vpf_library_files.specs.Loading.Loading.{within}
 use Rattle.vpf_features.specs.Finding.{tables_finding}
 use Rattle.vpf_replies.specs.Answer.{Answer}
 use Rattle.vpf_feature_commands.specs.Select.{coverage_answer, schema_answer}
-use Rattle.vpf_feature_commands.proofs.SelectAnswers.{if_ok_more, none_answers}
+use Rattle.vpf_feature_commands.proofs.SelectAnswers.{none_answers}
+use Rattle.vpf_base.proofs.Results.{if_ok_more}
 use Rattle.vpf_feature_commands.proofs.selecting.read.Goals as goal
 
 pub returns-in-Ok : goal.returns-in-Ok

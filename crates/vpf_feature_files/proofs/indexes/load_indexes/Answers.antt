@@ -1,7 +1,7 @@
 use Rattle.std.proofs.Common.{◌∙◌, ◌+◌, ◌≤◌, length, drop, arith}
 use Rattle.std.proofs.lemmas.Result.{err_from_is_err_and}
 use Rattle.vpf_base.proofs.Results.{no_ok}
-use Rattle.vpf_head.specs.Views.{col}
+use Rattle.vpf_head.specs.Inner.Views.{col}
 use Rattle.vpf_library_files.specs.declared.loading.loading.LoadStop.TheVariants as stops
 use Rattle.vpf_feature_files.proofs.IndexLemmas.{in_order, indexes_done, indexes_stop, left_with, one_more, stop_in_order}
 use Rattle.vpf_feature_files.proofs.indexes.load_indexes.Goals as goal

@@ -1,6 +1,6 @@
 use Rattle.std.proofs.Common.{Option, subst}
 use Rattle.vpf_source.specs.declared.file.File.{File}
-use Rattle.vpf_feature_files.specs.Held.{IsSchemaFileOption}
+use Rattle.vpf_feature_files.specs.Inner.Held.{IsSchemaFileOption}
 use Rattle.vpf_feature_files.proofs.SchemaLemmas.{said_in}
 use Rattle.vpf_feature_files.proofs.schema.items_in.Goals as goal
 

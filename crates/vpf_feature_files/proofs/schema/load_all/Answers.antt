@@ -1,7 +1,7 @@
 use Rattle.std.proofs.Common.{◌≡◌, map, sym}
 use Rattle.std.proofs.lemmas.Result.{err_from_is_err_and}
-use Rattle.vpf_schema.specs.Joins.{feature_items}
-use Rattle.vpf_schema.specs.Listing.{item_text}
+use Rattle.vpf_feature_files.specs.SchemaRows.Joins.{feature_items}
+use Rattle.vpf_feature_files.specs.Inner.SchemaRows.Listing.{item_text}
 use Rattle.vpf_feature_files.specs.Schemas.{joins_of}
 use Rattle.vpf_feature_files.proofs.SchemaLemmas.{features_come, features_stop}
 use Rattle.vpf_feature_files.proofs.schema.load_all.Goals as goal

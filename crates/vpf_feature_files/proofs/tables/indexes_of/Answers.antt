@@ -3,7 +3,7 @@ use Rattle.vpf_source.specs.declared.file.File.{File}
 use Rattle.vpf_head.specs.Head.{Head}
 use Rattle.vpf_table.specs.Grid.{Grid}
 use Rattle.vpf_library_files.specs.Loading.Loads.{LoadsAs}
-use Rattle.vpf_feature_files.specs.Held.{AreIndexFiles}
+use Rattle.vpf_feature_files.specs.Inner.Held.{AreIndexFiles}
 use Rattle.vpf_feature_files.specs.Reading.{read_indexes}
 use Rattle.vpf_feature_files.proofs.tables.indexes_of.Goals as goal
 

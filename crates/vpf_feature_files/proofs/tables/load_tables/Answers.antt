@@ -2,7 +2,7 @@ use Rattle.std.proofs.Common.{◌∙◌, ◌+◌, drop, map, arith, refl}
 use Rattle.std.proofs.lemmas.Result.{err_from_is_err_and}
 use Rattle.vpf_base.proofs.Results.{no_ok}
 use Rattle.vpf_library_files.specs.declared.loading.loading.LoadStop.TheVariants as stops
-use Rattle.vpf_schema.specs.Listing.{item_text}
+use Rattle.vpf_feature_files.specs.Inner.SchemaRows.Listing.{item_text}
 use Rattle.vpf_feature_files.proofs.FeatureLemmas.{items_left, next_table, none_left, tables_done, tables_stop}
 use Rattle.vpf_feature_files.proofs.tables.load_tables.Goals as goal
 

@@ -1,7 +1,7 @@
 use Rattle.std.proofs.Common.{◌≡◌, ◌≤◌, drop, map}
 use Rattle.vpf_source.specs.Causes.{Stood}
 use Rattle.vpf_library_files.specs.Loading.Loading.{most_loaded}
-use Rattle.vpf_schema.specs.Listing.{item_text}
+use Rattle.vpf_feature_files.specs.Inner.SchemaRows.Listing.{item_text}
 use Rattle.vpf_feature_files.proofs.FeatureLemmas.{TablesRead}
 use Rattle.vpf_feature_files.proofs.tables.load_tables.Given as goal
 

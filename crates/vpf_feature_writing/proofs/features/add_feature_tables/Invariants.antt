@@ -1,5 +1,5 @@
 use Rattle.std.proofs.Common.{◌≡◌, drop, map}
-use Rattle.vpf_features.specs.Views.{table_seen}
+use Rattle.vpf_features.specs.Inner.Views.{table_seen}
 use Rattle.vpf_feature_writing.specs.Making.{feature_tables_made, then_files}
 use Rattle.vpf_feature_writing.proofs.features.add_feature_tables.Given as goal
 

@@ -6,7 +6,7 @@ use Rattle.vpf_library_files.specs.Loading.Loading.{within}
 use Rattle.vpf_theme.specs.declared.layout.Form.{Form}
 use Rattle.vpf_theme.specs.Findings.{cells_of}
 use Rattle.vpf_theme_build.specs.Building.{built_by}
-use Rattle.vpf_feature_writing.specs.Adding.{AddsMade}
+use Rattle.vpf_feature_writing.specs.Inner.Adding.{AddsMade}
 use Rattle.vpf_feature_writing.specs.Making.{index_made_by}
 use Rattle.vpf_feature_writing.proofs.StepLemmas.{column_at}
 use Rattle.vpf_feature_writing.proofs.indexes.add_index.Goals as goal

@@ -1,6 +1,6 @@
 use Rattle.std.proofs.Common.{◌∙◌}
 use Rattle.vpf_feature_writing.proofs.StepLemmas.{index_more}
-use Rattle.vpf_features.specs.Views.{table_seen}
+use Rattle.vpf_features.specs.Inner.Views.{table_seen}
 use Rattle.vpf_feature_writing.proofs.indexes.add_indexes.Goals as goal
 
 pub loop-c-preserved : goal.loop-c-preserved

@@ -1,6 +1,6 @@
 use Rattle.std.proofs.Common.{◌≡◌, drop, map}
 use Rattle.std.specs.Option.{option_map}
-use Rattle.vpf_features.specs.Views.{index_seen, table_seen}
+use Rattle.vpf_features.specs.Inner.Views.{index_seen, table_seen}
 use Rattle.vpf_feature_writing.specs.Making.{indexes_made, then_files}
 use Rattle.vpf_feature_writing.proofs.indexes.add_indexes.Given as goal
 

@@ -1,10 +1,10 @@
 use Rattle.std.proofs.Common.{[], ◌∷◌, ap, ◌∙◌, subst}
-use Rattle.vpf_triplet.specs.declared.orders.Order.{Order}
+use Rattle.vpf_base.specs.declared.orders.Order.{Order}
 use Rattle.vpf_head.specs.Head.{Head}
 use Rattle.vpf_table.specs.Canonical.{in_order}
 use Rattle.vpf_write.specs.Writing.{Writes}
-use Rattle.vpf_table_files.specs.Adding.{table_within}
-use Rattle.vpf_feature_writing.specs.AddLaws.{tables_add}
+use Rattle.vpf_library_files.specs.TableFiles.Adding.{table_within}
+use Rattle.vpf_feature_writing.specs.Inner.AddLaws.{tables_add}
 use Rattle.vpf_feature_writing.proofs.tables.add_as_it_is.Goals as goal
 
 pub returns : goal.returns

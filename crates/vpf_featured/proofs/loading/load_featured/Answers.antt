@@ -2,9 +2,10 @@ use Rattle.std.proofs.Common.{◌≡◌, ◌∙◌, ℕ, List, subst}
 use Rattle.std.proofs.lemmas.Result.{err_from_is_err_and}
 use Rattle.vpf_library_files.specs.Loading.Loading.{read_coverage, within}
 use Rattle.vpf_library_files.specs.Loading.Loads.{ReadsStop, ReadsValue}
-use Rattle.vpf_feature_files.specs.Held.{AreOfSchema, AreSchemaFiles}
+use Rattle.vpf_feature_files.specs.Inner.Held.{AreOfSchema, AreSchemaFiles}
 use Rattle.vpf_feature_files.specs.Reading.{read_schema}
-use Rattle.vpf_featured.proofs.LoadLemmas.{both_are, both_read, coverage_comes, coverage_ends, coverage_stops, features_stop, no_fault}
+use Rattle.vpf_featured.proofs.LoadLemmas.{both_are, both_read, coverage_comes, coverage_ends, coverage_stops, features_stop}
+use Rattle.vpf_featured.specs.Inner.LoadLaws.{no_fault}
 use Rattle.vpf_featured.proofs.loading.load_featured.Goals as goal
 
 pub returns-in_err-coverage-clause-told : goal.returns-in_err-coverage-clause-told

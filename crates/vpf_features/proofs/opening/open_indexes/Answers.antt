@@ -1,6 +1,6 @@
 use Rattle.std.proofs.Common.{◌≡◌, ◌∙◌, length, arith}
 use Rattle.std.specs.Option.{option_map}
-use Rattle.vpf_features.specs.Views.{index_seen}
+use Rattle.vpf_features.specs.Inner.Views.{index_seen}
 use Rattle.vpf_features.proofs.FileLemmas.{index_here, indexes_whole, one_more}
 use Rattle.vpf_features.proofs.opening.open_indexes.Goals as goal
 

@@ -1,5 +1,5 @@
 use Rattle.std.proofs.Common.{◌≡◌, ◌∙◌, length, arith}
-use Rattle.vpf_features.specs.Views.{table_seen}
+use Rattle.vpf_features.specs.Inner.Views.{table_seen}
 use Rattle.vpf_features.proofs.FileLemmas.{one_more, table_here, tables_whole}
 use Rattle.vpf_features.proofs.opening.open_tables.Goals as goal
 

@@ -1,7 +1,7 @@
 use Rattle.std.proofs.Common.{◌≡◌, ◌∙◌, length, ap, sym, arith}
 use Rattle.std.proofs.lemmas.List.Elements.{All-rest}
 use Rattle.vpf_table.specs.Grid.{Row}
-use Rattle.vpf_findings.specs.FirstLaws.{rows_pass}
+use Rattle.vpf_findings.specs.Inner.FirstLaws.{rows_pass}
 use Rattle.vpf_prims.specs.Columns.{role_at}
 use Rattle.vpf_prims.specs.Lines.{id_line}
 use Rattle.vpf_features.specs.Lines.{feature_at}

@@ -1,6 +1,6 @@
 use Rattle.std.proofs.Common.{◌≡◌, drop, map}
 use Rattle.vpf_feature_files.specs.Schemas.{table_in_file}
-use Rattle.vpf_features.specs.Views.{table_seen}
+use Rattle.vpf_features.specs.Inner.Views.{table_seen}
 use Rattle.vpf_features.proofs.schema.in_file.Given as goal
 
 abbrev pub invariant-loop-view : goal.invariant-loop-view

@@ -1,7 +1,7 @@
 use Rattle.std.proofs.Common.{◌≡◌, drop, map}
 use Rattle.std.specs.Option.{option_map}
 use Rattle.vpf_features.specs.Finding.{indexes_finding}
-use Rattle.vpf_features.specs.Views.{index_seen}
+use Rattle.vpf_features.specs.Inner.Views.{index_seen}
 use Rattle.vpf_features.proofs.themes.check_indexes.Given as goal
 
 abbrev pub invariant-loop-c : goal.invariant-loop-c

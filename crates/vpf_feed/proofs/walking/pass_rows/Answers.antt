@@ -1,7 +1,7 @@
 use Rattle.std.proofs.Common.{◌≡◌, ◌+◌, ◌-◌, ◌*◌, ◌≤◌, ◌++◌, List, ℕ, length, drop, sym, ap, ◌∙◌, arith}
 use Rattle.std.proofs.lemmas.List.{drop-append-le, length-append}
 use Rattle.vpf_base.specs.Limits.{most_rows}
-use Rattle.vpf_feed.specs.RowForm.Walk.{rows_to_come}
+use Rattle.vpf_feed.specs.Inner.RowForm.Walk.{rows_to_come}
 use Rattle.vpf_feed.proofs.row_form.Passing.{rows_passed}
 use Rattle.vpf_feed.proofs.walking.pass_rows.Goals as goal
 

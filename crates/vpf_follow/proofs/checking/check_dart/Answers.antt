@@ -4,7 +4,7 @@ use Rattle.vpf_findings.specs.Findings.{DartSeen}
 use Rattle.vpf_prims.specs.Primitives.{edge_count}
 use Rattle.vpf_wing.specs.Links.{links_of}
 use Rattle.vpf_follow.specs.FollowLines.{at_wing_of}
-use Rattle.vpf_follow.specs.Homes.{darts_before, first_followed}
+use Rattle.vpf_follow.specs.Inner.Homes.{darts_before, first_followed}
 use Rattle.vpf_prims.specs.Libraries.{library_of}
 use Rattle.vpf_follow.proofs.CheckLemmas.{dart_in, said_home}
 use Rattle.vpf_follow.proofs.HomeLemmas.{home_put}

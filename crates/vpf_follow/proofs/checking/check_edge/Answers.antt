@@ -1,9 +1,9 @@
 use Rattle.std.proofs.Common.{ℕ, List, OnOk, subst}
 use Rattle.vpf_prims.specs.Primitives.{edge_count}
 use Rattle.vpf_wing.specs.Links.{links_of}
-use Rattle.vpf_follow.specs.Homes.{AreHomes}
+use Rattle.vpf_follow.specs.Inner.Homes.{AreHomes}
 use Rattle.vpf_prims.specs.Libraries.{library_of}
-use Rattle.vpf_follow.proofs.ListLemmas.{darts_after}
+use Rattle.vpf_follow.specs.Inner.ListLaws.{darts_after}
 use Rattle.vpf_follow.proofs.checking.check_edge.Goals as goal
 
 pub returns-clause-homes : goal.returns-clause-homes

@@ -4,11 +4,11 @@ use Rattle.vpf_prims.specs.Primitives.{edge_count}
 use Rattle.vpf_prims.specs.Reading.{primitives_of}
 use Rattle.vpf_wing.specs.Links.{links_of}
 use Rattle.vpf_follow.specs.FollowLines.{follow_lines}
-use Rattle.vpf_follow.specs.Homes.{AreHomes, darts_to}
+use Rattle.vpf_follow.specs.Inner.Homes.{AreHomes, darts_to}
 use Rattle.vpf_prims.specs.Libraries.{library_of}
 use Rattle.vpf_follow.proofs.CoverageLemmas.{edges_are}
 use Rattle.vpf_follow.proofs.EdgeLines.{edges_begin, edges_pass, edges_tell}
-use Rattle.vpf_follow.proofs.ListLemmas.{to_tile}
+use Rattle.vpf_follow.specs.Inner.ListLaws.{to_tile}
 use Rattle.vpf_follow.proofs.checking.check_edges.Goals as goal
 
 pub loop-k-init : goal.loop-k-init

@@ -2,7 +2,7 @@ use Rattle.std.proofs.Common.{◌≡◌}
 use Rattle.vpf_prims.specs.Primitives.{edge_count}
 use Rattle.vpf_wing.specs.Links.{links_of}
 use Rattle.vpf_follow.specs.FollowLines.{follow_lines, follows_finding}
-use Rattle.vpf_follow.specs.Homes.{AreHomes, darts_to}
+use Rattle.vpf_follow.specs.Inner.Homes.{AreHomes, darts_to}
 use Rattle.vpf_prims.specs.Libraries.{library_of}
 use Rattle.vpf_follow.proofs.EdgeLines.{from_edge}
 use Rattle.vpf_follow.proofs.checking.check_edges.Given as goal

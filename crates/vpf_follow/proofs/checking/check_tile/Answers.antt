@@ -1,10 +1,10 @@
 use Rattle.std.proofs.Common.{◌≡◌, ℕ, suc, ◌+◌, List, ap, sym, subst, ◌∙◌, arith}
 use Rattle.vpf_prims.specs.Primitives.{edge_count}
 use Rattle.vpf_wing.specs.Links.{links_of}
-use Rattle.vpf_follow.specs.Homes.{AreHomes, darts_to}
+use Rattle.vpf_follow.specs.Inner.Homes.{AreHomes, darts_to}
 use Rattle.vpf_prims.specs.Libraries.{library_of}
 use Rattle.vpf_follow.proofs.CoverageLemmas.{no_edges}
-use Rattle.vpf_follow.proofs.ListLemmas.{to_tile}
+use Rattle.vpf_follow.specs.Inner.ListLaws.{to_tile}
 use Rattle.vpf_follow.proofs.checking.check_tile.Goals as goal
 
 pub returns-in-None-clause-homes : goal.returns-in-None-clause-homes

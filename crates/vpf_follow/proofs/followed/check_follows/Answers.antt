@@ -4,10 +4,10 @@ use Rattle.vpf_prims.specs.Coverages.{last_tile}
 use Rattle.vpf_prims.specs.Primitives.{edge_count}
 use Rattle.vpf_wing.specs.Links.{links_of, tile_darts}
 use Rattle.vpf_follow.specs.FollowLines.{follows_finding}
-use Rattle.vpf_follow.specs.Homes.{AreHomes, darts_to}
+use Rattle.vpf_follow.specs.Inner.Homes.{AreHomes, darts_to}
 use Rattle.vpf_prims.specs.Libraries.{library_of}
 use Rattle.vpf_follow.proofs.HomeLemmas.{home_none}
-use Rattle.vpf_follow.proofs.ListLemmas.{to_end, to_tile}
+use Rattle.vpf_follow.specs.Inner.ListLaws.{to_end, to_tile}
 use Rattle.vpf_follow.proofs.TileLines.{tiles_begin, tiles_end, tiles_pass, tiles_tell}
 use Rattle.vpf_follow.proofs.followed.check_follows.Goals as goal
 use Rattle.vpf_follow.proofs.followed.check_follows.Goals.{else-loop-t-test, then-loop-t-test+in_ok-check_tile+else-t-t-end}

@@ -2,7 +2,7 @@ use Rattle.std.proofs.Common.{◌≡◌}
 use Rattle.vpf_prims.specs.Primitives.{edge_count}
 use Rattle.vpf_wing.specs.Links.{links_of}
 use Rattle.vpf_follow.specs.FollowLines.{follows_finding}
-use Rattle.vpf_follow.specs.Homes.{AreHomes, darts_to}
+use Rattle.vpf_follow.specs.Inner.Homes.{AreHomes, darts_to}
 use Rattle.vpf_prims.specs.Libraries.{in_tiles, library_of}
 use Rattle.vpf_follow.proofs.TileLines.{from_tile}
 use Rattle.vpf_follow.proofs.followed.check_follows.Given as goal

@@ -4,7 +4,8 @@ use Rattle.vpf_prims.specs.Primitives.{edge_count}
 use Rattle.vpf_wing.specs.Links.{tile_darts}
 use Rattle.vpf_prims.specs.Libraries.{library_of}
 use Rattle.vpf_follow.proofs.CoverageLemmas.{few_to_last}
-use Rattle.vpf_follow.proofs.ListLemmas.{length-tiles, to_end, to_tile}
+use Rattle.vpf_follow.proofs.ListLemmas.{length-tiles}
+use Rattle.vpf_follow.specs.Inner.ListLaws.{to_end, to_tile}
 use Rattle.vpf_follow.proofs.followed.count_darts.Goals as goal
 
 pub loop-t-preserved : goal.loop-t-preserved

@@ -1,6 +1,6 @@
 use Rattle.std.proofs.Common.{◌≡◌, ℕ, ◌*◌, ◌^◌, ◌<◌, ◌≤◌, length}
 use Rattle.vpf_prims.specs.Primitives.{edge_count}
-use Rattle.vpf_follow.specs.Homes.{darts_to}
+use Rattle.vpf_follow.specs.Inner.Homes.{darts_to}
 use Rattle.vpf_prims.specs.Libraries.{library_of}
 use Rattle.vpf_follow.proofs.followed.count_darts.Given as goal
 

@@ -2,7 +2,7 @@ use Rattle.std.proofs.Common.{◌≡◌, ◌<◌, ◌^◌, Option, None, Some, s
 use Rattle.vpf_wing.specs.Links.{links_of, link_of}
 use Rattle.vpf_prims.specs.Libraries.{library_of}
 use Rattle.vpf_follow.specs.Following.{face_beyond, follow_links}
-use Rattle.vpf_follow.specs.Rows.{row_node, row_wing}
+use Rattle.vpf_follow.specs.Inner.Rows.{row_node, row_wing}
 use Rattle.vpf_follow.proofs.RowLemmas.{follow_is, row_there}
 use Rattle.vpf_follow.proofs.following.follow.Goals as goal
 

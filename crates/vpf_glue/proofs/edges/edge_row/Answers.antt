@@ -4,7 +4,8 @@ use Rattle.vpf_prims.specs.Coverages.{tile_at}
 use Rattle.vpf_prims.specs.Libraries.{library_of}
 use Rattle.vpf_prims.specs.Reading.{PrimitiveTables}
 use Rattle.vpf_glue.specs.GluedTables.Grids.{row_in}
-use Rattle.vpf_glue.proofs.SourceLemmas.{edge_is, edge_listed, edge_there, like_there, row_is, row_of_dart, tile_is}
+use Rattle.vpf_glue.proofs.SourceLemmas.{edge_listed, edge_there, like_there, row_is, row_of_dart}
+use Rattle.vpf_renumbering.specs.Inner.GluedEdges.FaceLaws.{edge_is, tile_is}
 use Rattle.vpf_glue.proofs.edges.edge_row.Goals as goal
 
 pub row_in_tile-requires : goal.row_in_tile-requires

@@ -9,13 +9,13 @@ use Rattle.vpf_prims.specs.Libraries.{library_of}
 use Rattle.vpf_prims.specs.Reading.{PrimitiveTables}
 use Rattle.vpf_wing.specs.Links.{links_of}
 use Rattle.vpf_follow.specs.Following.{is_home}
-use Rattle.vpf_write.specs.Tallies.{Holds}
+use Rattle.vpf_write.specs.Inner.Tallies.{Holds}
 use Rattle.vpf_write.specs.Revise.Revising.{FitsElsewhere, revised}
 use Rattle.vpf_renumbering.specs.Glued.{glued_edge}
 use Rattle.vpf_primitive_tables.specs.TableForms.Forms.{AreOfKind, EdgeValues, edge_kinds_of, edge_values_of, head_like}
-use Rattle.vpf_primitive_tables.specs.TableForms.Models.{values_of_edge}
+use Rattle.vpf_primitive_tables.specs.Inner.TableForms.Models.{values_of_edge}
 use Rattle.vpf_glue.specs.GluedTables.Grids.{row_in, whole_in}
-use Rattle.vpf_glue.specs.Sources.{FitsEdges, IsOfTile}
+use Rattle.vpf_glue.specs.Inner.Sources.{FitsEdges, IsOfTile}
 use Rattle.vpf_glue.proofs.edges.put_edge.Goals as goal
 
 pub edge_row-row-requires : goal.edge_row-row-requires

@@ -6,7 +6,7 @@ use Rattle.vpf_prims.specs.Libraries.{library_of}
 use Rattle.vpf_wing.specs.Links.{Beyond}
 use Rattle.vpf_renumbering.specs.Glued.{face_number}
 use Rattle.vpf_glue.specs.GluedTables.Grids.{whole_in}
-use Rattle.vpf_glue.specs.Sources.{IsFaceThere, IsRight}
+use Rattle.vpf_glue.specs.Inner.Sources.{IsFaceThere, IsRight}
 use Rattle.vpf_glue.proofs.SourceLemmas.{side_there}
 use Rattle.vpf_glue.proofs.edges.sides.Goals as goal
 

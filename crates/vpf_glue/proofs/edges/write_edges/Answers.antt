@@ -1,4 +1,4 @@
-use Rattle.std.proofs.Common.{◌≡◌, ℕ, List, false, true, map, sym, ap, ◌∙◌, subst, arith}
+use Rattle.std.proofs.Common.{◌≡◌, ℕ, List, false, true, map, ap, ◌∙◌, subst, arith}
 use Rattle.std.proofs.lemmas.List.Elements.{All-get_or}
 use Rattle.vpf_darts.specs.declared.darts.TileDart.{TileDart}
 use Rattle.vpf_darts.specs.Darts.{tile_dart_code}
@@ -9,7 +9,7 @@ use Rattle.vpf_wing.specs.Links.{links_of}
 use Rattle.vpf_follow.specs.Following.{is_home}
 use Rattle.vpf_write.specs.Writing.{Writes}
 use Rattle.vpf_primitive_tables.specs.TableForms.Forms.{edge_kinds_of, head_like, table_like}
-use Rattle.vpf_primitive_tables.proofs.table_forms.CountedRows.{numbered-map, put_all, put_more}
+use Rattle.vpf_primitive_tables.specs.Inner.TableForms.CountedLaws.{numbered-map, put_all, put_more}
 use Rattle.vpf_glue.specs.GluedTables.Grids.{glued_edge_row}
 use Rattle.vpf_triplet.specs.declared.kinds.Kind.{Kind}
 use Rattle.vpf_triplet.specs.declared.kinds.Kind.TheVariants.{I}

@@ -3,7 +3,7 @@ use Rattle.vpf_triplet.specs.declared.kinds.Kind.TheVariants.{I}
 use Rattle.vpf_darts.specs.declared.darts.TileDart.{TileDart}
 use Rattle.vpf_darts.specs.Darts.{tile_dart_code}
 use Rattle.vpf_tiling.specs.Ranks.{numbered}
-use Rattle.vpf_write.specs.Tallies.{Holds}
+use Rattle.vpf_write.specs.Inner.Tallies.{Holds}
 use Rattle.vpf_primitive_tables.specs.TableForms.Forms.{edge_kinds_of, head_like}
 use Rattle.vpf_glue.specs.GluedTables.Grids.{glued_edge_row}
 use Rattle.vpf_glue.proofs.edges.write_edges.Given as goal

@@ -1,7 +1,7 @@
 use Rattle.std.proofs.Common.{◌≡◌, ℕ, ◌≤◌, List, length, refl, sym, ap, ◌∙◌, subst, arith}
 use Rattle.vpf_prims.specs.Coverages.{CoverageTables, last_tile}
 use Rattle.vpf_tiling.specs.Ranks.{numbered}
-use Rattle.vpf_write.specs.Tallies.{Holds}
+use Rattle.vpf_write.specs.Inner.Tallies.{Holds}
 use Rattle.vpf_glue.specs.GluedTables.Grids.{EntitySource, glued_entity_row}
 use Rattle.vpf_glue.proofs.EntityLemmas.{all_put, count_more, many_within, sources_none, tile_put}
 use Rattle.vpf_glue.proofs.entities.put_all.Goals as goal

@@ -1,8 +1,8 @@
 use Rattle.std.proofs.Common.{◌≡◌, length}
 use Rattle.vpf_tiling.specs.Ranks.{numbered}
-use Rattle.vpf_write.specs.Tallies.{Holds}
+use Rattle.vpf_write.specs.Inner.Tallies.{Holds}
 use Rattle.vpf_glue.specs.GluedTables.Grids.{glued_entity_row}
-use Rattle.vpf_glue.specs.Sources.{sources_before}
+use Rattle.vpf_glue.specs.Inner.Sources.{sources_before}
 use Rattle.vpf_glue.proofs.entities.put_all.Given as goal
 
 abbrev pub invariant-loop-tile : goal.invariant-loop-tile

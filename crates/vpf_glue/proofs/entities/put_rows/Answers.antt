@@ -4,11 +4,11 @@ use Rattle.vpf_table.specs.Grid.{Row}
 use Rattle.vpf_prims.specs.Coverages.{CoverageTables}
 use Rattle.vpf_prims.specs.Libraries.{library_of}
 use Rattle.vpf_write.specs.Revise.Revising.{FitsElsewhere, revised}
-use Rattle.vpf_write.specs.Tallies.{Holds}
-use Rattle.vpf_renumbering.specs.GluedFaces.Faces.{entity_face}
+use Rattle.vpf_write.specs.Inner.Tallies.{Holds}
+use Rattle.vpf_renumbering.specs.Inner.GluedFaces.Faces.{entity_face}
 use Rattle.vpf_primitive_tables.specs.TableForms.Forms.{head_like, pair_kinds, pair_values}
 use Rattle.vpf_glue.specs.GluedTables.Grids.{EntitySource, entity_source, glued_entity_row}
-use Rattle.vpf_glue.specs.Sources.{IsRight}
+use Rattle.vpf_glue.specs.Inner.Sources.{IsRight}
 use Rattle.vpf_glue.proofs.EntityLemmas.{entity_like, entity_listed, entity_row, no_source, rows_more}
 use Rattle.std.proofs.lemmas.List.{length-map, take_all}
 use Rattle.vpf_tiling.specs.Ranks.{numbered_from}

@@ -1,7 +1,7 @@
 use Rattle.std.proofs.Common.{◌≡◌, ◌+◌, List, ◌++◌, map, take}
 use Rattle.vpf_table.specs.Grid.{Row}
 use Rattle.vpf_tiling.specs.Ranks.{numbered_from}
-use Rattle.vpf_write.specs.Tallies.{Holds}
+use Rattle.vpf_write.specs.Inner.Tallies.{Holds}
 use Rattle.vpf_glue.specs.GluedTables.Grids.{entity_source, glued_entity_row}
 use Rattle.vpf_glue.proofs.entities.put_rows.Given as goal
 

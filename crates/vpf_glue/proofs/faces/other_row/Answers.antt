@@ -5,7 +5,7 @@ use Rattle.vpf_prims.specs.Coverages.{CoverageTables}
 use Rattle.vpf_prims.specs.Reading.{PrimitiveTables}
 use Rattle.vpf_wing.specs.Links.{Beyond}
 use Rattle.vpf_glue.specs.GluedTables.Grids.{row_in}
-use Rattle.vpf_glue.specs.Sources.{IsRight, IsRowIn, table_in}
+use Rattle.vpf_glue.specs.Inner.Sources.{IsRight, IsRowIn, table_in}
 use Rattle.vpf_glue.proofs.SourceLemmas.{face_there, like_there, row_is}
 use Rattle.vpf_glue.proofs.FaceLemmas.{source_at}
 use Rattle.vpf_glue.proofs.faces.other_row.Goals as goal

@@ -1,7 +1,7 @@
 use Rattle.vpf_prims.specs.Coverages.{CoverageTables}
 use Rattle.vpf_prims.specs.Reading.{PrimitiveTables}
 use Rattle.std.proofs.Common.{subst}
-use Rattle.vpf_glue.specs.Sources.{IsRight}
+use Rattle.vpf_glue.specs.Inner.Sources.{IsRight}
 use Rattle.vpf_glue.proofs.SourceLemmas.{like_own, universe_listed}
 use Rattle.vpf_glue.proofs.faces.universe_row.Goals as goal
 

@@ -1,19 +1,13 @@
-use Rattle.std.proofs.Common.{◌≡◌, ℕ, ◌+◌, ◌<◌, List, [], codes, get_or, length, sym, ap, ◌∙◌, subst, arith}
-use Rattle.std.proofs.lemmas.List.FromFn.{get_or-map-range_with_len}
-use Rattle.std.proofs.lemmas.List.{length-map}
+use Rattle.std.proofs.Common.{[], ◌≡◌, ℕ, ◌+◌, ◌<◌, List, codes, get_or, length, sym, ap, ◌∙◌, subst, arith}
 use Rattle.std.specs.Prelude.{slice_index_or}
 use Rattle.vpf_head.specs.Head.{Head}
-use Rattle.vpf_table.specs.Grid.{Grid, Row}
-use Rattle.vpf_prims.specs.Lists.{first_item}
+use Rattle.vpf_table.specs.Grid.{Grid}
 use Rattle.vpf_write.specs.Revise.Revising.{FitsElsewhere}
 use Rattle.vpf_tiling.specs.Ranks.{numbered}
-use Rattle.vpf_tiling.specs.Tiles.{Ring}
 use Rattle.vpf_write.specs.Writing.{Writes}
-use Rattle.vpf_renumbering.specs.TilingLawsWhole.{WholeFace}
-use Rattle.vpf_renumbering.specs.Glued.{glued_rings}
 use Rattle.vpf_primitive_tables.specs.TableForms.Forms.{head_like, pair_kinds, pair_values}
-use Rattle.vpf_primitive_tables.proofs.table_forms.CountedRows.{put_all, put_more}
-use Rattle.vpf_glue.specs.GluedTables.Grids.{face_sources, glued_face_row, row_in, whole_in}
+use Rattle.vpf_primitive_tables.specs.Inner.TableForms.CountedLaws.{put_all, put_more}
+use Rattle.vpf_glue.specs.GluedTables.Grids.{face_sources, glued_face_row, whole_in}
 use Rattle.vpf_glue.proofs.FaceLemmas.{first_ring, sources_many}
 use Rattle.vpf_glue.proofs.faces.write_faces.Goals as goal
 

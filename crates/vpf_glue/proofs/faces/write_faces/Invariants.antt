@@ -1,6 +1,6 @@
 use Rattle.std.proofs.Common.{◌≡◌, codes, take}
 use Rattle.vpf_tiling.specs.Ranks.{numbered}
-use Rattle.vpf_write.specs.Tallies.{Holds}
+use Rattle.vpf_write.specs.Inner.Tallies.{Holds}
 use Rattle.vpf_primitive_tables.specs.TableForms.Forms.{head_like, pair_kinds}
 use Rattle.vpf_glue.specs.GluedTables.Grids.{face_sources, glued_face_row}
 use Rattle.vpf_glue.proofs.faces.write_faces.Given as goal

@@ -11,14 +11,14 @@ use Rattle.vpf_prims.specs.Reading.{PrimitiveTables}
 use Rattle.vpf_tiling.specs.Tiles.{Ring}
 use Rattle.vpf_write.specs.Writing.{Writes}
 use Rattle.vpf_renumbering.specs.Glued.{glued_rings}
-use Rattle.vpf_cut_rings.specs.Rings.{first_rings_of}
-use Rattle.vpf_primitive_tables.specs.TableForms.Models.{PairsLike}
-use Rattle.vpf_table_files.specs.Adding.{Adds, table_within}
+use Rattle.vpf_primitive_tables.specs.Rings.{first_rings_of}
+use Rattle.vpf_primitive_tables.specs.Inner.TableForms.Models.{PairsLike}
+use Rattle.vpf_library_files.specs.TableFiles.Adding.{Adds, table_within}
 use Rattle.vpf_renumbering.specs.declared.glued_faces.rings.GluedRing.{GluedRing}
-use Rattle.vpf_renumbering.specs.GluedFaces.Rings.{HasHomeStart, ring_said}
+use Rattle.vpf_renumbering.specs.Inner.GluedFaces.Rings.{HasHomeStart, ring_said}
 use Rattle.vpf_glue.specs.GluedTables.Grids.{glued_edge_grid, glued_entity_grid, glued_face_grid, glued_node_grid, glued_ring_grid, plan_grid, whole_in}
-use Rattle.vpf_glue.specs.Forms.{tables_by}
-use Rattle.vpf_glue.specs.Sources.{IsOfTile}
+use Rattle.vpf_glue.specs.Inner.Forms.{tables_by}
+use Rattle.vpf_glue.specs.Inner.Sources.{IsOfTile}
 use Rattle.vpf_glue.specs.Tables.{last_tables}
 use Rattle.vpf_glue.proofs.AddLemmas.{first_fails, next_adds, next_fails}
 use Rattle.vpf_glue.proofs.gluing.add_all.Goals as goal

@@ -2,12 +2,12 @@ use Rattle.std.proofs.Common.{◌∷◌, codes, length, sym, ap, ◌∙◌, subs
 use Rattle.vpf_triplet.specs.declared.kinds.Kind.{Kind}
 use Rattle.vpf_prims.specs.Coverages.{CoverageTables}
 use Rattle.vpf_library_files.specs.Loading.Loading.{within}
-use Rattle.vpf_table_files.specs.Adding.{Adds, table_within}
+use Rattle.vpf_library_files.specs.TableFiles.Adding.{Adds, table_within}
 use Rattle.vpf_renumbering.specs.Glued.{plus_darts}
 use Rattle.vpf_primitive_tables.specs.TableForms.Forms.{edge_kinds_of, head_like}
-use Rattle.vpf_primitive_tables.proofs.table_forms.CountedRows.{length-numbered}
+use Rattle.vpf_primitive_tables.specs.Inner.TableForms.CountedLaws.{length-numbered}
 use Rattle.vpf_glue.specs.GluedTables.Grids.{glued_edge_grid, glued_edge_row, plan_grid, whole_in}
-use Rattle.vpf_glue.specs.Forms.{tables_by}
+use Rattle.vpf_glue.specs.Inner.Forms.{tables_by}
 use Rattle.vpf_glue.specs.Tables.{glued_coverage_tables, last_tables}
 use Rattle.vpf_glue.proofs.AddLemmas.{limit_adds}
 use Rattle.vpf_glue.proofs.gluing.add_coverage.Goals as goal

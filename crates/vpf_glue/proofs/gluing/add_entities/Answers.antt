@@ -1,7 +1,7 @@
 use Rattle.std.proofs.Common.{Option, sym, subst}
 use Rattle.std.specs.Option.{option_map}
-use Rattle.vpf_table_files.specs.Adding.{Adds}
-use Rattle.vpf_primitive_tables.specs.TableForms.Models.{PairsLike}
+use Rattle.vpf_library_files.specs.TableFiles.Adding.{Adds}
+use Rattle.vpf_primitive_tables.specs.Inner.TableForms.Models.{PairsLike}
 use Rattle.vpf_glue.specs.GluedTables.Grids.{glued_entity_grid}
 use Rattle.vpf_glue.specs.Tables.{end_tables}
 use Rattle.vpf_glue.proofs.gluing.add_entities.Goals as goal

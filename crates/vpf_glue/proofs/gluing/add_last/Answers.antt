@@ -1,8 +1,8 @@
 use Rattle.std.proofs.Common.{List, [], ◌∷◌, codes}
 use Rattle.std.specs.Option.{option_map}
 use Rattle.std.proofs.lemmas.Result.{err_from_is_err_and}
-use Rattle.vpf_primitive_tables.specs.TableForms.Models.{PairsLike}
-use Rattle.vpf_table_files.specs.AddLaws.{adds_then, fails_first}
+use Rattle.vpf_primitive_tables.specs.Inner.TableForms.Models.{PairsLike}
+use Rattle.vpf_library_files.specs.Inner.TableFiles.AddLaws.{adds_then, fails_first}
 use Rattle.vpf_glue.specs.GluedTables.Grids.{glued_entity_grid, plan_grid}
 use Rattle.vpf_glue.specs.Tables.{end_tables, plan_table}
 use Rattle.vpf_glue.proofs.gluing.add_last.Goals as goal

@@ -1,11 +1,10 @@
-use Rattle.std.proofs.Common.{◌≡◌, ℕ, ◌≤◌, List, length, sym, ap, ◌∙◌, arith}
+use Rattle.std.proofs.Common.{◌≡◌, ℕ, List, length, sym, ap, ◌∙◌, arith}
 use Rattle.std.specs.Prelude.{flat_map}
-use Rattle.vpf_base.specs.Limits.{most_rows}
 use Rattle.vpf_prims.specs.Coverages.{CoverageTables}
 use Rattle.vpf_prims.specs.Libraries.{library_of}
 use Rattle.vpf_renumbering.specs.TilingLawsWhole.{tiles_in, whole_entities}
 use Rattle.vpf_primitive_tables.specs.TableForms.Forms.{head_like, pair_kinds}
-use Rattle.vpf_primitive_tables.proofs.table_forms.CountedRows.{length-numbered}
+use Rattle.vpf_primitive_tables.specs.Inner.TableForms.CountedLaws.{length-numbered}
 use Rattle.vpf_glue.specs.GluedTables.Grids.{entity_sources, glued_entity_grid, glued_entity_row}
 use Rattle.vpf_glue.proofs.EntityLemmas.{as_many}
 use Rattle.vpf_glue.proofs.gluing.entities_written.Goals as goal

@@ -4,7 +4,7 @@ use Rattle.std.specs.Prelude.{IfSome}
 use Rattle.vpf_table.specs.Grid.{Grid}
 use Rattle.vpf_prims.specs.Libraries.{library_of}
 use Rattle.vpf_cross.specs.CarriedLines.{first_tile}
-use Rattle.vpf_glue.specs.Sources.{IsOfTile}
+use Rattle.vpf_glue.specs.Inner.Sources.{IsOfTile}
 use Rattle.vpf_glue.proofs.FormLemmas.{forms_same}
 use Rattle.vpf_glue.proofs.gluing.forms_of.Goals as goal
 

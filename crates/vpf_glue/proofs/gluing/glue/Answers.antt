@@ -1,7 +1,7 @@
 use Rattle.std.proofs.Common.{sym}
 use Rattle.std.proofs.lemmas.Result.{err_from_is_err_and}
 use Rattle.vpf_primitive_tables.specs.TileTables.Grids.{tiles_made}
-use Rattle.vpf_glue.specs.Forms.{tables_by}
+use Rattle.vpf_glue.specs.Inner.Forms.{tables_by}
 use Rattle.vpf_glue.proofs.GlueLemmas.{all_added, none_glued, others_fail, tiles_fail}
 use Rattle.vpf_glue.proofs.gluing.glue.Goals as goal
 

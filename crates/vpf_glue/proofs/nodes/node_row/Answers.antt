@@ -8,7 +8,8 @@ use Rattle.vpf_prims.specs.Reading.{PrimitiveTables}
 use Rattle.vpf_wing.specs.Links.{links_of, tail_node}
 use Rattle.vpf_follow.specs.Following.{is_home}
 use Rattle.vpf_glue.specs.GluedTables.Grids.{row_in}
-use Rattle.vpf_glue.proofs.SourceLemmas.{like_there, node_listed, node_there, row_is, tail_row, tile_is}
+use Rattle.vpf_glue.proofs.SourceLemmas.{like_there, node_listed, node_there, row_is, tail_row}
+use Rattle.vpf_renumbering.specs.Inner.GluedEdges.FaceLaws.{tile_is}
 use Rattle.vpf_glue.proofs.nodes.node_row.Goals as goal
 
 pub tail_of-node-requires : goal.tail_of-node-requires

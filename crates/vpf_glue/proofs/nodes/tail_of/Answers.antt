@@ -7,7 +7,7 @@ use Rattle.vpf_prims.specs.Numbering.{IsRowOf}
 use Rattle.vpf_prims.specs.Primitives.{edges_in}
 use Rattle.vpf_prims.specs.References.{id_of}
 use Rattle.vpf_prims.specs.Tables.{TileTables}
-use Rattle.vpf_follow.specs.Rows.{row_node}
+use Rattle.vpf_follow.specs.Inner.Rows.{row_node}
 use Rattle.vpf_glue.proofs.SourceLemmas.{no_tables, row_of_dart, tail_is}
 use Rattle.vpf_glue.proofs.nodes.tail_of.Goals as goal
 

@@ -1,4 +1,4 @@
-use Rattle.std.proofs.Common.{◌≡◌, ℕ, ◌+◌, ◌*◌, ◌^◌, ◌<◌, ◌≤◌, List, Some, false, true, codes, get_or, length, map, sym, ap, ◌∙◌, subst, arith}
+use Rattle.std.proofs.Common.{◌≡◌, ℕ, ◌+◌, ◌<◌, ◌≤◌, List, Some, false, true, codes, get_or, length, map, sym, ap, ◌∙◌, subst, arith}
 use Rattle.std.proofs.lemmas.List.{length-map}
 use Rattle.std.proofs.lemmas.List.Elements.{All-get_or}
 use Rattle.std.proofs.lemmas.List.FromFn.{get_or-map-range_with_len, length-map-range_with_len}
@@ -8,7 +8,6 @@ use Rattle.vpf_base.specs.Limits.{most_rows}
 use Rattle.vpf_darts.specs.declared.darts.TileDart.{TileDart}
 use Rattle.vpf_darts.specs.Darts.{tile_dart_code, tile_in}
 use Rattle.vpf_head.specs.Head.{Head}
-use Rattle.vpf_table.specs.Grid.{Row}
 use Rattle.vpf_prims.specs.Coverages.{CoverageTables}
 use Rattle.vpf_prims.specs.Libraries.{library_of}
 use Rattle.vpf_prims.specs.Reading.{PrimitiveTables}
@@ -20,9 +19,9 @@ use Rattle.vpf_follow.specs.Following.{is_home}
 use Rattle.vpf_write.specs.Writing.{Writes}
 use Rattle.vpf_renumbering.specs.Glued.{first_darts, glued_edges}
 use Rattle.vpf_primitive_tables.specs.TableForms.Forms.{head_like, pair_kinds, pair_values, table_like}
-use Rattle.vpf_primitive_tables.proofs.table_forms.CountedRows.{numbered-map, put_all, put_more}
+use Rattle.vpf_primitive_tables.specs.Inner.TableForms.CountedLaws.{numbered-map, put_all, put_more}
 use Rattle.vpf_glue.specs.GluedTables.Grids.{glued_node_row, row_in, whole_in}
-use Rattle.vpf_glue.specs.Sources.{IsOfTile}
+use Rattle.vpf_glue.specs.Inner.Sources.{IsOfTile}
 use Rattle.vpf_glue.proofs.nodes.write_nodes.Goals as goal
 
 pub loop-k-init : goal.loop-k-init

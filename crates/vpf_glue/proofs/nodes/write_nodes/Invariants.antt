@@ -2,7 +2,7 @@ use Rattle.std.proofs.Common.{◌≡◌, codes, take}
 use Rattle.vpf_darts.specs.declared.darts.TileDart.{TileDart}
 use Rattle.vpf_darts.specs.Darts.{tile_dart_code}
 use Rattle.vpf_tiling.specs.Ranks.{numbered}
-use Rattle.vpf_write.specs.Tallies.{Holds}
+use Rattle.vpf_write.specs.Inner.Tallies.{Holds}
 use Rattle.vpf_primitive_tables.specs.TableForms.Forms.{head_like, pair_kinds}
 use Rattle.vpf_glue.specs.GluedTables.Grids.{glued_node_row}
 use Rattle.vpf_glue.proofs.nodes.write_nodes.Given as goal

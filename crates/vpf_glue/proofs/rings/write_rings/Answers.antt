@@ -1,13 +1,13 @@
-use Rattle.std.proofs.Common.{◌∙◌, ℕ, List, false, map, sym, ap, subst, arith}
+use Rattle.std.proofs.Common.{◌∙◌, ℕ, List, false, map, subst, arith}
 use Rattle.vpf_table.specs.Grid.{Grid}
 use Rattle.vpf_tiling.specs.Ranks.{numbered}
 use Rattle.vpf_tiling.specs.Tiles.{Ring}
 use Rattle.vpf_write.specs.Writing.{Writes}
 use Rattle.vpf_renumbering.specs.declared.glued_faces.rings.GluedRing.{GluedRing}
-use Rattle.vpf_renumbering.specs.GluedFaces.Rings.{ring_said}
+use Rattle.vpf_renumbering.specs.Inner.GluedFaces.Rings.{ring_said}
 use Rattle.vpf_glue.specs.GluedTables.Grids.{whole_in}
 use Rattle.vpf_primitive_tables.specs.TableForms.Forms.{ring_kinds, ring_row, rings_like, table_like}
-use Rattle.vpf_primitive_tables.proofs.table_forms.CountedRows.{numbered-map, put_all, put_more}
+use Rattle.vpf_primitive_tables.specs.Inner.TableForms.CountedLaws.{numbered-map, put_all, put_more}
 use Rattle.vpf_glue.proofs.rings.write_rings.Goals as goal
 
 pub loop-k-preserved : goal.loop-k-preserved

@@ -1,5 +1,5 @@
 use Rattle.std.proofs.Common.{arith}
-use Rattle.vpf_head.specs.Views.{head_given}
+use Rattle.vpf_head.specs.Inner.Views.{head_given}
 use Rattle.vpf_head.proofs.Canonicals.{length-text}
 use Rattle.vpf_head.proofs.headers.check_read.Goals as goal
 

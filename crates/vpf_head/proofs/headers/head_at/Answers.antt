@@ -1,6 +1,6 @@
 use Rattle.std.proofs.Common.{◌≡◌, Ok, rules}
 use Rattle.vpf_head.specs.Reading.{head_at}
-use Rattle.vpf_head.specs.Views.{header_parts}
+use Rattle.vpf_head.specs.Inner.Views.{header_parts}
 use Rattle.vpf_head.proofs.SoundLaws.{head_sound}
 use Rattle.vpf_head.proofs.headers.head_at.Goals as goal
 

@@ -1,6 +1,6 @@
 use Rattle.std.proofs.Common.{◌≡◌, take}
 use Rattle.indexmap.specs.IndexMap.{values}
-use Rattle.vpf_head.specs.Views.{AreNamed}
+use Rattle.vpf_head.specs.Inner.Views.{AreNamed}
 use Rattle.vpf_head.proofs.making.columns_of.Given as goal
 
 abbrev pub invariant-loop-column : goal.invariant-loop-column

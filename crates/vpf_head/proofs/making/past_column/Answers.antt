@@ -1,5 +1,5 @@
 use Rattle.std.proofs.Common.{ap, length, arith}
-use Rattle.vpf_head.specs.Views.{col}
+use Rattle.vpf_head.specs.Inner.Views.{col}
 use Rattle.vpf_head.proofs.Canonicals.{length-column}
 use Rattle.vpf_head.proofs.making.past_column.Goals as goal
 

@@ -2,7 +2,7 @@ use Rattle.std.proofs.Common.{◌≡◌, ◌≤◌, ◌+◌, drop, map, length}
 use Rattle.indexmap.specs.IndexMap.{values}
 use Rattle.vpf_head.specs.Canonical.{columns_text}
 use Rattle.vpf_head.specs.Making.{past_columns}
-use Rattle.vpf_head.specs.Views.{col}
+use Rattle.vpf_head.specs.Inner.Views.{col}
 use Rattle.vpf_head.proofs.making.past_columns.Given as goal
 
 abbrev pub invariant-loop-c : goal.invariant-loop-c

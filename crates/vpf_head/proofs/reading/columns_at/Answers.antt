@@ -3,7 +3,7 @@ use Rattle.std.proofs.lemmas.Result.{err_from_is_err_and}
 use Rattle.std.specs.Map.{values_of}
 use Rattle.indexmap.specs.IndexMap.{values}
 use Rattle.indexmap.proofs.CallerLemmas.{insert_entry-new}
-use Rattle.vpf_head.specs.Views.{col, key_eq}
+use Rattle.vpf_head.specs.Inner.Views.{col, key_eq}
 use Rattle.vpf_head.proofs.Entries.{AreNamed-push, columns-push}
 use Rattle.vpf_head.proofs.Loop.{is_done, is_full, goes_on, gives_up, absent}
 use Rattle.vpf_head.proofs.reading.columns_at.Goals as goal

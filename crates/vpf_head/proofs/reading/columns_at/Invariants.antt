@@ -2,7 +2,7 @@ use Rattle.std.proofs.Common.{◌≡◌, ◌≤◌, length, map, []}
 use Rattle.indexmap.specs.IndexMap.{values}
 use Rattle.vpf_base.specs.Limits.{most_columns}
 use Rattle.vpf_head.specs.Reading.{columns_at}
-use Rattle.vpf_head.specs.Views.{col, AreNamed}
+use Rattle.vpf_head.specs.Inner.Views.{col, AreNamed}
 use Rattle.vpf_head.proofs.reading.columns_at.Given as goal
 
 abbrev pub invariant-loop-columns : goal.invariant-loop-columns

@@ -2,7 +2,7 @@ use Rattle.std.proofs.Common.{◌≡◌, ◌+◌, drop, map, length, ap, ◌∙�
 use Rattle.std.proofs.lemmas.List.{length-append}
 use Rattle.indexmap.specs.IndexMap.{values, index_map_len}
 use Rattle.vpf_head.specs.Canonical.{column_text, columns_text}
-use Rattle.vpf_head.specs.Views.{col}
+use Rattle.vpf_head.specs.Inner.Views.{col}
 use Rattle.vpf_head.proofs.Entries.{columns_step, columns_end, column_spelled, length-values}
 use Rattle.vpf_head.proofs.writing.columns_len.Goals as goal
 

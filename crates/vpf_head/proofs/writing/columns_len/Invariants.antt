@@ -1,7 +1,7 @@
 use Rattle.std.proofs.Common.{◌≡◌, ◌≤◌, ◌+◌, ◌*◌, ◌^◌, drop, map, length}
 use Rattle.indexmap.specs.IndexMap.{values}
 use Rattle.vpf_head.specs.Canonical.{columns_text}
-use Rattle.vpf_head.specs.Views.{col}
+use Rattle.vpf_head.specs.Inner.Views.{col}
 use Rattle.vpf_head.proofs.writing.columns_len.Given as goal
 
 abbrev pub invariant-loop-c : goal.invariant-loop-c

@@ -1,7 +1,7 @@
 use Rattle.std.proofs.Common.{◌≡◌, ◌++◌, take, drop, map}
 use Rattle.std.specs.Prelude.{vec_len}
 use Rattle.vpf_head.specs.Canonical.{columns_text}
-use Rattle.vpf_head.specs.Views.{col}
+use Rattle.vpf_head.specs.Inner.Views.{col}
 use Rattle.vpf_head.proofs.writing.put_each.Given as goal
 
 abbrev pub invariant-loop-column : goal.invariant-loop-column

@@ -1,5 +1,5 @@
 use Rattle.std.proofs.Common.{◌≡◌, map, take}
-use Rattle.vpf_schema.specs.Joins.{join_of}
+use Rattle.vpf_feature_files.specs.SchemaRows.Joins.{join_of}
 use Rattle.vpf_joins.specs.Features.{feature_in, feature_seen}
 use Rattle.vpf_joins.proofs.features.features_of.Given as goal
 

@@ -1,5 +1,5 @@
 use Rattle.std.proofs.Common.{◌≡◌, take}
-use Rattle.vpf_joins.specs.Prepared.{answers_of}
+use Rattle.vpf_joins.specs.Inner.Prepared.{answers_of}
 use Rattle.vpf_joins.proofs.joining.joined.Given as goal
 
 abbrev pub invariant-loop-join : goal.invariant-loop-join

@@ -1,9 +1,9 @@
 use Rattle.std.proofs.Common.{◌≡◌, length, map, take}
 use Rattle.std.specs.List.{All, flat_map}
 use Rattle.vpf_table.specs.Grid.{Row}
-use Rattle.vpf_schema.specs.Joins.{join_of}
+use Rattle.vpf_feature_files.specs.SchemaRows.Joins.{join_of}
 use Rattle.vpf_joins.specs.Joining.{joined_by}
-use Rattle.vpf_joins.specs.Prepared.{IsKeyWithin, answers_of}
+use Rattle.vpf_joins.specs.Inner.Prepared.{IsKeyWithin, answers_of}
 use Rattle.vpf_joins.proofs.joining.prepare.Given as goal
 
 abbrev pub invariant-loop-said : goal.invariant-loop-said

@@ -1,5 +1,5 @@
 use Rattle.std.proofs.Common.{◌≡◌, ◌++◌, map, take}
-use Rattle.vpf_keys.specs.declared.keyed.KeyedRow.{KeyedRow}
+use Rattle.vpf_joins.specs.declared.keys.keyed.KeyedRow.{KeyedRow}
 use Rattle.vpf_joins.specs.Joining.{primitive_at}
 use Rattle.vpf_joins.proofs.joining.put_joined.Given as goal
 

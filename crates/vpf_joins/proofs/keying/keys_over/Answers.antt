@@ -1,7 +1,7 @@
 use Rattle.std.proofs.Common.{◌≡◌, ◌∙◌, ℕ, ◌+◌, List, ap, arith}
 use Rattle.std.specs.List.{flat_map, range_with_len}
 use Rattle.vpf_prims.specs.Coverages.{last_tile}
-use Rattle.vpf_keys.specs.Keys.{Keyed}
+use Rattle.vpf_joins.specs.Keys.Keys.{Keyed}
 use Rattle.vpf_joins.specs.Joining.{keyed_in_table, table_in_tile}
 use Rattle.vpf_joins.proofs.TileLemmas.{keys_more}
 use Rattle.vpf_joins.proofs.keying.keys_over.Goals as goal

@@ -1,6 +1,6 @@
 use Rattle.std.proofs.Common.{◌≡◌, map}
 use Rattle.std.specs.List.{flat_map, range_with_len}
-use Rattle.vpf_keys.specs.Keys.{keyed_of}
+use Rattle.vpf_joins.specs.Keys.Keys.{keyed_of}
 use Rattle.vpf_joins.specs.Joining.{keyed_in_table, table_in_tile}
 use Rattle.vpf_joins.proofs.keying.keys_over.Given as goal
 

@@ -1,9 +1,9 @@
 use Rattle.std.proofs.Common.{◌≡◌}
 use Rattle.vpf_replies.specs.Answer.{Answer, done}
-use Rattle.vpf_featured.specs.Held.{AreFeaturedFiles}
+use Rattle.vpf_featured.specs.Inner.Held.{AreFeaturedFiles}
 use Rattle.vpf_library_commands.specs.Check.{agrees_text, found_answer, read_finding}
 use Rattle.vpf_library_commands.proofs.CheckAnswers.{agreed_so}
-use Rattle.vpf_library_commands.proofs.TileAnswers.{if_ok_more}
+use Rattle.vpf_base.proofs.Results.{if_ok_more}
 use Rattle.vpf_library_commands.proofs.checking.checked.Goals as goal
 
 pub returns-in-Ok : goal.returns-in-Ok

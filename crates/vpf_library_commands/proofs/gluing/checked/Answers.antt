@@ -6,7 +6,7 @@ use Rattle.vpf_featured.specs.Finding.{placed_finding}
 use Rattle.vpf_replies.specs.Answer.{Answer}
 use Rattle.vpf_library_commands.specs.Glue.{first_table, gluing_answer}
 use Rattle.vpf_library_commands.specs.Made.{files_answer}
-use Rattle.vpf_library_commands.proofs.TileAnswers.{if_ok_more}
+use Rattle.vpf_base.proofs.Results.{if_ok_more}
 use Rattle.vpf_library_commands.proofs.GlueAnswers.{none_answers, tileref_first}
 use Rattle.vpf_library_commands.proofs.gluing.checked.Goals as goal
 

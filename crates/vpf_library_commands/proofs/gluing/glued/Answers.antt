@@ -4,7 +4,7 @@ use Rattle.vpf_glue.specs.Tables.{glued_made}
 use Rattle.vpf_feature_writing.specs.Making.{features_made, made_then}
 use Rattle.vpf_replies.specs.Answer.{Answer}
 use Rattle.vpf_library_commands.specs.Made.{files_answer}
-use Rattle.vpf_library_commands.proofs.TileAnswers.{if_ok_more}
+use Rattle.vpf_base.proofs.Results.{if_ok_more}
 use Rattle.vpf_library_commands.proofs.GlueAnswers.{answer_same, moved_tiled}
 use Rattle.vpf_library_commands.proofs.gluing.glued.Goals as goal
 

@@ -4,11 +4,11 @@ use Rattle.vpf_cross.specs.CrossFinding.{topology_finding}
 use Rattle.vpf_library_files.specs.Loading.Holding.{AreTiledFiles}
 use Rattle.vpf_library_files.specs.Loading.Loading.{within}
 use Rattle.vpf_featured.specs.Finding.{featured_finding, placed_finding}
-use Rattle.vpf_featured.specs.Held.{AreFeaturedFiles}
+use Rattle.vpf_featured.specs.Inner.Held.{AreFeaturedFiles}
 use Rattle.vpf_replies.specs.Answer.{Answer}
 use Rattle.vpf_library_commands.specs.Glue.{gluing_answer}
 use Rattle.vpf_library_commands.proofs.CheckAnswers.{found_featured}
-use Rattle.vpf_library_commands.proofs.TileAnswers.{if_ok_more}
+use Rattle.vpf_base.proofs.Results.{if_ok_more}
 use Rattle.vpf_library_commands.proofs.GlueAnswers.{tiled_files}
 use Rattle.vpf_library_commands.proofs.gluing.read.Goals as goal
 

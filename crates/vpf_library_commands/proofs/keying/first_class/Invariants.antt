@@ -1,5 +1,5 @@
 use Rattle.std.proofs.Common.{◌≡◌, drop, map}
-use Rattle.vpf_schema.specs.Joins.{join_of}
+use Rattle.vpf_feature_files.specs.SchemaRows.Joins.{join_of}
 use Rattle.vpf_library_commands.specs.Keys.{numbered_class}
 use Rattle.vpf_library_commands.proofs.keying.first_class.Given as goal
 

@@ -7,7 +7,8 @@ use Rattle.vpf_findings.specs.Printing.{disagree_text}
 use Rattle.vpf_replies.specs.Answer.{Answer, refused}
 use Rattle.vpf_featured.specs.Finding.{placed_finding}
 use Rattle.vpf_library_commands.specs.Tile.{tables_answer, tiling_answer}
-use Rattle.vpf_library_commands.proofs.TileAnswers.{finding_answers, if_ok_more, none_answers}
+use Rattle.vpf_library_commands.proofs.TileAnswers.{finding_answers, none_answers}
+use Rattle.vpf_base.proofs.Results.{if_ok_more}
 use Rattle.vpf_library_commands.proofs.tiling.checked.Goals as goal
 
 pub returns-in-Ok : goal.returns-in-Ok

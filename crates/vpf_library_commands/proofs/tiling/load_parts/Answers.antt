@@ -6,7 +6,8 @@ use Rattle.vpf_library_files.specs.Loading.Loading.{LoadedTable}
 use Rattle.vpf_library_files.specs.Loading.Loads.{ReadsStop, ReadsValue}
 use Rattle.vpf_tiling.specs.Plan.PlanLoads.{AreOfPlan, ArePlanFiles, read_plan}
 use Rattle.vpf_library_commands.specs.Tile.{plan_name}
-use Rattle.vpf_library_commands.proofs.TileLoads.{featured_stops, no_fault, parts_are, parts_read, plan_stops, tileref_stops}
+use Rattle.vpf_library_commands.proofs.TileLoads.{featured_stops, parts_are, parts_read, plan_stops, tileref_stops}
+use Rattle.vpf_featured.specs.Inner.LoadLaws.{no_fault}
 use Rattle.vpf_library_commands.proofs.tiling.load_parts.Goals as goal
 
 pub returns-in_err-featured-clause-told : goal.returns-in_err-featured-clause-told

@@ -3,9 +3,10 @@ use Rattle.std.proofs.lemmas.Result.{err_from_is_err_and}
 use Rattle.vpf_library_files.specs.Loading.Loading.{within}
 use Rattle.vpf_tiling.specs.Plan.Untiled.{read_untiled}
 use Rattle.vpf_library_files.specs.Loading.Loads.{ReadsStop, ReadsValue}
-use Rattle.vpf_feature_files.specs.Held.{AreOfSchema, AreSchemaFiles}
+use Rattle.vpf_feature_files.specs.Inner.Held.{AreOfSchema, AreSchemaFiles}
 use Rattle.vpf_feature_files.specs.Reading.{read_schema}
-use Rattle.vpf_library_commands.proofs.TileLoads.{both_are, both_read, coverage_stops, features_stop, no_fault, untiled_comes, untiled_ends}
+use Rattle.vpf_library_commands.proofs.TileLoads.{both_are, both_read, coverage_stops, features_stop, untiled_comes, untiled_ends}
+use Rattle.vpf_featured.specs.Inner.LoadLaws.{no_fault}
 use Rattle.vpf_library_commands.proofs.tiling.load_untiled_featured.Goals as goal
 
 pub returns-in_err-coverage-clause-told : goal.returns-in_err-coverage-clause-told

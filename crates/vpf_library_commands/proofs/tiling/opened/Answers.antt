@@ -1,6 +1,6 @@
 use Rattle.std.proofs.Common.{◌∙◌, ap}
 use Rattle.vpf_prims.specs.Coverages.{CoverageTables}
-use Rattle.vpf_featured.specs.Held.{AreFeaturedFiles}
+use Rattle.vpf_featured.specs.Inner.Held.{AreFeaturedFiles}
 use Rattle.vpf_library_commands.proofs.tiling.opened.Goals as goal
 
 pub returns-clause-first : goal.returns-clause-first

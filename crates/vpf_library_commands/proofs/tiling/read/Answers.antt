@@ -7,7 +7,8 @@ use Rattle.vpf_findings.specs.Printing.{disagree_text}
 use Rattle.vpf_replies.specs.Answer.{Answer, refused}
 use Rattle.vpf_library_commands.specs.Tile.{featured_in, parts_finding, tiling_answer}
 use Rattle.vpf_library_commands.proofs.CheckAnswers.{found_featured}
-use Rattle.vpf_library_commands.proofs.TileAnswers.{finding_answers, first_of_both, if_ok_more}
+use Rattle.vpf_library_commands.proofs.TileAnswers.{finding_answers, first_of_both}
+use Rattle.vpf_base.proofs.Results.{if_ok_more}
 use Rattle.vpf_library_commands.proofs.tiling.read.Goals as goal
 
 pub returns-in-Ok : goal.returns-in-Ok

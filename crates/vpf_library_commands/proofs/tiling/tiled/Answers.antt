@@ -7,7 +7,8 @@ use Rattle.vpf_library_files.specs.Tileref.Tileref.{IsTileref}
 use Rattle.vpf_tiler.specs.Making.{tile_error_seen, tiled}
 use Rattle.vpf_replies.specs.Answer.{Answer}
 use Rattle.vpf_library_commands.specs.Tile.{plan_name, tables_answer, tiled_answer}
-use Rattle.vpf_library_commands.proofs.TileAnswers.{if_ok_more, over_tables, tiled_same, untiled_tables}
+use Rattle.vpf_library_commands.proofs.TileAnswers.{over_tables, tiled_same, untiled_tables}
+use Rattle.vpf_base.proofs.Results.{if_ok_more}
 use Rattle.vpf_library_commands.proofs.tiling.tiled.Goals as goal
 
 pub tile-made-requires-clause-tileref : goal.tile-made-requires-clause-tileref

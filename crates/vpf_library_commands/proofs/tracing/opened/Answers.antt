@@ -1,5 +1,5 @@
 use Rattle.std.proofs.Common.{◌∙◌}
-use Rattle.vpf_featured.specs.Held.{AreFeaturedFiles}
+use Rattle.vpf_featured.specs.Inner.Held.{AreFeaturedFiles}
 use Rattle.vpf_library_commands.proofs.tracing.opened.Goals as goal
 
 pub returns-clause-opened : goal.returns-clause-opened

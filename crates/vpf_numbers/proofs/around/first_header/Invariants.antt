@@ -1,5 +1,5 @@
 use Rattle.std.proofs.Common.{◌≡◌, drop, map, option_map}
-use Rattle.vpf_prims.specs.Views.{tables_in_view}
+use Rattle.vpf_prims.specs.Inner.Views.{tables_in_view}
 use Rattle.vpf_numbers.specs.Around.{first_having, grid_named}
 use Rattle.vpf_numbers.proofs.around.first_header.Given as goal
 

@@ -1,5 +1,5 @@
 use Rattle.std.proofs.Common.{◌≡◌, ◌∙◌, ◌<◌, length, map, sym, ap, arith, false, true}
-use Rattle.vpf_head.specs.Views.{col}
+use Rattle.vpf_head.specs.Inner.Views.{col}
 use Rattle.vpf_prims.specs.Roles.{role_of}
 use Rattle.vpf_numbers.specs.ColumnLines.{bare_line}
 use Rattle.vpf_numbers.proofs.CarriedLemmas.{bare_found, bare_passed}

@@ -1,6 +1,6 @@
 use Rattle.std.proofs.Common.{◌∙◌, ◌<◌, length, map, sym, ap, arith}
 use Rattle.std.proofs.lemmas.Result.{err_from_is_err_and}
-use Rattle.vpf_head.specs.Views.{col}
+use Rattle.vpf_head.specs.Inner.Views.{col}
 use Rattle.vpf_prims.specs.Roles.{role_of}
 use Rattle.vpf_numbers.specs.ColumnLines.{carried_columns_finding}
 use Rattle.vpf_numbers.proofs.CarriedLemmas.{bare_found, bare_passed, carried_left, carried_stop}

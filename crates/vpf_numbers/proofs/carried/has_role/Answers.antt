@@ -1,7 +1,7 @@
 use Rattle.std.proofs.Common.{◌∙◌, sym}
 use Rattle.vpf_head.specs.Folding.{same_name}
 use Rattle.vpf_prims.specs.Roles.{Role}
-use Rattle.vpf_numbers.proofs.CarriedLemmas.{any_found, any_passed}
+use Rattle.vpf_numbers.specs.Inner.CarriedLaws.{any_passed, any_found}
 use Rattle.vpf_numbers.proofs.carried.has_role.Goals as goal
 
 pub returns-then-is_same_name : goal.returns-then-is_same_name

@@ -1,8 +1,9 @@
 use Rattle.std.proofs.Common.{◌≡◌, None}
 use Rattle.std.proofs.lemmas.Result.{err_from_is_err_and}
 use Rattle.vpf_prims.specs.Tables.{TileTables}
-use Rattle.vpf_prims.specs.Views.{tables_in_view}
-use Rattle.vpf_prims.proofs.RowLemmas.{or_first, or_later, or_silent}
+use Rattle.vpf_prims.specs.Inner.Views.{tables_in_view}
+use Rattle.vpf_prims.specs.Inner.RowLaws.{or_later, or_silent}
+use Rattle.vpf_findings.specs.Inner.FirstLaws.{or_first}
 use Rattle.vpf_numbers.specs.TableLines.{cnd_finding, edg_finding, fac_finding, numbers_finding, rng_finding}
 use Rattle.vpf_numbers.proofs.NumbersOwning.{tables_own}
 use Rattle.vpf_numbers.proofs.checking.check_tables.Goals as goal

@@ -5,7 +5,7 @@ use Rattle.vpf_findings.specs.Findings.{disagreement_of}
 use Rattle.vpf_findings.specs.declared.finding.TableName.TheVariants as names
 use Rattle.vpf_prims.specs.declared.placing.TableAt.{TableAt}
 use Rattle.vpf_prims.specs.Columns.{RoleAt, role_at}
-use Rattle.vpf_numbers.specs.Beyond.{named_cross_lines}
+use Rattle.vpf_numbers.specs.Inner.Beyond.{named_cross_lines}
 use Rattle.vpf_numbers.specs.RowLines.{edge_face_lines}
 use Rattle.vpf_numbers.proofs.BeyondLemmas.{found_second}
 use Rattle.vpf_numbers.proofs.edges.check_ends.Goals as goal

@@ -2,7 +2,7 @@ use Rattle.std.proofs.Common.{◌≡◌, arith, length, ap}
 use Rattle.std.proofs.lemmas.List.Elements.{All-rest}
 use Rattle.vpf_table.specs.Grid.{Row}
 use Rattle.vpf_numbers.specs.RowLines.{edge_row_lines}
-use Rattle.vpf_prims.proofs.RowLemmas.{rows_left}
+use Rattle.vpf_prims.specs.Inner.RowLaws.{lines_left as rows_left}
 use Rattle.vpf_numbers.proofs.edges.check_rows.Goals as goal
 
 pub loop-row-preserved : goal.loop-row-preserved

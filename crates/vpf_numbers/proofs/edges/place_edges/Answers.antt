@@ -1,7 +1,7 @@
 use Rattle.std.proofs.Common.{◌≡◌, None}
 use Rattle.vpf_prims.specs.Columns.{columns_finding}
 use Rattle.vpf_prims.specs.Roles.{edge_roles}
-use Rattle.vpf_prims.proofs.RowLemmas.{or_silent}
+use Rattle.vpf_prims.specs.Inner.RowLaws.{or_silent}
 use Rattle.vpf_numbers.specs.Around.{columns_in_view}
 use Rattle.vpf_numbers.specs.ColumnLines.{beside_finding, roles_finding}
 use Rattle.vpf_numbers.proofs.TableLemmas.{roles_placed, tells_none}

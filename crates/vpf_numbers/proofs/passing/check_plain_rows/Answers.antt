@@ -3,7 +3,7 @@ use Rattle.std.proofs.lemmas.List.Elements.{All-rest}
 use Rattle.vpf_table.specs.Grid.{Row}
 use Rattle.vpf_prims.specs.Columns.{role_at}
 use Rattle.vpf_numbers.specs.RowLines.{plain_rows_line}
-use Rattle.vpf_prims.proofs.RowLemmas.{or_silent, rows_left}
+use Rattle.vpf_prims.specs.Inner.RowLaws.{or_silent, lines_left as rows_left}
 use Rattle.vpf_numbers.proofs.passing.check_plain_rows.Goals as goal
 
 pub loop-row-preserved : goal.loop-row-preserved

@@ -1,4 +1,4 @@
-use Rattle.vpf_prims.proofs.ColumnLemmas.{place_within}
+use Rattle.vpf_prims.specs.Inner.ColumnLaws.{place_within}
 use Rattle.vpf_prims.proofs.placing.place_of.Goals as goal
 
 pub returns-clause-within : goal.returns-clause-within

@@ -1,4 +1,4 @@
-use Rattle.vpf_prims.proofs.ItemLemmas.{item_found}
+use Rattle.vpf_prims.specs.Inner.ItemLaws.{item_found}
 use Rattle.std.proofs.Common.{[], sym}
 use Rattle.vpf_prims.proofs.seeking.row_counted.Goals as goal
 

@@ -1,8 +1,8 @@
 use Rattle.std.proofs.Common.{◌≡◌, ◌-◌, ℕ, false, length, ap, arith}
 use Rattle.std.specs.Prelude.{not, slice_index_or}
-use Rattle.vpf_theme.proofs.WalkLemmas.{row_first, rows_rest}
+use Rattle.vpf_theme.specs.Inner.WalkLaws.{row_first, rows_rest}
 use Rattle.vpf_base.proofs.Lists.{find_pass}
-use Rattle.vpf_select.specs.Passing.{first_unmet}
+use Rattle.vpf_select.specs.Inner.Passing.{first_unmet}
 use Rattle.vpf_select.proofs.ScanLemmas.{found_more}
 use Rattle.vpf_select.proofs.passing.all_met.Goals as goal
 

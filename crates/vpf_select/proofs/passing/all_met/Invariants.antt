@@ -1,6 +1,6 @@
 use Rattle.std.proofs.Common.{◌≡◌, ◌++◌, length}
-use Rattle.vpf_theme.specs.Views.{AreRows}
-use Rattle.vpf_select.specs.Passing.{first_unmet}
+use Rattle.vpf_theme.specs.Inner.Views.{AreRows}
+use Rattle.vpf_select.specs.Inner.Passing.{first_unmet}
 use Rattle.vpf_select.proofs.passing.all_met.Given as goal
 
 abbrev pub invariant-loop-row : goal.invariant-loop-row

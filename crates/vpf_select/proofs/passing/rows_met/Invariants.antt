@@ -3,7 +3,7 @@ use Rattle.std.specs.Prelude.{All}
 use Rattle.vpf_value.specs.Values.{view}
 use Rattle.vpf_table.specs.Grid.{Row}
 use Rattle.vpf_theme.specs.Findings.{cells_of}
-use Rattle.vpf_select.specs.Passing.{met_by}
+use Rattle.vpf_select.specs.Inner.Passing.{met_by}
 use Rattle.vpf_select.proofs.ScanLemmas.{cell_in}
 use Rattle.vpf_select.proofs.passing.rows_met.Given as goal
 

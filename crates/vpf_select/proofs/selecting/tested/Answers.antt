@@ -1,10 +1,10 @@
 use Rattle.std.proofs.Common.{◌≡◌, ℕ, true, false, not, length, ap, sym, refl, ◌∙◌, arith}
-use Rattle.vpf_theme.proofs.WalkLemmas.{row_first, rows_rest}
+use Rattle.vpf_theme.specs.Inner.WalkLaws.{row_first, rows_rest}
 use Rattle.vpf_base.proofs.Lists.{find_pass, find_stop}
 use Rattle.vpf_value.specs.Values.{view}
 use Rattle.vpf_theme.specs.Ordering.{same_value}
 use Rattle.vpf_theme.specs.Findings.{cell_of, cells_of}
-use Rattle.vpf_theme.specs.KeyLaws.{same_yes, same_no}
+use Rattle.vpf_theme.specs.Inner.KeyLaws.{same_yes, same_no}
 use Rattle.vpf_select.specs.Selecting.{first_unlike}
 use Rattle.vpf_select.proofs.ScanLemmas.{found_more, cell_seen}
 use Rattle.vpf_select.proofs.selecting.tested.Goals as goal

@@ -1,6 +1,6 @@
 use Rattle.std.proofs.Common.{arith, ◌∙◌, ◌≡◌, Some}
 use Rattle.std.proofs.lemmas.List.{take_rest}
-use Rattle.vpf_table.specs.Widths.{width_of}
+use Rattle.vpf_table.specs.Inner.Widths.{width_of}
 use Rattle.vpf_table.proofs.OneSpelling.{read_is_canonical}
 use Rattle.vpf_table.proofs.ReadRows.{read_rows_fit}
 use Rattle.vpf_table.proofs.fixed_rows.fixed_rows.Goals as goal

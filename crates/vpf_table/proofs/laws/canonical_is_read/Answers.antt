@@ -1,6 +1,7 @@
 use Rattle.vpf_table.specs.Canonical.{canonical_table}
 use Rattle.vpf_table.proofs.TableLaws.{table_again}
-use Rattle.vpf_table.proofs.CanonicalTables.{table_spelled, table_spans, table_has_spans, table_opened}
+use Rattle.vpf_table.proofs.CanonicalTables.{table_spelled, table_spans, table_opened}
+use Rattle.vpf_table.specs.Inner.CanonicalLaws.{table_has_spans}
 use Rattle.vpf_table.proofs.laws.canonical_is_read.Goals as goal
 
 pub returns-clause-spelled : goal.returns-clause-spelled

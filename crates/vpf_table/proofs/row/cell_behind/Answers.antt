@@ -1,7 +1,7 @@
 use Rattle.std.proofs.Common.{◌≡◌, ◌+◌, ℕ, Some, Ok, drop, sym, ap, subst, ◌∙◌, arith}
-use Rattle.vpf_triplet.specs.declared.orders.Order.{Order}
+use Rattle.vpf_base.specs.declared.orders.Order.{Order}
 use Rattle.vpf_findings.specs.Values.{Value, view}
-use Rattle.vpf_head.specs.Views.{col}
+use Rattle.vpf_head.specs.Inner.Views.{col}
 use Rattle.vpf_table.specs.Reading.{cell_in, row_at}
 use Rattle.vpf_table.specs.Walking.{row_of, past_of}
 use Rattle.vpf_table.proofs.CellOf.{ends_at, read_is, length-row, at_column, is_ok_from, same_found}

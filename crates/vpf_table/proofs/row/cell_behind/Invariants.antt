@@ -1,6 +1,6 @@
 use Rattle.std.proofs.Common.{◌≡◌, ◌≤◌, length}
 use Rattle.vpf_table.specs.Reading.{row_at}
-use Rattle.vpf_table.specs.RowWalks.{IsLeft}
+use Rattle.vpf_table.specs.Inner.RowWalks.{IsLeft}
 use Rattle.vpf_table.proofs.row.cell_behind.Given as goal
 
 abbrev pub invariant-loop-i : goal.invariant-loop-i

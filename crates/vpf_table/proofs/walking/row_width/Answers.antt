@@ -1,8 +1,8 @@
 use Rattle.std.proofs.Common.{◌≡◌, ◌+◌, ◌^◌, List, Some, drop, sym, ap, ◌∙◌, rules}
 use Rattle.vpf_base.proofs.Lists.{next_item}
 use Rattle.vpf_head.specs.Head.{Col}
-use Rattle.vpf_head.specs.Views.{col}
-use Rattle.vpf_table.specs.Widths.{add_width, width_of}
+use Rattle.vpf_head.specs.Inner.Views.{col}
+use Rattle.vpf_table.specs.Inner.Widths.{add_width, width_of}
 use Rattle.vpf_table.proofs.FixedWidth.{add_step, no_width, wider}
 use Rattle.vpf_table.proofs.walking.row_width.Goals as goal
 

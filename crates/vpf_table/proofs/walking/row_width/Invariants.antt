@@ -1,5 +1,5 @@
 use Rattle.std.proofs.Common.{◌≡◌, Some, drop}
-use Rattle.vpf_table.specs.Widths.{add_width, width_of}
+use Rattle.vpf_table.specs.Inner.Widths.{add_width, width_of}
 use Rattle.vpf_table.proofs.walking.row_width.Given as goal
 
 abbrev pub invariant-loop-i : goal.invariant-loop-i

@@ -3,10 +3,11 @@ use Rattle.std.proofs.lemmas.Result.{err_from_is_err_and}
 use Rattle.std.proofs.lemmas.List.{drop_all}
 use Rattle.vpf_base.proofs.Lists.{next_item}
 use Rattle.vpf_head.specs.Head.{Col}
-use Rattle.vpf_head.specs.Views.{col}
+use Rattle.vpf_head.specs.Inner.Views.{col}
 use Rattle.vpf_table.specs.Reading.{row_at}
 use Rattle.vpf_table.specs.Walking.{end_of}
-use Rattle.vpf_table.proofs.WalkLemmas.{cell_passed, cell_refused, row_done}
+use Rattle.vpf_table.proofs.WalkLemmas.{row_done}
+use Rattle.vpf_table.specs.Inner.WalkLaws.{cell_passed, cell_refused}
 use Rattle.vpf_table.proofs.walking.skip_row.Goals as goal
 
 pub returns-in_err-past-clause-exact : goal.returns-in_err-past-clause-exact

@@ -1,6 +1,6 @@
 use Rattle.std.proofs.Common.{◌+◌, ℕ, drop, refl, sym, ap, ◌∙◌, arith}
 use Rattle.std.proofs.lemmas.List.{drop_all}
-use Rattle.vpf_head.specs.Views.{col}
+use Rattle.vpf_head.specs.Inner.Views.{col}
 use Rattle.vpf_table.specs.Reading.{row_at}
 use Rattle.vpf_table.specs.Walking.{row_of, past_of}
 use Rattle.vpf_table.proofs.CellOf.{at_column, ends_at, ends_here, is_ok_from, read_is}

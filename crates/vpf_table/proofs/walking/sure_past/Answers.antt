@@ -1,5 +1,5 @@
 use Rattle.std.proofs.Common.{sym, arith}
-use Rattle.vpf_head.specs.Views.{col}
+use Rattle.vpf_head.specs.Inner.Views.{col}
 use Rattle.vpf_table.proofs.FixedWidth.{cell_past}
 use Rattle.vpf_table.proofs.walking.sure_past.Goals as goal
 

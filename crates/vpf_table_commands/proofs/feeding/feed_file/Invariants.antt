@@ -1,7 +1,7 @@
 use Rattle.std.proofs.Common.{◌≡◌, ◌-◌, ◌≤◌, Some, length, take}
 use Rattle.vpf_source.specs.Causes.{Stood}
 use Rattle.vpf_source.specs.Files.{Files, bytes_of}
-use Rattle.vpf_feed.specs.Stages.{HoldsFed}
+use Rattle.vpf_feed.specs.Inner.Stages.{HoldsFed}
 use Rattle.vpf_table_commands.proofs.feeding.feed_file.Given as goal
 
 abbrev pub invariant-loop-at : goal.invariant-loop-at

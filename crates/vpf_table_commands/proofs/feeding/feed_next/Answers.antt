@@ -1,7 +1,7 @@
 use Rattle.std.proofs.Common.{◌≡◌, List, ℕ, Err, take, drop, subst}
 use Rattle.vpf_triplet.specs.Places.{ForPlace}
 use Rattle.vpf_table.specs.Reading.{table_of}
-use Rattle.vpf_feed.specs.Progress.{summed}
+use Rattle.vpf_feed.specs.Inner.Progress.{summed}
 use Rattle.vpf_source.specs.Files.{bytes_of}
 use Rattle.vpf_table_commands.proofs.Feedings.{fed_more, halts_so, parts_are}
 use Rattle.vpf_table_commands.proofs.feeding.feed_next.Goals as goal

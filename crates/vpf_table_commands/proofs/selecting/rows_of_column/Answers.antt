@@ -1,6 +1,6 @@
 use Rattle.std.proofs.Common.{◌≡◌, ◌∙◌, Some, sym, ap}
 use Rattle.vpf_head.specs.Head.{Col}
-use Rattle.vpf_head.specs.Views.{col}
+use Rattle.vpf_head.specs.Inner.Views.{col}
 use Rattle.vpf_table_commands.specs.Rows.{theme_file}
 use Rattle.vpf_table_commands.proofs.RowsFiles.{of_column}
 use Rattle.vpf_table_commands.proofs.selecting.rows_of_column.Goals as goal

@@ -1,6 +1,6 @@
 use Rattle.std.proofs.Common.{◌∙◌, arith, length, ap}
 use Rattle.vpf_value.specs.Values.{view}
-use Rattle.vpf_head.specs.Views.{col}
+use Rattle.vpf_head.specs.Inner.Views.{col}
 use Rattle.vpf_table_commands.proofs.Lines.{cell_put}
 use Rattle.vpf_table_commands.proofs.showing.put_cells.Goals as goal
 

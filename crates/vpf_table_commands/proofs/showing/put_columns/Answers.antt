@@ -1,5 +1,5 @@
 use Rattle.std.proofs.Common.{◌∙◌}
-use Rattle.vpf_head.specs.Views.{col}
+use Rattle.vpf_head.specs.Inner.Views.{col}
 use Rattle.vpf_table_commands.proofs.Lines.{column_put}
 use Rattle.vpf_table_commands.proofs.showing.put_columns.Goals as goal
 

@@ -1,5 +1,5 @@
 use Rattle.std.proofs.Common.{◌≡◌, ◌++◌}
-use Rattle.vpf_write.specs.Cuts.{joined}
+use Rattle.vpf_write.specs.Inner.Cuts.{joined}
 use Rattle.vpf_table_trials.proofs.lists.cells_of.Given as goal
 
 abbrev pub invariant-loop-row : goal.invariant-loop-row

@@ -4,8 +4,9 @@ use Rattle.vpf_value.specs.Values.{view}
 use Rattle.vpf_findings.specs.Findings.{Disagreement}
 use Rattle.vpf_theme.specs.Ordering.{same_value}
 use Rattle.vpf_theme.specs.Findings.{cell_of}
-use Rattle.vpf_theme.specs.KeyLaws.{same_yes, same_no}
-use Rattle.vpf_theme.proofs.WalkLemmas.{row_first, rows_rest, cell_there}
+use Rattle.vpf_theme.specs.Inner.KeyLaws.{same_yes, same_no}
+use Rattle.vpf_theme.proofs.WalkLemmas.{cell_there}
+use Rattle.vpf_theme.specs.Inner.WalkLaws.{row_first, rows_rest}
 use Rattle.vpf_theme.proofs.agreeing.check_cells.Goals as goal
 
 pub bounds-cells-row : goal.bounds-cells-row

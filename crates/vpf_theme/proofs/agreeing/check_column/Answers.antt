@@ -2,7 +2,7 @@ use Rattle.std.proofs.Common.{◌∙◌, sym, length}
 use Rattle.std.proofs.lemmas.List.{length-map}
 use Rattle.std.proofs.lemmas.Result.{err_from_is_err_and}
 use Rattle.vpf_value.specs.Values.{view}
-use Rattle.vpf_head.specs.Views.{col}
+use Rattle.vpf_head.specs.Inner.Views.{col}
 use Rattle.vpf_theme.specs.Findings.{cells_of, entries_finding, missing_line}
 use Rattle.vpf_theme.proofs.AgreeLemmas.{agree_left, agree_entries, fits_at, fits_rows, tells_or, length-cells}
 use Rattle.vpf_theme.proofs.agreeing.check_column.Goals as goal

@@ -1,7 +1,7 @@
 use Rattle.std.proofs.Common.{length, map, arith}
 use Rattle.std.proofs.lemmas.Result.{err_from_is_err_and}
 use Rattle.vpf_value.specs.Values.{view}
-use Rattle.vpf_head.specs.Views.{col}
+use Rattle.vpf_head.specs.Inner.Views.{col}
 use Rattle.vpf_theme.specs.Findings.{lines_at}
 use Rattle.vpf_theme.proofs.AgreeLemmas.{tells_stop}
 use Rattle.vpf_theme.proofs.FirstLemmas.{first_pass}

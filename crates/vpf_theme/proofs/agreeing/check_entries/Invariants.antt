@@ -1,9 +1,9 @@
 use Rattle.std.proofs.Common.{◌≡◌, ◌-◌, length, map}
 use Rattle.vpf_value.specs.Values.{view}
-use Rattle.vpf_head.specs.Views.{col}
+use Rattle.vpf_head.specs.Inner.Views.{col}
 use Rattle.vpf_findings.specs.Firsts.{first_over}
 use Rattle.vpf_theme.specs.Findings.{lines_at, entries_finding}
-use Rattle.vpf_theme.specs.Keeping.{HoldKeys}
+use Rattle.vpf_theme.specs.Inner.Keeping.{HoldKeys}
 use Rattle.vpf_theme.proofs.agreeing.check_entries.Given as goal
 
 abbrev pub invariant-loop-i : goal.invariant-loop-i

@@ -1,5 +1,5 @@
 use Rattle.std.proofs.Common.{◌≡◌}
-use Rattle.vpf_theme.specs.Views.{marked_left}
+use Rattle.vpf_theme.specs.Inner.Views.{marked_left}
 use Rattle.vpf_theme.proofs.hits.marked_step.Given as goal
 
 abbrev pub invariant-loop-k : goal.invariant-loop-k

@@ -1,4 +1,4 @@
-use Rattle.vpf_theme.specs.KeyLaws.{Decides-same_value}
+use Rattle.vpf_theme.specs.Inner.KeyLaws.{Decides-same_value}
 use Rattle.vpf_theme.proofs.OrderLemmas.{values_total, cmp_equal, of_fits, sort_of}
 use Rattle.vpf_theme.proofs.laws.values_are_ordered.Goals as goal
 

@@ -1,6 +1,7 @@
 use Rattle.std.proofs.Common.{length, arith}
 use Rattle.std.proofs.lemmas.List.{length-set}
-use Rattle.vpf_theme.proofs.WalkLemmas.{row_first, rows_rest, mark_more}
+use Rattle.vpf_theme.proofs.WalkLemmas.{mark_more}
+use Rattle.vpf_theme.specs.Inner.WalkLaws.{row_first, rows_rest}
 use Rattle.vpf_theme.proofs.marking.mark_rows.Goals as goal
 
 pub bounds-marks-row : goal.bounds-marks-row

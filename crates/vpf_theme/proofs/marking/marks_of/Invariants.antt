@@ -1,5 +1,5 @@
 use Rattle.std.proofs.Common.{take}
-use Rattle.vpf_theme.specs.Keeping.{HoldMarks}
+use Rattle.vpf_theme.specs.Inner.Keeping.{HoldMarks}
 use Rattle.vpf_theme.proofs.marking.marks_of.Given as goal
 
 abbrev pub invariant-loop-i : goal.invariant-loop-i

@@ -6,7 +6,7 @@ use Rattle.vpf_base.specs.Limits.{most_bytes}
 use Rattle.vpf_triplet.specs.declared.kinds.Count.TheVariants.{Fixed}
 use Rattle.vpf_value.specs.Values.{Nothing}
 use Rattle.vpf_head.specs.Head.{Col}
-use Rattle.vpf_head.specs.Views.{col}
+use Rattle.vpf_head.specs.Inner.Views.{col}
 use Rattle.vpf_table.specs.Grid.{Row}
 use Rattle.vpf_theme.specs.declared.layout.Layout.{Layout}
 use Rattle.vpf_theme.specs.Findings.{cells_of}
@@ -15,7 +15,8 @@ use Rattle.vpf_theme_build.specs.Grouping.{entries_for, entry_in}
 use Rattle.vpf_theme_build.specs.Text.{index_len, index_text}
 use Rattle.vpf_theme_build.specs.Building.{AgreeAt, AreRead, Builds, built_by, index_for, layout_for}
 use Rattle.vpf_theme_build.proofs.FieldLemmas.{are_entries, groups_len}
-use Rattle.vpf_theme_build.proofs.BuildLemmas.{agree_at, are_read, built_is, cells_fit, has_values, if_built, layout_is, one_column}
+use Rattle.vpf_theme_build.proofs.BuildLemmas.{agree_at, are_read, built_is, has_values, if_built, layout_is}
+use Rattle.vpf_theme_build.specs.Inner.BuildLaws.{cells_fit, one_column}
 use Rattle.vpf_theme_build.proofs.building.build_fixed.Goals as goal
 
 pub overflow_cast-layout : goal.overflow_cast-layout

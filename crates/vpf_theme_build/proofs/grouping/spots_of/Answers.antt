@@ -2,7 +2,7 @@ use Rattle.std.proofs.Common.{◌≡◌, ◌+◌, length, refl, ap, arith}
 use Rattle.std.specs.Prelude.{slice_index_or}
 use Rattle.std.proofs.lemmas.List.Elements.{All-push, All-rest}
 use Rattle.vpf_value.specs.Values.{Nothing, view}
-use Rattle.vpf_value.specs.Fitting.{FitsCell}
+use Rattle.vpf_value.specs.Inner.Fitting.{FitsCell}
 use Rattle.vpf_table.specs.Grid.{Row}
 use Rattle.vpf_table.specs.Canonical.{FitsRow}
 use Rattle.vpf_theme_build.specs.declared.grouping.Spot.{Spot}

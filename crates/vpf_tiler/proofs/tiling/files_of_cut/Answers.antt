@@ -3,7 +3,7 @@ use Rattle.std.proofs.lemmas.Result.{err_from_is_err_and}
 use Rattle.vpf_base.specs.Results.{Meets}
 use Rattle.vpf_source.specs.declared.file.File.{File}
 use Rattle.vpf_prims.specs.Reading.{primitives_of}
-use Rattle.vpf_cutting.specs.Cuts.{Cutting}
+use Rattle.vpf_cutting.specs.Inner.Cuts.{Cutting}
 use Rattle.vpf_tiler.specs.declared.errors.TileError.{TileError}
 use Rattle.vpf_tiler.specs.Making.{tile_error_seen}
 use Rattle.vpf_tiler.proofs.CutLemmas.{making_is}

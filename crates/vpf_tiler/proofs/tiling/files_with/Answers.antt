@@ -1,6 +1,6 @@
 use Rattle.std.proofs.Common.{rules}
 use Rattle.std.proofs.lemmas.Result.{err_from_is_err_and}
-use Rattle.vpf_cutting.specs.Cuts.{plan_by}
+use Rattle.vpf_cutting.specs.Inner.Cuts.{plan_by}
 use Rattle.vpf_tiler.specs.TileFiles.Tables.{library_tables}
 use Rattle.vpf_tiler.proofs.CutLemmas.{tiles_made, tiles_told}
 use Rattle.vpf_tiler.proofs.tiling.files_with.Goals as goal

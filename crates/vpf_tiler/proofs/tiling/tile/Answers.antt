@@ -4,9 +4,9 @@ use Rattle.vpf_source.specs.declared.file.File.{File}
 use Rattle.vpf_base.specs.Results.{Meets}
 use Rattle.vpf_prims.specs.Coverages.{tile_at}
 use Rattle.vpf_prims.specs.Tables.{TileTables}
-use Rattle.vpf_wing.specs.DartLaws.{same_some}
+use Rattle.vpf_wing.specs.Inner.DartLaws.{same_some}
 use Rattle.vpf_tiler.specs.Making.{tile_error_seen}
-use Rattle.vpf_tiler.specs.Laws.{AreTilesGiven, OfFilesMade}
+use Rattle.vpf_tiler.specs.Inner.Laws.{AreTilesGiven, OfFilesMade}
 use Rattle.vpf_tiler.specs.Making.{tiled}
 use Rattle.vpf_tiler.specs.Tilings.{GoesOnAs, HasCyclesOf, InEachFolder, IsGluedTo, IsHeldInTiles, OfEachCoverage, Tiling, tiling_of}
 use Rattle.vpf_tiler.proofs.MadeLemmas.{answered}

@@ -1,4 +1,4 @@
-use Rattle.vpf_trace.specs.Gathering.{AreGatheredTo}
+use Rattle.vpf_trace.specs.Inner.Gathering.{AreGatheredTo}
 use Rattle.vpf_trace.proofs.gathering.kept_darts.Given as goal
 
 abbrev pub invariant-loop-number : goal.invariant-loop-number

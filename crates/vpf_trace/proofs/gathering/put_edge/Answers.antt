@@ -1,8 +1,8 @@
 use Rattle.std.proofs.Common.{ℕ, List, OnOk, subst}
 use Rattle.vpf_prims.specs.Libraries.{library_of}
 use Rattle.vpf_prims.specs.Primitives.{edge_count}
-use Rattle.vpf_cross.proofs.ListLemmas.{darts_after}
-use Rattle.vpf_trace.specs.Gathering.{AreKeptAmong}
+use Rattle.vpf_cross.specs.ListLaws.{darts_after}
+use Rattle.vpf_trace.specs.Inner.Gathering.{AreKeptAmong}
 use Rattle.vpf_trace.proofs.gathering.put_edge.Goals as goal
 
 pub returns : goal.returns

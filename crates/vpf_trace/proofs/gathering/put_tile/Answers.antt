@@ -2,8 +2,8 @@ use Rattle.std.proofs.Common.{◌≡◌, ℕ, suc, ◌+◌, List, ap, sym, subst
 use Rattle.vpf_prims.specs.Libraries.{library_of}
 use Rattle.vpf_prims.specs.Primitives.{edge_count}
 use Rattle.vpf_cross.specs.FollowHomes.{darts_to}
-use Rattle.vpf_cross.proofs.ListLemmas.{to_tile}
-use Rattle.vpf_trace.specs.Gathering.{AreKeptAmong}
+use Rattle.vpf_cross.specs.ListLaws.{to_tile}
+use Rattle.vpf_trace.specs.Inner.Gathering.{AreKeptAmong}
 use Rattle.vpf_trace.proofs.gathering.put_tile.Goals as goal
 
 pub returns : goal.returns

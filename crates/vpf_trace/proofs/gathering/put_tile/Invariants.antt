@@ -1,4 +1,4 @@
-use Rattle.vpf_trace.specs.Gathering.{AreGatheredTo}
+use Rattle.vpf_trace.specs.Inner.Gathering.{AreGatheredTo}
 use Rattle.vpf_trace.proofs.gathering.put_tile.Given as goal
 
 abbrev pub invariant-loop-k : goal.invariant-loop-k

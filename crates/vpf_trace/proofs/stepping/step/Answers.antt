@@ -1,7 +1,8 @@
 use Rattle.std.proofs.Common.{sym, ◌∙◌}
 use Rattle.vpf_darts.specs.Darts.{tile_dart_code}
 use Rattle.vpf_prims.specs.Libraries.{library_of}
-use Rattle.vpf_trace.proofs.LineLemmas.{library_has_lines, library_is_map}
+use Rattle.vpf_trace.proofs.LineLemmas.{library_has_lines}
+use Rattle.vpf_trace.specs.Inner.LineLaws.{library_is_map}
 use Rattle.vpf_trace.proofs.WalkLemmas.{kept_parts, next_is_kept, passed_is}
 use Rattle.vpf_trace.proofs.stepping.step.Goals as goal
 

@@ -2,7 +2,7 @@ use Rattle.std.proofs.Common.{◌≡◌, None, subst}
 use Rattle.vpf_prims.specs.Coverages.{CoverageTables}
 use Rattle.vpf_prims.specs.Libraries.{IsLibrary, library_of}
 use Rattle.vpf_numbers.specs.TableLines.{coverage_numbers}
-use Rattle.vpf_trace.proofs.CheckedLemmas.{checked_traceable}
+use Rattle.vpf_trace.specs.Inner.CheckedLaws.{checked_traceable}
 use Rattle.vpf_trace.proofs.stepping.walks_pass_lines.Goals as goal
 
 pub returns : goal.returns

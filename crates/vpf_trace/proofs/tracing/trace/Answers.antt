@@ -2,7 +2,7 @@ use Rattle.std.proofs.Common.{subst}
 use Rattle.vpf_prims.specs.Coverages.{CoverageTables}
 use Rattle.vpf_prims.specs.Libraries.{library_of}
 use Rattle.vpf_wing.specs.Links.{links_of}
-use Rattle.vpf_trace.specs.Gathering.{AreKeptAmong}
+use Rattle.vpf_trace.specs.Inner.Gathering.{AreKeptAmong}
 use Rattle.vpf_trace.proofs.GatherLemmas.{gathered}
 use Rattle.vpf_trace.proofs.LineLemmas.{library_has_lines}
 use Rattle.vpf_trace.proofs.tracing.trace.Goals as goal

@@ -1,6 +1,7 @@
 use Rattle.vpf_triplet.specs.Canonical.{canonical}
-use Rattle.vpf_triplet.proofs.Canonicals.{canonical_spelled, shortest, spelled_small}
-use Rattle.vpf_triplet.proofs.Spelled.{triplet_again}
+use Rattle.vpf_triplet.proofs.Canonicals.{spelled_small}
+use Rattle.vpf_triplet.specs.Inner.CanonicalLaws.{canonical_spelled, shortest}
+use Rattle.vpf_triplet.specs.Inner.SpelledLaws.{triplet_again}
 use Rattle.vpf_triplet.proofs.laws.canonical_is_spelled.Goals as goal
 
 pub returns-clause-spelled : goal.returns-clause-spelled

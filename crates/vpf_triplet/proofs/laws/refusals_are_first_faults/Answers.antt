@@ -1,4 +1,5 @@
-use Rattle.vpf_triplet.proofs.Faults.{triplet_faults, triplet_refused}
+use Rattle.vpf_triplet.proofs.Faults.{triplet_refused}
+use Rattle.vpf_triplet.specs.Inner.FaultLaws.{triplet_faults}
 use Rattle.vpf_triplet.proofs.laws.refusals_are_first_faults.Goals as goal
 
 pub returns-clause-only : goal.returns-clause-only

@@ -1,5 +1,5 @@
 use Rattle.std.proofs.Common.{◌≡◌, ℕ, ◌<◌, get_or}
-use Rattle.vpf_value.specs.Coordinates.{words}
+use Rattle.vpf_value.specs.Inner.Coordinates.{words}
 use Rattle.vpf_value.proofs.comparing.same_words.Given as goal
 
 abbrev pub invariant-loop-i : goal.invariant-loop-i

@@ -2,8 +2,8 @@ use Rattle.std.specs.Prelude.{All}
 use Rattle.std.proofs.Common.{◌≡◌, ℕ, ◌<◌, ◌/◌, length, subst, sym, rules}
 use Rattle.vpf_value.specs.declared.coords.WordWidth.{WordWidth}
 use Rattle.vpf_value.specs.Words.{word_bytes, word_limit}
-use Rattle.vpf_value.specs.Coordinates.{words, words_width}
-use Rattle.vpf_value.specs.Fitting.{HoldsTuples}
+use Rattle.vpf_value.specs.Inner.Coordinates.{words, words_width}
+use Rattle.vpf_value.specs.Inner.Fitting.{HoldsTuples}
 use Rattle.vpf_value.proofs.WordLists.{words_of_below}
 use Rattle.vpf_value.proofs.fitting.are_tuples.Goals as goal
 

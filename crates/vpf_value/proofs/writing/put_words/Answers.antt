@@ -2,7 +2,7 @@ use Rattle.std.proofs.Common.{◌/◌, length, sym, ◌∙◌, append_assoc, rul
 use Rattle.std.proofs.lemmas.Grind.{common_steps}
 use Rattle.std.proofs.lemmas.List.{append-nil}
 use Rattle.vpf_value.specs.Words.{word_bytes}
-use Rattle.vpf_value.specs.Coordinates.{words, words_width}
+use Rattle.vpf_value.specs.Inner.Coordinates.{words, words_width}
 use Rattle.vpf_value.proofs.WordLists.{words_of_below}
 use Rattle.vpf_value.proofs.WordTexts.{word_text-drop, word_text-end}
 use Rattle.vpf_value.proofs.writing.put_words.Goals as goal

@@ -1,7 +1,7 @@
 use Rattle.std.proofs.Common.{◌≡◌, ◌++◌, take, drop}
 use Rattle.std.specs.Prelude.{vec_len}
 use Rattle.vpf_value.specs.Words.{spelled_words}
-use Rattle.vpf_value.specs.Coordinates.{words, words_width}
+use Rattle.vpf_value.specs.Inner.Coordinates.{words, words_width}
 use Rattle.vpf_value.proofs.writing.put_words.Given as goal
 
 abbrev pub invariant-loop-i : goal.invariant-loop-i

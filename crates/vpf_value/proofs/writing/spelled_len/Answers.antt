@@ -1,7 +1,7 @@
 use Rattle.std.proofs.Common.{◌∙◌, ◌+◌, ℕ, sym, ap}
 use Rattle.vpf_value.specs.Values.{WordsOf, view}
-use Rattle.vpf_value.specs.Fitting.{FitsCell}
-use Rattle.vpf_value.specs.Coordinates.{words, words_width}
+use Rattle.vpf_value.specs.Inner.Fitting.{FitsCell}
+use Rattle.vpf_value.specs.Inner.Coordinates.{words, words_width}
 use Rattle.vpf_value.proofs.Canonicals.{length-fixed, length-words}
 use Rattle.vpf_value.proofs.writing.spelled_len.Goals as goal
 

@@ -7,11 +7,12 @@ use Rattle.vpf_vectors.specs.declared.headers.TheConstants.{FACES, NODES, PLAN}
 use Rattle.vpf_vectors.specs.Heads.{face_head, node_head, plan_head}
 use Rattle.vpf_vectors.specs.Library.{tiles, grid_tables}
 use Rattle.vpf_vectors.specs.Tables.{grid_tileref, edge_table, ring_table, pair_table}
-use Rattle.vpf_vectors.proofs.HeadLemmas.{faces_read, nodes_read, plan_read, faces_have_pairs, nodes_have_pairs, plan_has_pairs}
-use Rattle.vpf_vectors.proofs.LimitLemmas.{tileref_limit, edges_limit, rings_limit, pairs_limit}
+use Rattle.vpf_vectors.proofs.HeadLemmas.{faces_read, nodes_read, plan_read}
+use Rattle.vpf_vectors.specs.Inner.HeadLaws.{faces_have_pairs, nodes_have_pairs, plan_has_pairs}
+use Rattle.vpf_vectors.specs.Inner.LimitLaws.{tileref_limit, edges_limit, rings_limit, pairs_limit}
 use Rattle.vpf_vectors.proofs.ReadLemmas.{tileref_is_writable, edges_are_writable, rings_are_writable, pairs_are_writable}
-use Rattle.vpf_vectors.proofs.SmallLemmas.{few_tiles, edges_are_small, edges_are_few, faces_are_small, faces_are_few, rings_are_small, rings_are_few}
-use Rattle.vpf_vectors.proofs.SmallLemmas.{nodes_are_small, nodes_are_few, homes_are_small, homes_are_few}
+use Rattle.vpf_vectors.proofs.SmallLemmas.{edges_are_small, faces_are_small, rings_are_small, nodes_are_small, homes_are_small}
+use Rattle.vpf_vectors.specs.Inner.SmallLaws.{few_tiles, edges_are_few, faces_are_few, rings_are_few, nodes_are_few, homes_are_few}
 use Rattle.vpf_vectors.proofs.laws.grid_is_read.Goals as goal
 
 pub returns : goal.returns

@@ -4,8 +4,9 @@ use Rattle.std.specs.List.{All}
 use Rattle.vpf_table.specs.Canonical.{canonical_table}
 use Rattle.vpf_vectors.specs.declared.cells.rows.EdgeRow.{EdgeRow}
 use Rattle.vpf_vectors.specs.Tables.{edge_table}
-use Rattle.vpf_vectors.specs.Writing.{IsSmallEdge}
-use Rattle.vpf_vectors.proofs.SmallLemmas.{edges_are_small, edges_are_few}
+use Rattle.vpf_vectors.specs.Inner.Writing.{IsSmallEdge}
+use Rattle.vpf_vectors.proofs.SmallLemmas.{edges_are_small}
+use Rattle.vpf_vectors.specs.Inner.SmallLaws.{edges_are_few}
 use Rattle.vpf_vectors.proofs.library.edge_bytes.Goals as goal
 
 pub edge_table-requires-clause-few : goal.edge_table-requires-clause-few

@@ -5,9 +5,11 @@ use Rattle.vpf_head.specs.Head.{Head}
 use Rattle.vpf_table.specs.Canonical.{canonical_table}
 use Rattle.vpf_vectors.specs.Heads.{face_head}
 use Rattle.vpf_vectors.specs.Tables.{pair_table}
-use Rattle.vpf_vectors.specs.Writing.{IsGridNumber, HasPairs}
-use Rattle.vpf_vectors.proofs.HeadLemmas.{faces_ok, faces_read, faces_have_pairs}
-use Rattle.vpf_vectors.proofs.SmallLemmas.{faces_are_small, faces_are_few}
+use Rattle.vpf_vectors.specs.Inner.Writing.{IsGridNumber, HasPairs}
+use Rattle.vpf_vectors.proofs.HeadLemmas.{faces_ok, faces_read}
+use Rattle.vpf_vectors.specs.Inner.HeadLaws.{faces_have_pairs}
+use Rattle.vpf_vectors.proofs.SmallLemmas.{faces_are_small}
+use Rattle.vpf_vectors.specs.Inner.SmallLaws.{faces_are_few}
 use Rattle.vpf_vectors.proofs.library.face_bytes.Goals as goal
 
 pub header_in-requires : goal.header_in-requires

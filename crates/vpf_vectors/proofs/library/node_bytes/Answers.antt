@@ -5,9 +5,11 @@ use Rattle.vpf_head.specs.Head.{Head}
 use Rattle.vpf_table.specs.Canonical.{canonical_table}
 use Rattle.vpf_vectors.specs.Heads.{node_head}
 use Rattle.vpf_vectors.specs.Tables.{pair_table}
-use Rattle.vpf_vectors.specs.Writing.{IsGridNumber, HasPairs}
-use Rattle.vpf_vectors.proofs.HeadLemmas.{nodes_ok, nodes_read, nodes_have_pairs}
-use Rattle.vpf_vectors.proofs.SmallLemmas.{nodes_are_small, nodes_are_few}
+use Rattle.vpf_vectors.specs.Inner.Writing.{IsGridNumber, HasPairs}
+use Rattle.vpf_vectors.proofs.HeadLemmas.{nodes_ok, nodes_read}
+use Rattle.vpf_vectors.specs.Inner.HeadLaws.{nodes_have_pairs}
+use Rattle.vpf_vectors.proofs.SmallLemmas.{nodes_are_small}
+use Rattle.vpf_vectors.specs.Inner.SmallLaws.{nodes_are_few}
 use Rattle.vpf_vectors.proofs.library.node_bytes.Goals as goal
 
 pub header_in-requires : goal.header_in-requires

@@ -5,9 +5,10 @@ use Rattle.vpf_head.specs.Head.{Head}
 use Rattle.vpf_table.specs.Canonical.{canonical_table}
 use Rattle.vpf_vectors.specs.Heads.{plan_head}
 use Rattle.vpf_vectors.specs.Tables.{pair_table}
-use Rattle.vpf_vectors.specs.Writing.{IsGridNumber, HasPairs}
-use Rattle.vpf_vectors.proofs.HeadLemmas.{plan_has_pairs}
-use Rattle.vpf_vectors.proofs.SmallLemmas.{homes_are_small, homes_are_few}
+use Rattle.vpf_vectors.specs.Inner.Writing.{IsGridNumber, HasPairs}
+use Rattle.vpf_vectors.specs.Inner.HeadLaws.{plan_has_pairs}
+use Rattle.vpf_vectors.proofs.SmallLemmas.{homes_are_small}
+use Rattle.vpf_vectors.specs.Inner.SmallLaws.{homes_are_few}
 use Rattle.vpf_vectors.proofs.library.plan_bytes.Goals as goal
 
 pub pair_table-requires-clause-head : goal.pair_table-requires-clause-head

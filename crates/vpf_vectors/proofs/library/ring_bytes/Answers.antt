@@ -4,8 +4,9 @@ use Rattle.std.specs.List.{All}
 use Rattle.vpf_table.specs.Canonical.{canonical_table}
 use Rattle.vpf_vectors.specs.declared.cells.rows.RingRow.{RingRow}
 use Rattle.vpf_vectors.specs.Tables.{ring_table}
-use Rattle.vpf_vectors.specs.Writing.{IsSmallRingRow}
-use Rattle.vpf_vectors.proofs.SmallLemmas.{rings_are_small, rings_are_few}
+use Rattle.vpf_vectors.specs.Inner.Writing.{IsSmallRingRow}
+use Rattle.vpf_vectors.proofs.SmallLemmas.{rings_are_small}
+use Rattle.vpf_vectors.specs.Inner.SmallLaws.{rings_are_few}
 use Rattle.vpf_vectors.proofs.library.ring_bytes.Goals as goal
 
 pub ring_table-requires-clause-few : goal.ring_table-requires-clause-few

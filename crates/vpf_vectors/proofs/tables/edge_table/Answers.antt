@@ -6,8 +6,10 @@ use Rattle.vpf_table.specs.Grid.{Grid}
 use Rattle.vpf_vectors.specs.Heads.{edge_head}
 use Rattle.vpf_vectors.specs.Tables.{edge_cells}
 use Rattle.vpf_vectors.proofs.HeadLemmas.{edges_ok, edges_read}
-use Rattle.vpf_vectors.proofs.LimitLemmas.{edges_limit, limit_with}
-use Rattle.vpf_vectors.proofs.RowLemmas.{put_more, put_all, table_with, no_edge}
+use Rattle.vpf_vectors.proofs.LimitLemmas.{limit_with}
+use Rattle.vpf_vectors.specs.Inner.LimitLaws.{edges_limit}
+use Rattle.vpf_vectors.proofs.RowLemmas.{table_with, no_edge}
+use Rattle.vpf_vectors.specs.Inner.RowLaws.{put_rows_more as put_more, put_rows_all as put_all}
 use Rattle.vpf_vectors.proofs.tables.edge_table.Goals as goal
 
 pub header_in-requires : goal.header_in-requires

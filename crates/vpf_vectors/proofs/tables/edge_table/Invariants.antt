@@ -1,6 +1,6 @@
 use Rattle.std.proofs.Common.{◌≡◌, map, take}
 use Rattle.std.specs.List.{enumerate_from}
-use Rattle.vpf_write.specs.Tallies.{Holds}
+use Rattle.vpf_write.specs.Inner.Tallies.{Holds}
 use Rattle.vpf_vectors.specs.Heads.{edge_head}
 use Rattle.vpf_vectors.specs.Tables.{edge_cells}
 use Rattle.vpf_vectors.proofs.tables.edge_table.Given as goal

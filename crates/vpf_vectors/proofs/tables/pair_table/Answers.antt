@@ -4,8 +4,10 @@ use Rattle.std.specs.List.{enumerate_from}
 use Rattle.vpf_table.specs.Canonical.{canonical_table}
 use Rattle.vpf_table.specs.Grid.{Grid}
 use Rattle.vpf_vectors.specs.Tables.{pair_cells}
-use Rattle.vpf_vectors.proofs.LimitLemmas.{pairs_limit, limit_with}
-use Rattle.vpf_vectors.proofs.RowLemmas.{put_more, put_all, table_with}
+use Rattle.vpf_vectors.proofs.LimitLemmas.{limit_with}
+use Rattle.vpf_vectors.specs.Inner.LimitLaws.{pairs_limit}
+use Rattle.vpf_vectors.proofs.RowLemmas.{table_with}
+use Rattle.vpf_vectors.specs.Inner.RowLaws.{put_rows_more as put_more, put_rows_all as put_all}
 use Rattle.vpf_vectors.proofs.tables.pair_table.Goals as goal
 
 pub loop-i-preserved : goal.loop-i-preserved

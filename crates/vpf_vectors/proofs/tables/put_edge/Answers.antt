@@ -1,7 +1,7 @@
 use Rattle.std.proofs.Common.{List, [], ◌∷◌, ◌++◌, subst}
 use Rattle.std.specs.Prelude.{OnOk}
 use Rattle.vpf_table.specs.Grid.{Row}
-use Rattle.vpf_write.specs.Tallies.{Holds}
+use Rattle.vpf_write.specs.Inner.Tallies.{Holds}
 use Rattle.vpf_vectors.proofs.CellLemmas.{edge_is, edge_cells_fit}
 use Rattle.vpf_vectors.proofs.tables.put_edge.Goals as goal
 

@@ -6,8 +6,10 @@ use Rattle.vpf_table.specs.Grid.{Grid}
 use Rattle.vpf_vectors.specs.Heads.{ring_head}
 use Rattle.vpf_vectors.specs.Tables.{ring_cells}
 use Rattle.vpf_vectors.proofs.HeadLemmas.{rings_ok, rings_read}
-use Rattle.vpf_vectors.proofs.LimitLemmas.{rings_limit, limit_with}
-use Rattle.vpf_vectors.proofs.RowLemmas.{put_more, put_all, table_with, no_ring}
+use Rattle.vpf_vectors.proofs.LimitLemmas.{limit_with}
+use Rattle.vpf_vectors.specs.Inner.LimitLaws.{rings_limit}
+use Rattle.vpf_vectors.proofs.RowLemmas.{table_with, no_ring}
+use Rattle.vpf_vectors.specs.Inner.RowLaws.{put_rows_more as put_more, put_rows_all as put_all}
 use Rattle.vpf_vectors.proofs.tables.ring_table.Goals as goal
 
 pub header_in-requires : goal.header_in-requires

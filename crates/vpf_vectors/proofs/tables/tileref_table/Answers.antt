@@ -3,11 +3,12 @@ use Rattle.std.specs.Prelude.{IfOk}
 use Rattle.std.specs.List.{range_with_len}
 use Rattle.vpf_table.specs.Canonical.{canonical_table}
 use Rattle.vpf_table.specs.Grid.{Grid}
-use Rattle.vpf_write.specs.Tallies.{Holds}
+use Rattle.vpf_write.specs.Inner.Tallies.{Holds}
 use Rattle.vpf_vectors.specs.Heads.{tileref_head}
 use Rattle.vpf_vectors.specs.Tables.{tile_cells}
 use Rattle.vpf_vectors.proofs.HeadLemmas.{tileref_ok, tileref_read}
-use Rattle.vpf_vectors.proofs.LimitLemmas.{tileref_limit, limit_with}
+use Rattle.vpf_vectors.proofs.LimitLemmas.{limit_with}
+use Rattle.vpf_vectors.specs.Inner.LimitLaws.{tileref_limit}
 use Rattle.vpf_vectors.proofs.RowLemmas.{put_next, table_with}
 use Rattle.vpf_vectors.proofs.tables.tileref_table.Goals as goal
 

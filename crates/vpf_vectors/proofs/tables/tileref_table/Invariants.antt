@@ -1,6 +1,6 @@
 use Rattle.std.proofs.Common.{◌≡◌, ◌-◌, map}
 use Rattle.std.specs.List.{range_with_len}
-use Rattle.vpf_write.specs.Tallies.{Holds}
+use Rattle.vpf_write.specs.Inner.Tallies.{Holds}
 use Rattle.vpf_vectors.specs.Heads.{tileref_head}
 use Rattle.vpf_vectors.specs.Tables.{tile_cells}
 use Rattle.vpf_vectors.proofs.tables.tileref_table.Given as goal

@@ -4,7 +4,8 @@ use Rattle.vpf_prims.specs.Primitives.{own_edges}
 use Rattle.vpf_prims.specs.Reading.{primitives_of}
 use Rattle.vpf_wing.specs.CycleLines.{cycles_finding}
 use Rattle.vpf_wing.proofs.GridLemmas.{tells_on}
-use Rattle.vpf_wing.proofs.TileLemmas.{or_first, or_later, tells_same, wings_part, sides_part, rings_part, nodes_part, wings_told, sides_told, rings_told}
+use Rattle.vpf_wing.proofs.TileLemmas.{or_later, tells_same, wings_part, sides_part, rings_part, nodes_part, wings_told, sides_told, rings_told}
+use Rattle.vpf_findings.specs.Inner.FirstLaws.{or_first}
 use Rattle.vpf_wing.proofs.checking.check_tile.Goals as goal
 
 pub returns-in_err-darts : goal.returns-in_err-darts

@@ -4,7 +4,7 @@ use Rattle.std.proofs.lemmas.List.Elements.{All-push}
 use Rattle.vpf_darts.specs.MapLists.{IsInRange}
 use Rattle.vpf_wing.specs.Nexts.{next_dart, dart_at}
 use Rattle.vpf_wing.specs.Wings.{wing_line}
-use Rattle.vpf_findings.specs.FirstLaws.{over_pass, over_found}
+use Rattle.vpf_findings.specs.Inner.FirstLaws.{over_pass, over_found}
 use Rattle.vpf_wing.proofs.MapLemmas.{place_inside}
 use Rattle.vpf_wing.proofs.NextLemmas.{owners_more, line_free, line_none, line_taken, nexts_more}
 use Rattle.vpf_wing.proofs.following.nexts.Goals as goal

@@ -1,7 +1,7 @@
 use Rattle.std.proofs.Common.{◌≡◌, ◌≢◌, length, get_or, ap, ◌∙◌, arith, subst, ℕ}
 use Rattle.std.proofs.lemmas.List.{with_items_is}
-use Rattle.vpf_wing.specs.NextPlaces.{next_in}
-use Rattle.vpf_wing.specs.Leasts.{MarksCycle}
+use Rattle.vpf_wing.specs.Inner.NextPlaces.{next_in}
+use Rattle.vpf_wing.specs.Inner.Leasts.{MarksCycle}
 use Rattle.vpf_wing.proofs.MarkLemmas.{AreMarked, AreMarked-more, AreMarked-skip, AreMarked-all, any_default}
 use Rattle.vpf_wing.proofs.leasts.least_places.Goals as goal
 use Rattle.vpf_wing.proofs.leasts.least_places.Goals.{then-index-none, else-index-none}

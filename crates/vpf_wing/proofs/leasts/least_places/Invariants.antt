@@ -1,5 +1,5 @@
 use Rattle.std.proofs.Common.{length}
-use Rattle.vpf_wing.specs.NextPlaces.{next_in}
+use Rattle.vpf_wing.specs.Inner.NextPlaces.{next_in}
 use Rattle.vpf_wing.proofs.MarkLemmas.{AreMarked}
 use Rattle.vpf_wing.proofs.leasts.least_places.Given as goal
 

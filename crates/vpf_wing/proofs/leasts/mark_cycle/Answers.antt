@@ -1,5 +1,5 @@
 use Rattle.std.proofs.Common.{◌≡◌, ◌<◌, length, get_or, ◌∙◌, arith}
-use Rattle.vpf_wing.specs.NextPlaces.{next_in}
+use Rattle.vpf_wing.specs.Inner.NextPlaces.{next_in}
 use Rattle.vpf_wing.proofs.MarkLemmas.{IsWalked-more, MarksCycle-from_walked, any_default}
 use Rattle.vpf_wing.proofs.leasts.mark_cycle.Goals as goal
 

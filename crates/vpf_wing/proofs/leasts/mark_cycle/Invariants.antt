@@ -1,6 +1,6 @@
 use Rattle.std.proofs.Common.{length, eqb}
 use Rattle.std.specs.List.{count_by}
-use Rattle.vpf_wing.specs.NextPlaces.{next_in}
+use Rattle.vpf_wing.specs.Inner.NextPlaces.{next_in}
 use Rattle.vpf_wing.proofs.MarkLemmas.{IsWalked}
 use Rattle.vpf_wing.proofs.leasts.mark_cycle.Given as goal
 

@@ -8,7 +8,8 @@ use Rattle.vpf_prims.specs.Reading.{primitives_of}
 use Rattle.vpf_wing.specs.declared.rings.Ring.{Ring}
 use Rattle.vpf_wing.specs.CycleLines.{faces_of_rings, own_rings, ring_cycle}
 use Rattle.vpf_wing.proofs.RangeLemmas.{faces_in, starts_in}
-use Rattle.vpf_wing.proofs.TileLemmas.{or_first, or_later}
+use Rattle.vpf_wing.proofs.TileLemmas.{or_later}
+use Rattle.vpf_findings.specs.Inner.FirstLaws.{or_first}
 use Rattle.vpf_wing.proofs.rings.check_rings.Goals as goal
 
 pub new-requires-clause-few : goal.new-requires-clause-few

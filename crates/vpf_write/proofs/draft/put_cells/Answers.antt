@@ -2,7 +2,7 @@ use Rattle.std.proofs.Common.{◌++◌, ℕ, List, drop, map, sym, ap, ◌∙◌
 use Rattle.std.proofs.lemmas.List.{append-nil, drop_all}
 use Rattle.vpf_base.proofs.Lists.{next_item}
 use Rattle.vpf_value.specs.Values.{view}
-use Rattle.vpf_head.specs.Views.{col}
+use Rattle.vpf_head.specs.Inner.Views.{col}
 use Rattle.vpf_write.proofs.RowTexts.{next_cell, next_value, cell_inside, cell_put, row_end}
 use Rattle.vpf_write.proofs.draft.put_cells.Goals as goal
 

@@ -1,5 +1,5 @@
 use Rattle.std.proofs.Common.{◌++◌, length, drop, refl}
-use Rattle.vpf_write.specs.Turning.{turned_rows}
+use Rattle.vpf_write.specs.Inner.Turning.{turned_rows}
 use Rattle.vpf_write.proofs.Blocks.{behind_turned}
 use Rattle.vpf_write.proofs.in_place.turn_over.Goals as goal
 

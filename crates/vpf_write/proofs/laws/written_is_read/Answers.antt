@@ -1,4 +1,4 @@
-use Rattle.vpf_write.proofs.WritingLaws.{small_table}
+use Rattle.vpf_write.specs.Inner.WritingLaws.{small_table}
 use Rattle.vpf_write.proofs.laws.written_is_read.Goals as goal
 
 pub returns-clause-spelled : goal.returns-clause-spelled

@@ -1,7 +1,8 @@
 use Rattle.std.proofs.Common.{◌∙◌}
 use Rattle.vpf_table.specs.Canonical.{canonical_table, in_order}
 use Rattle.vpf_table.specs.Reading.{table_of}
-use Rattle.vpf_write.proofs.WritingLaws.{limits_either, same_table, small_table, writable_in_order, twice_table, twice_index}
+use Rattle.vpf_write.proofs.WritingLaws.{limits_either, same_table, writable_in_order, twice_table, twice_index}
+use Rattle.vpf_write.specs.Inner.WritingLaws.{small_table}
 use Rattle.vpf_write.proofs.laws.written_twice_is_canonical.Goals as goal
 
 pub returns-clause-limits : goal.returns-clause-limits

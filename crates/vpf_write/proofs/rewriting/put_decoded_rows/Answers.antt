@@ -1,7 +1,7 @@
 use Rattle.std.proofs.lemmas.List.Elements.{All-rest}
 use Rattle.vpf_base.specs.Limits.{most_bytes}
 use Rattle.vpf_table.specs.Canonical.{FitsRow}
-use Rattle.vpf_write.specs.Drafts.{progress}
+use Rattle.vpf_write.specs.Inner.Drafts.{progress}
 use Rattle.vpf_write.proofs.RowTexts.{row_put, rows_put, row_room, row_fits}
 use Rattle.vpf_write.proofs.rewriting.put_decoded_rows.Goals as goal
 

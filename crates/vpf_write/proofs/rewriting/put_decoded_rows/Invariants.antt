@@ -2,7 +2,7 @@ use Rattle.std.proofs.Common.{◌≡◌, ◌≤◌, ◌+◌, length}
 use Rattle.std.specs.Prelude.{All}
 use Rattle.vpf_base.specs.Limits.{most_bytes}
 use Rattle.vpf_table.specs.Canonical.{FitsRow, rows_text}
-use Rattle.vpf_write.specs.Drafts.{progress, with_rows}
+use Rattle.vpf_write.specs.Inner.Drafts.{progress, with_rows}
 use Rattle.vpf_write.proofs.rewriting.put_decoded_rows.Given as goal
 
 abbrev pub invariant-loop-row : goal.invariant-loop-row

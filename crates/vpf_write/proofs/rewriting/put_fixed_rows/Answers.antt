@@ -1,10 +1,10 @@
 use Rattle.std.proofs.Common.{◌≡◌, ◌≢◌, ap, sym, ◌∙◌, rules}
 use Rattle.std.proofs.lemmas.Result.{on_ok_weaker}
 use denote.Enum.Bare.{same_true, same_false}
-use Rattle.vpf_triplet.specs.contracts.orders.Order.{the_type}
+use Rattle.vpf_base.specs.contracts.orders.Order.{the_type}
 use Rattle.vpf_table.specs.Canonical.{rows_text}
-use Rattle.vpf_write.specs.Drafts.{progress}
-use Rattle.vpf_write.specs.Turning.{fields_of}
+use Rattle.vpf_write.specs.Inner.Drafts.{progress}
+use Rattle.vpf_write.specs.Inner.Turning.{fields_of}
 use Rattle.vpf_write.proofs.FixedRows.{bytes_put, turned_put, fields_wide}
 use Rattle.vpf_write.proofs.rewriting.put_fixed_rows.Goals as goal
 

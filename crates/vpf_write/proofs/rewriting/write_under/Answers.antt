@@ -1,7 +1,8 @@
 use Rattle.std.proofs.Common.{◌∙◌, arith}
 use Rattle.vpf_table.specs.Canonical.{in_order}
-use Rattle.vpf_write.specs.Drafts.{progress}
-use Rattle.vpf_write.proofs.WholeTables.{estimate_stands, told_limit, within_limits, begun_room, written_by}
+use Rattle.vpf_write.specs.Inner.Drafts.{progress}
+use Rattle.vpf_write.proofs.WholeTables.{estimate_stands, told_limit, begun_room, written_by}
+use Rattle.vpf_write.specs.Inner.WholeLaws.{within_limits}
 use Rattle.vpf_write.proofs.rewriting.write_under.Goals as goal
 
 pub returns-in-Some : goal.returns-in-Some

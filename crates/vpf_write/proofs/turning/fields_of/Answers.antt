@@ -1,5 +1,5 @@
 use Rattle.vpf_base.proofs.Lists.{next_item}
-use Rattle.vpf_head.specs.Views.{col}
+use Rattle.vpf_head.specs.Inner.Views.{col}
 use Rattle.vpf_write.proofs.Blocks.{field_by, field_pushed}
 use Rattle.vpf_write.proofs.turning.fields_of.Goals as goal
 

@@ -1,5 +1,5 @@
 use Rattle.std.proofs.Common.{◌≡◌, ◌++◌, map, drop}
-use Rattle.vpf_write.specs.Turning.{field_of, fields_of}
+use Rattle.vpf_write.specs.Inner.Turning.{field_of, fields_of}
 use Rattle.vpf_write.proofs.turning.fields_of.Given as goal
 
 abbrev pub invariant-loop-c : goal.invariant-loop-c

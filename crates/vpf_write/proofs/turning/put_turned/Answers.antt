@@ -1,7 +1,7 @@
 use Rattle.std.proofs.Common.{◌≡◌, ◌++◌, ◌-◌, ◌∙◌, length, min, ap, arith, rules}
 use Rattle.std.proofs.lemmas.List.{length-append, with_items_is}
 use borrow.Rule.Slice.PartMut.{put_mid}
-use Rattle.vpf_write.specs.Turning.{turned_rows}
+use Rattle.vpf_write.specs.Inner.Turning.{turned_rows}
 use Rattle.vpf_write.proofs.Blocks.{behind_turned, length-behind, block_put, no_more}
 use Rattle.vpf_write.proofs.turning.put_turned.Goals as goal
 

@@ -1,5 +1,5 @@
 use Rattle.std.proofs.Common.{◌≡◌, ◌++◌, length}
-use Rattle.vpf_write.specs.Turning.{turned_rows}
+use Rattle.vpf_write.specs.Inner.Turning.{turned_rows}
 use Rattle.vpf_write.proofs.turning.put_turned.Given as goal
 
 abbrev pub invariant-loop-left : goal.invariant-loop-left

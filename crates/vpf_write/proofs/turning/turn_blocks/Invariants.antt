@@ -1,5 +1,5 @@
 use Rattle.std.proofs.Common.{◌-◌, length}
-use Rattle.vpf_write.specs.Turning.{turned_rows}
+use Rattle.vpf_write.specs.Inner.Turning.{turned_rows}
 use Rattle.vpf_write.proofs.Blocks.{Turning}
 use Rattle.vpf_write.proofs.turning.turn_blocks.Given as goal
 

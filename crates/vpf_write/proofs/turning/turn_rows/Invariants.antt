@@ -1,5 +1,5 @@
 use Rattle.std.proofs.Common.{length, drop}
-use Rattle.vpf_write.specs.Turning.{turned_rows}
+use Rattle.vpf_write.specs.Inner.Turning.{turned_rows}
 use Rattle.vpf_write.proofs.Pieces.{Left}
 use Rattle.vpf_write.proofs.turning.turn_rows.Given as goal
 

@@ -1,5 +1,5 @@
 use Rattle.std.proofs.Common.{arith, ◌*◌, ◌+◌, ◌-◌, take, drop}
-use Rattle.vpf_write.specs.Turning.{turned_words}
+use Rattle.vpf_write.specs.Inner.Turning.{turned_words}
 use Rattle.vpf_write.proofs.Pieces.{none_changed, one_changed, all_changed, word_turned, turned_words_keeps}
 use Rattle.vpf_write.proofs.turning.turn_word.Goals as goal
 

@@ -1,6 +1,6 @@
 use Rattle.std.proofs.Common.{◌*◌, ◌/◌, ◌-◌, length}
-use Rattle.vpf_value.specs.Turning.{each_piece}
-use Rattle.vpf_write.specs.Turning.{turned_words}
+use Rattle.vpf_value.specs.Inner.Turning.{each_piece}
+use Rattle.vpf_write.specs.Inner.Turning.{turned_words}
 use Rattle.vpf_write.proofs.Pieces.{Changing}
 use Rattle.vpf_write.proofs.turning.turn_word.Given as goal
 

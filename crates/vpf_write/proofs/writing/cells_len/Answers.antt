@@ -3,7 +3,7 @@ use Rattle.std.proofs.lemmas.List.{drop_all, length-append}
 use Rattle.vpf_base.proofs.Lists.{next_item}
 use Rattle.vpf_value.specs.Values.{view}
 use Rattle.vpf_value.specs.Canonical.{spelled}
-use Rattle.vpf_head.specs.Views.{col}
+use Rattle.vpf_head.specs.Inner.Views.{col}
 use Rattle.vpf_table.specs.Canonical.{row_text}
 use Rattle.vpf_write.proofs.RowTexts.{next_cell, next_value, cell_inside, row_end}
 use Rattle.vpf_write.proofs.writing.cells_len.Goals as goal

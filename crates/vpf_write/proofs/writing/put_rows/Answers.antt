@@ -1,5 +1,5 @@
 use Rattle.std.proofs.Common.{◌≡◌, ◌∙◌, ◌+◌, ◌-◌, [], length, drop, refl, arith}
-use Rattle.vpf_write.specs.Cuts.{cut}
+use Rattle.vpf_write.specs.Inner.Cuts.{cut}
 use Rattle.vpf_write.proofs.Cutting.{next_row, no_rows}
 use Rattle.vpf_write.proofs.Tallied.{all_put, put_next}
 use Rattle.vpf_write.proofs.writing.put_rows.Goals as goal

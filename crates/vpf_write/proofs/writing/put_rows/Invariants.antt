@@ -1,7 +1,7 @@
 use Rattle.std.proofs.Common.{◌≡◌, ◌-◌, drop, length}
 use Rattle.std.specs.Prelude.{All}
 use Rattle.vpf_table.specs.Canonical.{FitsRow}
-use Rattle.vpf_write.specs.Cuts.{cut}
+use Rattle.vpf_write.specs.Inner.Cuts.{cut}
 use Rattle.vpf_write.proofs.Tallied.{IsPutSoFar}
 use Rattle.vpf_write.proofs.writing.put_rows.Given as goal
 

@@ -1,7 +1,7 @@
 use Rattle.std.proofs.Common.{◌≡◌, true, ap, sym, ◌∙◌, Some}
 use Rattle.std.specs.Prelude.{codes}
 use Rattle.vpf_library_files.specs.Loading.Loading.{within}
-use Rattle.vpf_coverage.specs.Opening.Opens.{is_first_file}
+use Rattle.vpf_coverage.specs.Inner.Opening.Opens.{is_first_file}
 use Rattle.vpf_coverage.proofs.opening.FolderLemmas.{some_folder}
 use Rattle.vpf_coverage.proofs.opening.folders.open_folder.Goals as goal
 

@@ -1,5 +1,5 @@
 use Rattle.std.proofs.Common.{sym, subst}
-use Rattle.vpf_coverage.specs.Opening.Opens.{Opens, OpensEnd}
+use Rattle.vpf_coverage.specs.Inner.Opening.Opens.{Opens, OpensEnd}
 use Rattle.vpf_coverage.proofs.opening.folders.open_tables.Goals as goal
 
 pub next_table-requires-2 : goal.next_table-requires-2

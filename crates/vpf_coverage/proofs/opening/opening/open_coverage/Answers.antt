@@ -2,7 +2,7 @@ use Rattle.std.proofs.Common.{◌≡◌, subst}
 use Rattle.std.specs.Prelude.{IfOk}
 use Rattle.vpf_prims.specs.Coverages.{CoverageTables}
 use Rattle.vpf_coverage.specs.declared.opening.opening.OpenCoverage.{OpenCoverage}
-use Rattle.vpf_coverage.specs.Opening.Opened.{opened_coverage}
+use Rattle.vpf_coverage.specs.Inner.Opening.Opened.{opened_coverage}
 use Rattle.vpf_coverage.proofs.opening.CoverageLemmas.{none_tiled, own_folder, some_untiled}
 use Rattle.vpf_coverage.proofs.opening.opening.open_coverage.Goals as goal
 

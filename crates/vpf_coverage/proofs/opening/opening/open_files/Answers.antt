@@ -1,5 +1,5 @@
 use Rattle.std.proofs.Common.{List, ℕ, sym, subst, ◌∙◌}
-use Rattle.vpf_coverage.specs.Opening.OpensTiles.{OpensCoverage}
+use Rattle.vpf_coverage.specs.Inner.Opening.OpensTiles.{OpensCoverage}
 use Rattle.vpf_coverage.proofs.opening.opening.open_files.Goals as goal
 
 pub open_coverage-requires : goal.open_coverage-requires

@@ -1,6 +1,6 @@
 use Rattle.std.proofs.Common.{◌≡◌, ℕ, suc, ◌+◌, ◌<◌, ◌∷◌, [], arith, length-append}
 use Rattle.std.proofs.lemmas.List.Elements.{All-push}
-use Rattle.vpf_coverage.specs.Opening.Opened.{placed_views}
+use Rattle.vpf_coverage.specs.Inner.Opening.Opened.{placed_views}
 use Rattle.vpf_coverage.proofs.opening.LoopLemmas.{all_opened, next_opens, one_more, path_there}
 use Rattle.vpf_coverage.proofs.opening.opening.open_tiles.Goals as goal
 

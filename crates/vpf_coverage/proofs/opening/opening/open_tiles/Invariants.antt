@@ -1,8 +1,8 @@
 use Rattle.std.proofs.Common.{◌≡◌, ◌+◌, ◌*◌, ◌<◌, ◌≤◌, ◌^◌, List, Option, length}
 use Rattle.std.specs.Prelude.{All}
 use Rattle.vpf_prims.specs.Tables.{TileTables}
-use Rattle.vpf_coverage.specs.Opening.Opened.{placed_views}
-use Rattle.vpf_coverage.specs.Opening.OpensTiles.{OpensTiles}
+use Rattle.vpf_coverage.specs.Inner.Opening.Opened.{placed_views}
+use Rattle.vpf_coverage.specs.Inner.Opening.OpensTiles.{OpensTiles}
 use Rattle.vpf_coverage.proofs.opening.LoopLemmas.{Ahead}
 use Rattle.vpf_coverage.proofs.opening.opening.open_tiles.Given as goal
 

@@ -1,5 +1,5 @@
 use Rattle.std.proofs.Common.{subst}
-use Rattle.vpf_coverage.specs.Opening.Opens.{Opens}
+use Rattle.vpf_coverage.specs.Inner.Opening.Opens.{Opens}
 use Rattle.vpf_coverage.proofs.opening.tables.next_table.Goals as goal
 
 pub returns-clause-table : goal.returns-clause-table

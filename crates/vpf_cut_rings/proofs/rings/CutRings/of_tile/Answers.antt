@@ -1,11 +1,11 @@
 use Rattle.std.proofs.Common.{◌≡◌, ◌^◌, ◌<◌, ◌≤◌, ◌++◌, ◌∙◌, sym, ap, subst, arith, length, map}
 use Rattle.std.proofs.lemmas.List.{length-map, take_all}
 use Rattle.std.specs.Prelude.{flat_map}
-use Rattle.vpf_cutting.specs.Cuts.{Cutting, plan_by}
+use Rattle.vpf_cutting.specs.Inner.Cuts.{Cutting, plan_by}
 use Rattle.vpf_prims.specs.Primitives.{Primitives}
 use Rattle.vpf_tiling.specs.Presence.{held_faces}
 use Rattle.vpf_tiling.specs.Tiles.{face_rings, outer_rings, tiled_rings}
-use Rattle.vpf_cut_rings.specs.Rings.{ring_of}
+use Rattle.vpf_cut_rings.specs.Inner.Rings.{ring_of}
 use Rattle.vpf_cut_rings.proofs.FewLemmas.{rings_few}
 use Rattle.vpf_cut_rings.proofs.rings.CutRings.of_tile.Goals as goal
 

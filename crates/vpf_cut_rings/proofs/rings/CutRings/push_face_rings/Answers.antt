@@ -2,16 +2,17 @@ use Rattle.std.proofs.Common.{◌≡◌, ℕ, ◌<◌, ◌≤◌, ◌++◌, ◌�
 use Rattle.std.proofs.lemmas.List.{take_all}
 use Rattle.std.proofs.lemmas.List.Elements.{All-push}
 use Rattle.std.specs.Prelude.{All}
-use Rattle.vpf_copies.specs.Presence.{items_in}
-use Rattle.vpf_cutting.specs.Cuts.{Cutting, plan_by}
+use Rattle.vpf_cutting.specs.Inner.Copies.Presence.{items_in}
+use Rattle.vpf_cutting.specs.Inner.Cuts.{Cutting, plan_by}
 use Rattle.vpf_prims.specs.Lists.{kth}
 use Rattle.vpf_prims.specs.Numbering.{IsRowOf}
 use Rattle.vpf_prims.specs.Primitives.{Primitives, absent_ring}
 use Rattle.vpf_prims.specs.References.{id_of}
 use Rattle.vpf_tiling.specs.Presence.{has_edge, holds_face}
 use Rattle.vpf_tiling.specs.Tiles.{face_rings}
-use Rattle.vpf_cut_rings.specs.Rings.{HasSmallNumbers, ring_of}
-use Rattle.vpf_cut_rings.proofs.PlaceLemmas.{IsKeptRing, kept_ring, made_more, one_ring, ring_in, rings_kept}
+use Rattle.vpf_cut_rings.specs.Inner.Rings.{HasSmallNumbers, ring_of}
+use Rattle.vpf_cut_rings.proofs.PlaceLemmas.{IsKeptRing, kept_ring, one_ring, ring_in, rings_kept}
+use Rattle.vpf_cut_rings.specs.Inner.PlaceLaws.{made_more}
 use Rattle.vpf_cut_rings.proofs.rings.CutRings.push_face_rings.Goals as goal
 
 pub ring-start-requires : goal.ring-start-requires

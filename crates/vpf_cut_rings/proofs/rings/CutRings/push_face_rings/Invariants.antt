@@ -1,8 +1,8 @@
 use Rattle.std.proofs.Common.{◌≡◌, ◌++◌, map, take}
 use Rattle.std.specs.Prelude.{All}
-use Rattle.vpf_copies.specs.Presence.{items_in}
-use Rattle.vpf_cutting.specs.Cuts.{plan_by}
-use Rattle.vpf_cut_rings.specs.Rings.{HasSmallNumbers, ring_of}
+use Rattle.vpf_cutting.specs.Inner.Copies.Presence.{items_in}
+use Rattle.vpf_cutting.specs.Inner.Cuts.{plan_by}
+use Rattle.vpf_cut_rings.specs.Inner.Rings.{HasSmallNumbers, ring_of}
 use Rattle.vpf_cut_rings.proofs.PlaceLemmas.{ring_in}
 use Rattle.vpf_cut_rings.proofs.rings.CutRings.push_face_rings.Given as goal
 

@@ -3,8 +3,8 @@ use Rattle.vpf_darts.specs.declared.darts.Dart.{Dart}
 use Rattle.vpf_darts.specs.Darts.{dart_code}
 use Rattle.vpf_prims.specs.Numbering.{IsRowOf}
 use Rattle.vpf_tiling.specs.Presence.{is_present}
-use Rattle.vpf_cutting.specs.Cuts.{plan_by}
-use Rattle.vpf_cutting.specs.WalkLaws.{has_edge_row}
+use Rattle.vpf_cutting.specs.Inner.Cuts.{plan_by}
+use Rattle.vpf_cutting.specs.Inner.WalkLaws.{has_edge_row}
 use Rattle.vpf_cutting.proofs.DartLemmas.{edge_references, side_is}
 use Rattle.vpf_cutting.proofs.cut.Cut.edge.Goals as goal
 

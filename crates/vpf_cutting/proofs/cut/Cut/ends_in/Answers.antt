@@ -3,8 +3,8 @@ use Rattle.vpf_darts.specs.declared.darts.Dart.{Dart}
 use Rattle.vpf_darts.specs.Darts.{code, dart_code}
 use Rattle.vpf_prims.specs.Numbering.{IsRowOf}
 use Rattle.vpf_tiling.specs.Presence.{head_of, local_node, present_nodes}
-use Rattle.vpf_cutting.specs.Cuts.{plan_by}
-use Rattle.vpf_cutting.specs.WalkLaws.{has_edge_row}
+use Rattle.vpf_cutting.specs.Inner.Cuts.{plan_by}
+use Rattle.vpf_cutting.specs.Inner.WalkLaws.{has_edge_row}
 use Rattle.vpf_cutting.proofs.DartLemmas.{head_there, side_is}
 use Rattle.vpf_cutting.proofs.FirstLemmas.{node_within}
 use Rattle.vpf_cutting.proofs.cut.Cut.ends_in.Goals as goal

@@ -3,7 +3,7 @@ use Rattle.std.proofs.lemmas.Bool.{and_parts}
 use Rattle.vpf_prims.specs.Numbering.{IsRowOf}
 use Rattle.vpf_prims.specs.Primitives.{Primitives, entities_in}
 use Rattle.vpf_tiling.specs.Presence.{containing_face, holds_face, local_face}
-use Rattle.vpf_cutting.specs.Cuts.{plan_by}
+use Rattle.vpf_cutting.specs.Inner.Cuts.{plan_by}
 use Rattle.vpf_cutting.proofs.PlacingLemmas.{entity_row}
 use Rattle.vpf_cutting.proofs.cut.Cut.entity.Goals as goal
 

@@ -1,7 +1,7 @@
 use Rattle.std.proofs.Common.{ap, ◌∙◌, subst}
 use Rattle.vpf_darts.specs.Darts.{dart_code}
 use Rattle.vpf_tiling.specs.Presence.{face_of}
-use Rattle.vpf_cutting.specs.Cuts.{Cutting, IsPlanned}
+use Rattle.vpf_cutting.specs.Inner.Cuts.{Cutting, IsPlanned}
 use Rattle.vpf_cutting.proofs.DartLemmas.{face_row}
 use Rattle.vpf_cutting.proofs.cut.Cut.face.Goals as goal
 

@@ -1,8 +1,8 @@
 use Rattle.std.proofs.Common.{◌≡◌, ℕ, ◌+◌, ◌^◌, ◌<◌, ◌≤◌, ap, ◌∙◌, sym, subst, arith, List, length, get_or}
 use Rattle.std.proofs.lemmas.List.{with_items_is}
 use Rattle.vpf_tiling.specs.Presence.{present_edges}
-use Rattle.vpf_cutting.specs.Cuts.{plan_by}
-use Rattle.vpf_cutting.specs.Rows.{ArePutAt}
+use Rattle.vpf_cutting.specs.Inner.Cuts.{plan_by}
+use Rattle.vpf_cutting.specs.Inner.Rows.{ArePutAt}
 use Rattle.vpf_cutting.proofs.FirstLemmas.{AreFirsts, firsts_are, firsts_few, firsts_more}
 use Rattle.vpf_cutting.proofs.cut.Cut.first_edges.Goals as goal
 

@@ -1,4 +1,4 @@
-use Rattle.vpf_cutting.specs.Cuts.{plan_by}
+use Rattle.vpf_cutting.specs.Inner.Cuts.{plan_by}
 use Rattle.vpf_cutting.proofs.FirstLemmas.{AreFirsts}
 use Rattle.vpf_cutting.proofs.cut.Cut.first_edges.Given as goal
 

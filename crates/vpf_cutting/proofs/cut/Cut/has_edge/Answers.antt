@@ -1,5 +1,5 @@
 use Rattle.std.proofs.Common.{ℕ, Bool, ◌∙◌, ap, subst}
-use Rattle.vpf_cutting.specs.Cuts.{AreCutEdges}
+use Rattle.vpf_cutting.specs.Inner.Cuts.{AreCutEdges}
 use Rattle.vpf_cutting.proofs.cut.Cut.has_edge.Goals as goal
 
 pub returns : goal.returns

@@ -1,7 +1,7 @@
 use Rattle.std.proofs.Common.{◌≡◌, ◌^◌, ◌<◌, ◌∙◌, subst, sym, arith}
 use Rattle.vpf_tiling.specs.Presence.{local_edge}
-use Rattle.vpf_wing.specs.DartLaws.{none_is_some, same_some}
-use Rattle.vpf_cutting.specs.Cuts.{AreCutEdges, plan_by}
+use Rattle.vpf_wing.specs.Inner.DartLaws.{none_is_some, same_some}
+use Rattle.vpf_cutting.specs.Inner.Cuts.{AreCutEdges, plan_by}
 use Rattle.vpf_cutting.proofs.ListLemmas.{edge_few, number_is}
 use Rattle.vpf_cutting.proofs.cut.Cut.local_edge.Goals as goal
 

@@ -2,8 +2,8 @@ use Rattle.std.proofs.Common.{◌≡◌, ◌+◌, ◌^◌, ◌<◌, ap, ◌∙�
 use Rattle.std.specs.Prelude.{count_by}
 use Rattle.std.specs.List.{range_with_len}
 use Rattle.vpf_tiling.specs.Presence.{holds_face, local_face}
-use Rattle.vpf_wing.specs.DartLaws.{none_is_some, same_some}
-use Rattle.vpf_cutting.specs.Cuts.{AreCutFaces, plan_by}
+use Rattle.vpf_wing.specs.Inner.DartLaws.{none_is_some, same_some}
+use Rattle.vpf_cutting.specs.Inner.Cuts.{AreCutFaces, plan_by}
 use Rattle.vpf_cutting.proofs.ListLemmas.{face_few, number_is}
 use Rattle.vpf_cutting.proofs.cut.Cut.local_face.Goals as goal
 

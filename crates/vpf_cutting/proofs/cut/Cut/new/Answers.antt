@@ -1,5 +1,5 @@
 use Rattle.std.proofs.Common.{ℕ, ap}
-use Rattle.vpf_cutting.specs.Cuts.{cutting_of}
+use Rattle.vpf_cutting.specs.Inner.Cuts.{cutting_of}
 use Rattle.vpf_cutting.proofs.PlacingLemmas.{cut_kept}
 use Rattle.vpf_cutting.proofs.cut.Cut.new.Goals as goal
 

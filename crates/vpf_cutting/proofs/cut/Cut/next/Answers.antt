@@ -3,7 +3,7 @@ use Rattle.vpf_darts.specs.Darts.{dart_code}
 use Rattle.vpf_prims.specs.Numbering.{IsRowOf}
 use Rattle.vpf_prims.specs.Reading.{primitives_of}
 use Rattle.vpf_tiling.specs.Presence.{next_of}
-use Rattle.vpf_cutting.specs.Cuts.{Cutting, IsPlanned}
+use Rattle.vpf_cutting.specs.Inner.Cuts.{Cutting, IsPlanned}
 use Rattle.vpf_cutting.proofs.DartLemmas.{next_row}
 use Rattle.vpf_cutting.proofs.RowLemmas.{next_is, next_some}
 use Rattle.vpf_cutting.proofs.cut.Cut.next.Goals as goal

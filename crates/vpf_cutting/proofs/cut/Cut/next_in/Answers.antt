@@ -1,9 +1,9 @@
 use Rattle.std.proofs.Common.{◌<◌, ◌^◌, ap, ◌∙◌, sym, arith}
 use Rattle.vpf_darts.specs.Darts.{dart_code}
 use Rattle.vpf_tiling.specs.Presence.{untiled_links}
-use Rattle.vpf_tiling.specs.PresenceLaws.{present_has}
-use Rattle.vpf_cutting.specs.Cuts.{plan_by}
-use Rattle.vpf_cutting.specs.WalkLaws.{absent_edges, present_kept}
+use Rattle.vpf_tiling.specs.Inner.PresenceLaws.{present_has}
+use Rattle.vpf_cutting.specs.Inner.Cuts.{plan_by}
+use Rattle.vpf_cutting.specs.Inner.WalkLaws.{absent_edges, present_kept}
 use Rattle.vpf_cutting.proofs.DartLemmas.{next_there, same_code}
 use Rattle.vpf_cutting.proofs.cut.Cut.next_in.Goals as goal
 

@@ -1,6 +1,6 @@
 use Rattle.std.proofs.Common.{◌∙◌}
 use Rattle.vpf_darts.specs.Darts.{dart_code}
-use Rattle.vpf_cutting.specs.Cuts.{plan_by}
+use Rattle.vpf_cutting.specs.Inner.Cuts.{plan_by}
 use Rattle.vpf_cutting.proofs.DartLemmas.{head_onward, head_there, node_here, node_there, present_row}
 use Rattle.vpf_cutting.proofs.cut.Cut.node_cell.Goals as goal
 

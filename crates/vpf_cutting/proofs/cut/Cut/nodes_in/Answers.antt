@@ -1,6 +1,6 @@
 use Rattle.std.proofs.Common.{◌∙◌, subst}
 use Rattle.vpf_tiling.specs.Presence.{has_node}
-use Rattle.vpf_cutting.specs.Cuts.{AreCutNodes, plan_by}
+use Rattle.vpf_cutting.specs.Inner.Cuts.{AreCutNodes, plan_by}
 use Rattle.vpf_cutting.proofs.ListLemmas.{each_passes, few_pass, items_are, rows_pass}
 use Rattle.vpf_cutting.proofs.cut.Cut.nodes_in.Goals as goal
 

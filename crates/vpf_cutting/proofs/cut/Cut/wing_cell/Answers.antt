@@ -1,7 +1,7 @@
 use Rattle.std.proofs.Common.{◌≡◌, ◌∙◌, subst, true}
 use Rattle.vpf_darts.specs.Darts.{dart_code}
 use Rattle.vpf_tiling.specs.Presence.{is_present}
-use Rattle.vpf_cutting.specs.Cuts.{plan_by}
+use Rattle.vpf_cutting.specs.Inner.Cuts.{plan_by}
 use Rattle.vpf_cutting.proofs.DartLemmas.{edge_there, present_row, wing_here, wing_there}
 use Rattle.vpf_cutting.proofs.cut.Cut.wing_cell.Goals as goal
 

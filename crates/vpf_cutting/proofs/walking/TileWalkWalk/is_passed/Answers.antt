@@ -1,5 +1,5 @@
 use Rattle.std.proofs.Common.{◌<◌, ◌^◌, arith}
-use Rattle.vpf_cutting.specs.Cuts.{plan_by}
+use Rattle.vpf_cutting.specs.Inner.Cuts.{plan_by}
 use Rattle.vpf_cutting.proofs.DartLemmas.{is_passed_over}
 use Rattle.vpf_cutting.proofs.walking.TileWalkWalk.is_passed.Goals as goal
 

@@ -1,6 +1,6 @@
 use Rattle.std.proofs.Common.{ap, ◌∙◌}
 use Rattle.vpf_darts.specs.Darts.{tile_dart_code}
-use Rattle.vpf_darts.proofs.DartLemmas.{flip-tile_dart}
+use Rattle.vpf_darts.specs.Inner.DartLaws.{flip-tile_dart}
 use Rattle.vpf_darts.proofs.removing.KeptWalk.flip.Goals as goal
 
 pub returns : goal.returns

@@ -1,8 +1,8 @@
 use Rattle.std.proofs.Common.{◌+◌, ◌++◌, List, drop, sym, ap, ◌∙◌}
 use Rattle.vpf_base.proofs.Lists.{next_item}
 use Rattle.vpf_head.specs.Head.{Col}
-use Rattle.vpf_head.specs.Views.{col}
-use Rattle.vpf_feed.specs.RowForm.Form.{form_fields}
+use Rattle.vpf_head.specs.Inner.Views.{col}
+use Rattle.vpf_feed.specs.Inner.RowForm.Form.{form_fields}
 use Rattle.vpf_feed.proofs.row_form.form.fields_in.Goals as goal
 
 pub loop-i-preserved : goal.loop-i-preserved

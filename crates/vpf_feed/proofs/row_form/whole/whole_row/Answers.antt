@@ -1,7 +1,7 @@
 use Rattle.std.proofs.Common.{◌≡◌, ◌+◌, ◌-◌, ◌≤◌, ◌++◌, ℕ, length, drop, take, refl, sym, ap, ◌∙◌, arith}
 use Rattle.std.proofs.lemmas.List.{length-drop, take_all}
 use Rattle.std.proofs.lemmas.Option.{slice_get_read}
-use Rattle.vpf_feed.specs.RowForm.Walk.{row_left}
+use Rattle.vpf_feed.specs.Inner.RowForm.Walk.{row_left}
 use Rattle.vpf_feed.proofs.row_form.Passing.{cell_more, row_full}
 use Rattle.vpf_feed.proofs.row_form.whole.whole_row.Goals as goal
 

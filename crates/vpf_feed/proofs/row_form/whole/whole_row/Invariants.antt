@@ -1,5 +1,5 @@
 use Rattle.std.proofs.Common.{◌≡◌, ◌+◌, ◌≤◌, ◌++◌, List, ℕ, length, drop}
-use Rattle.vpf_feed.specs.RowForm.Walk.{row_left}
+use Rattle.vpf_feed.specs.Inner.RowForm.Walk.{row_left}
 use Rattle.vpf_feed.proofs.row_form.whole.whole_row.Given as goal
 
 abbrev pub invariant-loop-i : goal.invariant-loop-i

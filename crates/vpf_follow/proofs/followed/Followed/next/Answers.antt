@@ -2,7 +2,8 @@ use Rattle.std.proofs.Common.{◌≡◌, ◌^◌, ◌<◌, sym, arith}
 use Rattle.vpf_darts.specs.Darts.{tile_dart_code}
 use Rattle.vpf_wing.specs.Links.{links_of}
 use Rattle.vpf_prims.specs.Libraries.{library_of}
-use Rattle.vpf_follow.proofs.FollowedLemmas.{follower_home, home_has, is_followed}
+use Rattle.vpf_follow.proofs.FollowedLemmas.{follower_home, is_followed}
+use Rattle.vpf_follow.specs.Inner.FollowLaws.{home_has}
 use Rattle.vpf_follow.proofs.followed.Followed.next.Goals as goal
 
 pub unreachable-requires : goal.unreachable-requires

@@ -3,7 +3,7 @@ use Rattle.std.specs.List.{enumerate_from}
 use Rattle.vpf_head.specs.Head.{Head}
 use Rattle.vpf_write.specs.Writing.{Writes}
 use Rattle.vpf_vectors.specs.Tables.{pair_cells}
-use Rattle.vpf_vectors.proofs.RowLemmas.{put_all, put_more}
+use Rattle.vpf_vectors.specs.Inner.RowLaws.{put_rows_all as put_all, put_rows_more as put_more}
 use Rattle.vpf_glue.proofs.glued_tables.plan.write_plan.Goals as goal
 
 pub loop-k-preserved : goal.loop-k-preserved

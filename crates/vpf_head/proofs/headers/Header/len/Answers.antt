@@ -1,5 +1,5 @@
 use Rattle.std.proofs.Common.{subst}
-use Rattle.vpf_head.specs.Soundness.{IsSound}
+use Rattle.vpf_head.specs.Inner.Soundness.{IsSound}
 use Rattle.vpf_head.proofs.headers.Header.len.Goals as goal
 
 pub returns-clause-sound : goal.returns-clause-sound

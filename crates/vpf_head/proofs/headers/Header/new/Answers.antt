@@ -2,7 +2,7 @@ use Rattle.std.proofs.Common.{subst, ◌∙◌}
 use Rattle.std.proofs.lemmas.Result.{err_from_is_err_and}
 use Rattle.std.specs.Option.{option_copied}
 use Rattle.vpf_triplet.specs.Places.{Fails}
-use Rattle.vpf_head.specs.Views.{head_of_parts}
+use Rattle.vpf_head.specs.Inner.Views.{head_of_parts}
 use Rattle.vpf_head.proofs.Makings.{made, spelled_made}
 use Rattle.vpf_head.proofs.headers.Header.new.Goals as goal
 

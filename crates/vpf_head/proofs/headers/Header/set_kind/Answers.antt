@@ -1,4 +1,4 @@
-use Rattle.vpf_head.specs.Views.{header_parts}
+use Rattle.vpf_head.specs.Inner.Views.{header_parts}
 use Rattle.vpf_head.proofs.SoundLaws.{in_kind}
 use Rattle.vpf_head.proofs.headers.Header.set_kind.Goals as goal
 

@@ -1,5 +1,5 @@
 use Rattle.std.proofs.Common.{arith}
-use Rattle.vpf_head.specs.Views.{header_parts}
+use Rattle.vpf_head.specs.Inner.Views.{header_parts}
 use Rattle.vpf_head.proofs.Canonicals.{length-text}
 use Rattle.vpf_head.proofs.headers.Header.text_len.Goals as goal
 

@@ -1,5 +1,5 @@
 use Rattle.std.proofs.Common.{refl}
-use Rattle.vpf_head.specs.Views.{header_parts}
+use Rattle.vpf_head.specs.Inner.Views.{header_parts}
 use Rattle.vpf_head.proofs.Entries.{copies_same}
 use Rattle.vpf_head.proofs.SoundLaws.{in_order}
 use Rattle.vpf_head.proofs.headers.Header.with_order.Goals as goal

@@ -4,9 +4,9 @@ use Rattle.std.proofs.lemmas.Result.{err_from_is_err_and}
 use Rattle.vpf_table.specs.Grid.{Row}
 use Rattle.vpf_findings.specs.Findings.{Disagreement}
 use Rattle.vpf_findings.specs.Firsts.{Tells}
-use Rattle.vpf_findings.specs.FirstLaws.{rows_pass}
+use Rattle.vpf_findings.specs.Inner.FirstLaws.{rows_pass}
 use Rattle.vpf_prims.specs.Columns.{role_at}
-use Rattle.vpf_library_files.specs.Tileref.Texts.{texts_in}
+use Rattle.vpf_library_files.specs.Inner.Tileref.Texts.{texts_in}
 use Rattle.vpf_library_files.specs.Tileref.Tileref.{row_path, tile_row_lines}
 use Rattle.vpf_library_files.proofs.tileref.TakingLemmas.{next_is, next_path, paths_more, stepped, stops_at_row, taken_more, texts_more}
 use Rattle.vpf_library_files.proofs.tileref.rows.paths_of.Goals as goal

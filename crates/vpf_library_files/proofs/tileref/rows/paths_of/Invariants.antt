@@ -4,7 +4,7 @@ use Rattle.std.specs.List.{list_all}
 use Rattle.vpf_findings.specs.Firsts.{first_of_rows}
 use Rattle.vpf_prims.specs.Columns.{role_at}
 use Rattle.vpf_library_files.specs.Tileref.Paths.{is_path, path_text}
-use Rattle.vpf_library_files.specs.Tileref.Texts.{texts_in}
+use Rattle.vpf_library_files.specs.Inner.Tileref.Texts.{texts_in}
 use Rattle.vpf_library_files.specs.Tileref.Tileref.{row_path, tile_row_lines, tile_rows_finding}
 use Rattle.vpf_library_files.proofs.tileref.rows.paths_of.Given as goal
 

@@ -1,5 +1,5 @@
 use Rattle.std.proofs.Common.{◌∙◌, sym}
-use Rattle.vpf_primitive_tables.specs.TableForms.Models.{values_of_edge}
+use Rattle.vpf_primitive_tables.specs.Inner.TableForms.Models.{values_of_edge}
 use Rattle.vpf_primitive_tables.proofs.table_forms.NewCellLemmas.{edge_values_are, seven_same}
 use Rattle.vpf_primitive_tables.proofs.table_forms.edges.new_cells.Goals as goal
 

@@ -1,4 +1,4 @@
-use Rattle.std.proofs.Common.{◌≡◌, ℕ, ◌+◌, true, List, [], ◌∷◌, ◌++◌, length, get_or, sym, ap, ◌∙◌, subst, arith}
+use Rattle.std.proofs.Common.{[], ◌≡◌, ℕ, ◌+◌, true, List, ◌∷◌, ◌++◌, length, get_or, sym, ap, ◌∙◌, subst, arith}
 use Rattle.std.specs.Prelude.{All}
 use Rattle.std.proofs.lemmas.List.Elements.{All-get_or}
 use Rattle.vpf_head.specs.Head.{Head}
@@ -10,14 +10,15 @@ use Rattle.vpf_tiling.specs.Presence.{has_edge, present_edges}
 use Rattle.vpf_tiling.specs.Ranks.{numbered}
 use Rattle.vpf_tiling.specs.Tiles.{tiled_edge}
 use Rattle.vpf_write.specs.Writing.{Writes}
-use Rattle.vpf_cutting.specs.Cuts.{plan_by}
+use Rattle.vpf_cutting.specs.Inner.Cuts.{plan_by}
 use Rattle.vpf_triplet.specs.declared.kinds.Kind.{Kind}
 use Rattle.vpf_table.specs.Grid.{Grid, Row}
-use Rattle.vpf_write.specs.Tallies.{Holds}
-use Rattle.vpf_primitive_tables.specs.TableForms.Models.{values_of_edge}
+use Rattle.vpf_write.specs.Inner.Tallies.{Holds}
+use Rattle.vpf_primitive_tables.specs.Inner.TableForms.Models.{values_of_edge}
 use Rattle.vpf_primitive_tables.specs.TableForms.Forms.{EdgeValues, edge_kinds_of, edge_values_of, head_like}
 use Rattle.vpf_primitive_tables.specs.TileTables.Grids.{edge_values}
-use Rattle.vpf_primitive_tables.proofs.table_forms.CountedRows.{put_all, put_more, rows_within}
+use Rattle.vpf_primitive_tables.proofs.table_forms.CountedRows.{rows_within}
+use Rattle.vpf_primitive_tables.specs.Inner.TableForms.CountedLaws.{put_all, put_more}
 use Rattle.vpf_primitive_tables.proofs.tile_tables.edges.write_edges.Goals as goal
 
 pub edge-requires : goal.edge-requires

@@ -3,8 +3,8 @@ use Rattle.vpf_prims.specs.Lists.{kth}
 use Rattle.vpf_write.specs.Revise.Revising.{revised}
 use Rattle.vpf_tiling.specs.Ranks.{numbered}
 use Rattle.vpf_tiling.specs.Tiles.{tiled_edge}
-use Rattle.vpf_write.specs.Tallies.{Holds}
-use Rattle.vpf_cutting.specs.Cuts.{plan_by}
+use Rattle.vpf_write.specs.Inner.Tallies.{Holds}
+use Rattle.vpf_cutting.specs.Inner.Cuts.{plan_by}
 use Rattle.vpf_primitive_tables.specs.TableForms.Forms.{edge_kinds_of, head_like}
 use Rattle.vpf_primitive_tables.specs.TileTables.Grids.{edge_values}
 use Rattle.vpf_primitive_tables.proofs.tile_tables.edges.write_edges.Given as goal

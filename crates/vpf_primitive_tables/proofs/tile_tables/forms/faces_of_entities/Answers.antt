@@ -1,7 +1,7 @@
 use Rattle.std.proofs.Common.{◌≡◌, ℕ, true, arith}
 use Rattle.std.proofs.lemmas.List.Elements.{All-get_or}
 use Rattle.vpf_tiling.specs.Presence.{holds_entity}
-use Rattle.vpf_cutting.specs.Cuts.{plan_by}
+use Rattle.vpf_cutting.specs.Inner.Cuts.{plan_by}
 use Rattle.vpf_primitive_tables.proofs.tile_tables.forms.faces_of_entities.Goals as goal
 
 pub entity-requires : goal.entity-requires

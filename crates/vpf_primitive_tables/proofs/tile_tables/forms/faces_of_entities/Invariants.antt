@@ -1,7 +1,7 @@
 use Rattle.std.proofs.Common.{◌≡◌, ℕ, ◌<◌, ◌^◌, map, take}
 use Rattle.std.specs.Prelude.{All}
 use Rattle.vpf_tiling.specs.Presence.{containing_face, local_face}
-use Rattle.vpf_cutting.specs.Cuts.{plan_by}
+use Rattle.vpf_cutting.specs.Inner.Cuts.{plan_by}
 use Rattle.vpf_primitive_tables.proofs.tile_tables.forms.faces_of_entities.Given as goal
 
 abbrev pub invariant-loop-entity : goal.invariant-loop-entity

@@ -1,4 +1,4 @@
-use Rattle.std.proofs.Common.{◌≡◌, ℕ, ◌+◌, ◌<◌, List, [], length, get_or, ap, ◌∙◌, slice_index_or, subst, sym, arith}
+use Rattle.std.proofs.Common.{[], ◌≡◌, ℕ, ◌+◌, ◌<◌, List, length, get_or, ap, ◌∙◌, slice_index_or, subst, sym, arith}
 use Rattle.vpf_head.specs.Head.{Head}
 use Rattle.vpf_prims.specs.Lists.{kth}
 use Rattle.vpf_table.specs.Canonical.{FitsRow}
@@ -7,7 +7,8 @@ use Rattle.vpf_table.specs.Grid.{Grid}
 use Rattle.vpf_tiling.specs.Ranks.{numbered}
 use Rattle.vpf_write.specs.Writing.{Writes}
 use Rattle.vpf_primitive_tables.specs.TableForms.Forms.{pair_values}
-use Rattle.vpf_primitive_tables.proofs.table_forms.CountedRows.{numbered_at, put_all, put_more}
+use Rattle.vpf_primitive_tables.proofs.table_forms.CountedRows.{numbered_at}
+use Rattle.vpf_primitive_tables.specs.Inner.TableForms.CountedLaws.{put_all, put_more}
 use Rattle.vpf_primitive_tables.proofs.tile_tables.pairs.write_pairs.Goals as goal
 
 pub loop-k-preserved : goal.loop-k-preserved

@@ -2,7 +2,7 @@ use Rattle.std.proofs.Common.{◌≡◌, ℕ, [], take}
 use Rattle.vpf_prims.specs.Lists.{kth}
 use Rattle.vpf_write.specs.Revise.Revising.{revised}
 use Rattle.vpf_tiling.specs.Ranks.{numbered}
-use Rattle.vpf_write.specs.Tallies.{Holds}
+use Rattle.vpf_write.specs.Inner.Tallies.{Holds}
 use Rattle.vpf_primitive_tables.specs.TableForms.Forms.{head_like, pair_kinds, pair_values}
 use Rattle.vpf_primitive_tables.proofs.tile_tables.pairs.write_pairs.Given as goal
 

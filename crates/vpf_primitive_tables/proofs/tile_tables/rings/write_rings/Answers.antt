@@ -3,9 +3,9 @@ use Rattle.vpf_table.specs.Grid.{Grid}
 use Rattle.vpf_tiling.specs.Ranks.{numbered}
 use Rattle.vpf_write.specs.Writing.{Writes}
 use Rattle.vpf_cut_rings.specs.declared.rings.CutRing.{CutRing}
-use Rattle.vpf_cut_rings.specs.Rings.{ring_of}
+use Rattle.vpf_cut_rings.specs.Inner.Rings.{ring_of}
 use Rattle.vpf_primitive_tables.specs.TableForms.Forms.{ring_kinds, ring_row, table_like}
-use Rattle.vpf_primitive_tables.proofs.table_forms.CountedRows.{numbered-map, put_all, put_more}
+use Rattle.vpf_primitive_tables.specs.Inner.TableForms.CountedLaws.{numbered-map, put_all, put_more}
 use Rattle.vpf_primitive_tables.proofs.tile_tables.rings.write_rings.Goals as goal
 
 pub loop-k-preserved : goal.loop-k-preserved

@@ -1,8 +1,8 @@
 use Rattle.std.proofs.Common.{◌≡◌, ℕ, take}
 use Rattle.vpf_tiling.specs.Ranks.{numbered}
-use Rattle.vpf_write.specs.Tallies.{Holds}
+use Rattle.vpf_write.specs.Inner.Tallies.{Holds}
 use Rattle.vpf_cut_rings.specs.declared.rings.CutRing.{CutRing}
-use Rattle.vpf_cut_rings.specs.Rings.{ring_of}
+use Rattle.vpf_cut_rings.specs.Inner.Rings.{ring_of}
 use Rattle.vpf_primitive_tables.specs.TableForms.Forms.{ring_row}
 use Rattle.vpf_primitive_tables.proofs.tile_tables.rings.write_rings.Given as goal
 

@@ -6,7 +6,7 @@ use Rattle.vpf_head.specs.Head.{Head}
 use Rattle.vpf_prims.specs.Columns.{column_of}
 use Rattle.vpf_table.specs.Canonical.{FitsRow}
 use Rattle.vpf_table.specs.Grid.{Row}
-use Rattle.vpf_write.specs.Tallies.{Holds}
+use Rattle.vpf_write.specs.Inner.Tallies.{Holds}
 use Rattle.vpf_write.specs.Writing.{Writes}
 use Rattle.vpf_write.specs.declared.revise.changes.NewKind.{NewKind}
 use Rattle.vpf_write.specs.Revise.Revising.{NewValue, head_with_kinds, revised}

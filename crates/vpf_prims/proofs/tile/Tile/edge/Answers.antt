@@ -1,6 +1,6 @@
 use Rattle.std.proofs.Common.{◌∙◌}
 use Rattle.vpf_prims.specs.Tables.{edg_at}
-use Rattle.vpf_prims.specs.Tiles.{tables_of}
+use Rattle.vpf_prims.specs.Inner.Tiles.{tables_of}
 use Rattle.vpf_prims.proofs.EdgeLemmas.{edge_at}
 use Rattle.vpf_prims.proofs.tile.Tile.edge.Goals as goal
 

@@ -1,7 +1,7 @@
 use Rattle.std.proofs.Common.{map, ap, ◌∙◌}
 use Rattle.vpf_prims.specs.Edges.{EdgesAt, edge_row}
 use Rattle.vpf_prims.specs.Tables.{edg_at}
-use Rattle.vpf_prims.specs.Tiles.{tables_of}
+use Rattle.vpf_prims.specs.Inner.Tiles.{tables_of}
 use Rattle.vpf_prims.proofs.EdgeLemmas.{rows_said}
 use Rattle.vpf_prims.proofs.tile.Tile.keeping_edges.Goals as goal
 

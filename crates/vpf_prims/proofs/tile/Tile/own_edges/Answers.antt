@@ -4,8 +4,8 @@ use Rattle.vpf_prims.specs.declared.rows.EdgeRow.{EdgeRow}
 use Rattle.vpf_prims.specs.Edges.{own_numbers}
 use Rattle.vpf_prims.specs.Reading.{primitives_of}
 use Rattle.vpf_prims.specs.Tables.{edg_at}
-use Rattle.vpf_prims.specs.Tiles.{tables_of}
-use Rattle.vpf_prims.specs.Views.{tables_in_view}
+use Rattle.vpf_prims.specs.Inner.Tiles.{tables_of}
+use Rattle.vpf_prims.specs.Inner.Views.{tables_in_view}
 use Rattle.vpf_prims.proofs.OwnLemmas.{own_all, own_kept}
 use Rattle.vpf_prims.proofs.tile.Tile.own_edges.Goals as goal
 

@@ -1,11 +1,11 @@
 use Rattle.std.proofs.Common.{◌≡◌, ◌+◌, length, sym, ap, subst, ◌∙◌, arith}
-use Rattle.vpf_follow.specs.Homes.{darts_to}
+use Rattle.vpf_follow.specs.Inner.Homes.{darts_to}
 use Rattle.vpf_prims.specs.Coverages.{CoverageTables, last_tile}
 use Rattle.vpf_prims.specs.Libraries.{library_of}
 use Rattle.vpf_prims.specs.Primitives.{edge_count}
 use Rattle.vpf_tiling_laws.specs.Gluing.Glued.{plus_darts}
 use Rattle.vpf_tiling_laws.specs.Gluing.Whole.{whole_of}
-use Rattle.vpf_renumbering.specs.GluedEdges.Counting.{plus_count}
+use Rattle.vpf_renumbering.specs.Inner.GluedEdges.Counting.{plus_count}
 use Rattle.vpf_renumbering.proofs.glued_edges.CountLemmas.{count_all, count_none, tile_more}
 use Rattle.vpf_renumbering.proofs.glued_edges.counting.edge_count.Goals as goal
 

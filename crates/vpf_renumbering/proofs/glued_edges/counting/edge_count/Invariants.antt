@@ -1,8 +1,8 @@
 use Rattle.std.proofs.Common.{◌≡◌, ◌≤◌, ◌*◌, ◌^◌}
-use Rattle.vpf_follow.specs.Homes.{darts_to}
+use Rattle.vpf_follow.specs.Inner.Homes.{darts_to}
 use Rattle.vpf_prims.specs.Libraries.{library_of}
 use Rattle.vpf_prims.specs.Primitives.{edge_count}
-use Rattle.vpf_renumbering.specs.GluedEdges.Counting.{plus_count}
+use Rattle.vpf_renumbering.specs.Inner.GluedEdges.Counting.{plus_count}
 use Rattle.vpf_renumbering.proofs.glued_edges.counting.edge_count.Given as goal
 
 abbrev pub invariant-loop-number : goal.invariant-loop-number

@@ -1,7 +1,7 @@
 use Rattle.std.proofs.Common.{◌≡◌, ◌≤◌}
 use Rattle.vpf_prims.specs.Libraries.{library_of}
 use Rattle.vpf_wing.specs.Links.{row_darts}
-use Rattle.vpf_renumbering.specs.GluedEdges.Counting.{plus_count}
+use Rattle.vpf_renumbering.specs.Inner.GluedEdges.Counting.{plus_count}
 use Rattle.vpf_renumbering.proofs.glued_edges.counting.home_edges.Given as goal
 
 abbrev pub invariant-loop-k : goal.invariant-loop-k

@@ -1,4 +1,4 @@
-use Rattle.vpf_cutting.proofs.FirstLemmas.{put_both}
+use Rattle.vpf_cutting.specs.Inner.FirstLaws.{put_both}
 use Rattle.vpf_renumbering.proofs.glued_edges.firsts.put_ends.Goals as goal
 
 pub returns : goal.returns

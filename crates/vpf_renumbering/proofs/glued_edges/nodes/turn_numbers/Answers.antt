@@ -2,8 +2,8 @@ use Rattle.std.proofs.Common.{◌≡◌, ◌+◌, ◌<◌, [], true, map, length
 use Rattle.std.proofs.lemmas.List.{length-map, with_items_is}
 use Rattle.vpf_darts.specs.Darts.{tile_dart_code}
 use Rattle.vpf_darts.specs.Listings.{numbers_of}
-use Rattle.vpf_wing.specs.DartLaws.{stands_in}
-use Rattle.vpf_renumbering.specs.GluedEdges.Numbers.{AreByFirst, ArePut}
+use Rattle.vpf_wing.specs.Inner.DartLaws.{stands_in}
+use Rattle.vpf_renumbering.specs.Inner.GluedEdges.Numbers.{AreByFirst, ArePut}
 use Rattle.vpf_renumbering.proofs.glued_edges.NumberLemmas.{by_more, listed_is, of_order}
 use Rattle.vpf_renumbering.proofs.glued_edges.nodes.turn_numbers.Goals as goal
 

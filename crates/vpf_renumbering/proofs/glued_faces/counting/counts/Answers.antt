@@ -5,7 +5,7 @@ use Rattle.vpf_prims.specs.Coverages.{last_tile}
 use Rattle.vpf_prims.specs.Libraries.{library_of}
 use Rattle.vpf_prims.specs.Primitives.{Library}
 use Rattle.vpf_tiling_laws.specs.Gluing.Whole.{whole_faces, whole_of}
-use Rattle.vpf_renumbering.specs.GluedFaces.Faces.{faces_before}
+use Rattle.vpf_renumbering.specs.Inner.GluedFaces.Faces.{faces_before}
 use Rattle.vpf_renumbering.proofs.glued_faces.NumberLemmas.{before_climbs, before_end, before_next, none_before}
 use Rattle.vpf_renumbering.proofs.glued_faces.counting.counts.Goals as goal
 use Rattle.vpf_renumbering.proofs.glued_faces.counting.counts.Goals.{else-loop-tile-test, then-loop-tile-test+in_ok-push+else-tile-tile-end}

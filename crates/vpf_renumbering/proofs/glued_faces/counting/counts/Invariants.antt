@@ -1,7 +1,7 @@
 use Rattle.std.proofs.Common.{◌≡◌, map}
 use Rattle.std.specs.List.{range_with_len}
 use Rattle.vpf_prims.specs.Libraries.{library_of}
-use Rattle.vpf_renumbering.specs.GluedFaces.Faces.{faces_before}
+use Rattle.vpf_renumbering.specs.Inner.GluedFaces.Faces.{faces_before}
 use Rattle.vpf_renumbering.proofs.glued_faces.counting.counts.Given as goal
 
 abbrev pub invariant-loop-tile : goal.invariant-loop-tile

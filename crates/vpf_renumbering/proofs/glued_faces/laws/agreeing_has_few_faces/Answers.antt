@@ -1,4 +1,4 @@
-use Rattle.vpf_trace.proofs.AgreeLemmas.{agreeing_traceable}
+use Rattle.vpf_trace.specs.Inner.AgreeLaws.{agreeing_traceable}
 use Rattle.vpf_renumbering.proofs.whole.SignLemmas.{two_signs}
 use Rattle.vpf_renumbering.proofs.glued_faces.FewLemmas.{few_faces}
 use Rattle.vpf_renumbering.proofs.glued_faces.laws.agreeing_has_few_faces.Goals as goal

@@ -2,7 +2,7 @@ use Rattle.std.proofs.Common.{◌^◌, ◌<◌, ap, sym, ◌∙◌, arith}
 use Rattle.std.specs.Option.{option_map}
 use Rattle.vpf_prims.specs.declared.rows.EdgeRow.{EdgeRow}
 use Rattle.vpf_prims.specs.References.{id_of}
-use Rattle.vpf_follow.specs.Rows.{row_face}
+use Rattle.vpf_follow.specs.Inner.Rows.{row_face}
 use Rattle.vpf_renumbering.proofs.glued_faces.FaceLemmas.{face_nowhere, face_past, face_there, face_zero}
 use Rattle.vpf_renumbering.proofs.glued_faces.starts.face_id.Goals as goal
 

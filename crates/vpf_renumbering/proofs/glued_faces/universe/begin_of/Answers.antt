@@ -3,7 +3,7 @@ use Rattle.vpf_darts.specs.declared.darts.TileDart.{TileDart}
 use Rattle.vpf_prims.specs.Libraries.{library_of}
 use Rattle.vpf_wing.specs.Links.{links_of}
 use Rattle.vpf_follow.specs.Following.{library_map}
-use Rattle.vpf_cut_rings.proofs.BeginLemmas.{begins}
+use Rattle.vpf_cut_rings.specs.Inner.BeginLaws.{begins}
 use Rattle.vpf_renumbering.proofs.glued_faces.universe.begin_of.Goals as goal
 
 pub bounds-at-0 : goal.bounds-at-0

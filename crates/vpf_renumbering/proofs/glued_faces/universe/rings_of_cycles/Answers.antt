@@ -8,7 +8,7 @@ use Rattle.vpf_darts.specs.Listings.{numbers_of}
 use Rattle.vpf_prims.specs.Coverages.{CoverageTables}
 use Rattle.vpf_prims.specs.Libraries.{library_of}
 use Rattle.vpf_wing.specs.Links.{links_of}
-use Rattle.vpf_renumbering.specs.GluedFaces.Rings.{HasHomeStart, is_universe, rings_glued, rings_of_cycles}
+use Rattle.vpf_renumbering.specs.Inner.GluedFaces.Rings.{HasHomeStart, is_universe, rings_glued, rings_of_cycles}
 use Rattle.vpf_renumbering.proofs.glued_faces.UniverseLemmas.{no_more, none_yet, one_more, universe_of}
 use Rattle.vpf_renumbering.proofs.glued_faces.universe.rings_of_cycles.Goals as goal
 use Rattle.vpf_renumbering.proofs.glued_faces.universe.rings_of_cycles.Goals.{then-face_id-eq-UNIVERSE+in_ok-push, else-face_id-eq-UNIVERSE}

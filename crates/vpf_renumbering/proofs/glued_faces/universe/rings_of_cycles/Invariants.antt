@@ -2,7 +2,7 @@ use Rattle.std.proofs.Common.{◌≡◌, take}
 use Rattle.std.specs.Prelude.{All}
 use Rattle.vpf_darts.specs.Listings.{numbers_of}
 use Rattle.vpf_prims.specs.Libraries.{library_of}
-use Rattle.vpf_renumbering.specs.GluedFaces.Rings.{HasHomeStart, rings_glued, rings_of_cycles}
+use Rattle.vpf_renumbering.specs.Inner.GluedFaces.Rings.{HasHomeStart, rings_glued, rings_of_cycles}
 use Rattle.vpf_renumbering.proofs.glued_faces.universe.rings_of_cycles.Given as goal
 
 abbrev pub invariant-loop-i : goal.invariant-loop-i

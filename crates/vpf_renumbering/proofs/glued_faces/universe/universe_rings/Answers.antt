@@ -7,7 +7,7 @@ use Rattle.vpf_wing.specs.Links.{links_of}
 use Rattle.vpf_follow.specs.Following.{library_map}
 use Rattle.vpf_tiling_laws.specs.Gluing.Glued.{plus_darts, universe_rings}
 use Rattle.vpf_tiling_laws.specs.Gluing.Whole.{whole_of}
-use Rattle.vpf_renumbering.specs.GluedFaces.Rings.{rings_glued}
+use Rattle.vpf_renumbering.specs.Inner.GluedFaces.Rings.{rings_glued}
 use Rattle.vpf_renumbering.proofs.glued_faces.RingLemmas.{made_many}
 use Rattle.vpf_renumbering.proofs.glued_faces.UniverseLemmas.{cycles_made, universe_few}
 use Rattle.vpf_renumbering.proofs.glued_faces.universe.universe_rings.Goals as goal

@@ -1,4 +1,4 @@
-use Rattle.vpf_renumbering.specs.Whole.Gathering.{AreHomesTo}
+use Rattle.vpf_renumbering.specs.Inner.Whole.Gathering.{AreHomesTo}
 use Rattle.vpf_renumbering.proofs.whole.gathering.gathered.Given as goal
 
 abbrev pub invariant-loop-number : goal.invariant-loop-number

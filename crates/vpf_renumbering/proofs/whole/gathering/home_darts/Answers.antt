@@ -3,7 +3,7 @@ use Rattle.std.proofs.lemmas.Result.{IfOk-weaker}
 use Rattle.vpf_prims.specs.Coverages.{CoverageTables}
 use Rattle.vpf_prims.specs.Libraries.{IsLibrary, library_of}
 use Rattle.vpf_wing.specs.Links.{links_of}
-use Rattle.vpf_renumbering.specs.Whole.Gathering.{AreHomeAmong}
+use Rattle.vpf_renumbering.specs.Inner.Whole.Gathering.{AreHomeAmong}
 use Rattle.vpf_renumbering.proofs.whole.OrderLemmas.{gathered_all}
 use Rattle.vpf_renumbering.proofs.whole.gathering.home_darts.Goals as goal
 

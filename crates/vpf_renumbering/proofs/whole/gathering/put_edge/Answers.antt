@@ -1,8 +1,8 @@
 use Rattle.std.proofs.Common.{ℕ, List, OnOk, subst}
 use Rattle.vpf_prims.specs.Libraries.{library_of}
 use Rattle.vpf_prims.specs.Primitives.{edge_count}
-use Rattle.vpf_follow.proofs.ListLemmas.{darts_after}
-use Rattle.vpf_renumbering.specs.Whole.Gathering.{AreHomeAmong}
+use Rattle.vpf_follow.specs.Inner.ListLaws.{darts_after}
+use Rattle.vpf_renumbering.specs.Inner.Whole.Gathering.{AreHomeAmong}
 use Rattle.vpf_renumbering.proofs.whole.gathering.put_edge.Goals as goal
 
 pub returns : goal.returns

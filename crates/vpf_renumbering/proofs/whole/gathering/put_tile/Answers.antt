@@ -1,9 +1,9 @@
 use Rattle.std.proofs.Common.{◌≡◌, ℕ, suc, ◌+◌, List, ap, sym, subst, ◌∙◌, arith}
 use Rattle.vpf_prims.specs.Libraries.{library_of}
 use Rattle.vpf_prims.specs.Primitives.{edge_count}
-use Rattle.vpf_follow.specs.Homes.{darts_to}
-use Rattle.vpf_follow.proofs.ListLemmas.{to_tile}
-use Rattle.vpf_renumbering.specs.Whole.Gathering.{AreHomeAmong}
+use Rattle.vpf_follow.specs.Inner.Homes.{darts_to}
+use Rattle.vpf_follow.specs.Inner.ListLaws.{to_tile}
+use Rattle.vpf_renumbering.specs.Inner.Whole.Gathering.{AreHomeAmong}
 use Rattle.vpf_renumbering.proofs.whole.gathering.put_tile.Goals as goal
 
 pub returns : goal.returns

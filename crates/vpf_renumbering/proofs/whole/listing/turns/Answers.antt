@@ -2,7 +2,7 @@ use Rattle.std.proofs.Common.{refl}
 use Rattle.vpf_prims.specs.Libraries.{library_of}
 use Rattle.vpf_wing.specs.Links.{links_of}
 use Rattle.vpf_follow.specs.Following.{library_map}
-use Rattle.vpf_renumbering.specs.Whole.Turning.{turning_map}
+use Rattle.vpf_renumbering.specs.Inner.Whole.Turning.{turning_map}
 use Rattle.vpf_renumbering.proofs.whole.OrderLemmas.{none_passed}
 use Rattle.vpf_renumbering.proofs.whole.TurnLemmas.{library_turns}
 use Rattle.vpf_renumbering.proofs.whole.listing.turns.Goals as goal

@@ -1,6 +1,6 @@
 use Rattle.std.proofs.Common.{◌∙◌, ◌+◌, ◌∷◌, [], ℕ, length, ap}
 use Rattle.std.proofs.lemmas.List.{length-append}
-use Rattle.vpf_head.specs.Views.{col}
+use Rattle.vpf_head.specs.Inner.Views.{col}
 use Rattle.vpf_table.proofs.OffsetLaws.{width_more, offsets_more}
 use Rattle.vpf_table.proofs.placed_header.PlacedHeader.offsets_of.Goals as goal
 

@@ -1,6 +1,6 @@
 use Rattle.std.proofs.Common.{◌≡◌, length, take, Some}
-use Rattle.vpf_table.specs.Offsets.{AreOffsets}
-use Rattle.vpf_table.specs.Widths.{width_of}
+use Rattle.vpf_table.specs.Inner.Offsets.{AreOffsets}
+use Rattle.vpf_table.specs.Inner.Widths.{width_of}
 use Rattle.vpf_table.proofs.placed_header.PlacedHeader.offsets_of.Given as goal
 
 abbrev pub invariant-loop-c : goal.invariant-loop-c

@@ -1,7 +1,7 @@
 use Rattle.std.proofs.Common.{drop, sym, ◌∙◌, arith, rules}
 use Rattle.std.proofs.lemmas.List.{drop_all}
 use Rattle.vpf_findings.specs.Values.{view}
-use Rattle.vpf_head.specs.Views.{col}
+use Rattle.vpf_head.specs.Inner.Views.{col}
 use Rattle.vpf_table.proofs.CellOf.{next_is_spelled, next_is_first, none_left}
 use Rattle.vpf_table.proofs.row.CellsIterator.next.Goals as goal
 

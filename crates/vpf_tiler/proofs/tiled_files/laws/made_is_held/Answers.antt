@@ -1,5 +1,5 @@
 use Rattle.vpf_tiler.proofs.tiled_files.MadeLibrary.{made_is_held}
-use Rattle.vpf_tiler.proofs.tiled_files.WrittenTables.{table_opens}
+use Rattle.vpf_tiler.specs.Inner.TiledFiles.WrittenLaws.{table_opens}
 use Rattle.vpf_tiler.proofs.tiled_files.laws.made_is_held.Goals as goal
 
 pub returns : goal.returns

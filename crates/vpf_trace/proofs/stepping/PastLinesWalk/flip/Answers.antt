@@ -1,11 +1,11 @@
 use Rattle.std.proofs.Common.{◌≡◌, ap, ◌∙◌}
 use Rattle.vpf_darts.specs.Darts.{flip, tile_dart_code}
-use Rattle.vpf_darts.proofs.DartLemmas.{flip-tile_dart}
+use Rattle.vpf_darts.specs.Inner.DartLaws.{flip-tile_dart}
 use Rattle.vpf_prims.specs.Libraries.{library_of}
 use Rattle.vpf_wing.specs.Links.{links_of}
-use Rattle.vpf_wing.specs.DartLaws.{flip-has}
+use Rattle.vpf_wing.specs.Inner.DartLaws.{flip-has}
 use Rattle.vpf_cross.specs.FollowLaws.{home_has}
-use Rattle.vpf_trace.proofs.WalkLemmas.{flip_tiled, flip_untiled}
+use Rattle.vpf_trace.specs.Inner.WalkLaws.{flip_tiled, flip_untiled}
 use Rattle.vpf_trace.proofs.stepping.PastLinesWalk.flip.Goals as goal
 
 pub home_copy-requires : goal.home_copy-requires

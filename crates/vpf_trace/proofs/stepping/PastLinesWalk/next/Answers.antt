@@ -4,7 +4,7 @@ use Rattle.vpf_prims.specs.Coverages.{CoverageTables}
 use Rattle.vpf_prims.specs.Libraries.{library_of}
 use Rattle.vpf_wing.specs.Links.{links_of}
 use Rattle.vpf_cross.specs.Following.{follow}
-use Rattle.vpf_trace.proofs.WalkLemmas.{is_followed}
+use Rattle.vpf_trace.specs.Inner.WalkLaws.{is_followed}
 use Rattle.vpf_trace.proofs.stepping.PastLinesWalk.next.Goals as goal
 
 pub unreachable-requires : goal.unreachable-requires

@@ -1,5 +1,5 @@
 use Rattle.std.proofs.Common.{rules}
-use Rattle.vpf_triplet.proofs.Canonicals.{length-canonical}
+use Rattle.vpf_triplet.specs.Inner.CanonicalLaws.{length-canonical}
 use Rattle.vpf_triplet.proofs.triplets.Triplet.width.Goals as goal
 
 pub returns-clause-value : goal.returns-clause-value

@@ -3,7 +3,7 @@ use Rattle.vpf_darts.specs.Cycles.{IsListing}
 use Rattle.vpf_darts.specs.Maps.{DartMap}
 use Rattle.vpf_vectors.specs.Cells.Rows.{face_cycles}
 use Rattle.vpf_vectors.proofs.grid_coverage.GridFacts.{GridFacts}
-use Rattle.vpf_vectors.proofs.grid_coverage.DartLemmas.{small_edges}
+use Rattle.vpf_vectors.specs.Inner.GridCoverage.DartLaws.{small_edges}
 use Rattle.vpf_vectors.proofs.grid_coverage.NextLemmas.{next-is, map-is}
 use Rattle.vpf_vectors.proofs.grid_coverage.NumberLemmas.{numbered, tiles_make_library}
 use Rattle.vpf_vectors.proofs.grid_coverage.CycleLemmas.{cycles, loops}

@@ -1,6 +1,6 @@
 use Rattle.std.proofs.Common.{◌≡◌, length, ap, ◌∙◌, List, subst}
 use Rattle.vpf_prims.specs.declared.rows.Edge.{Edge}
-use Rattle.vpf_wing.specs.Leasts.{AreLeastPlaces}
+use Rattle.vpf_wing.specs.Inner.Leasts.{AreLeastPlaces}
 use Rattle.vpf_wing.proofs.PlaceLemmas.{least_places}
 use Rattle.vpf_wing.proofs.places.Cycles.new.Goals as goal
 

@@ -1,6 +1,6 @@
 use Rattle.std.proofs.Common.{◌≡◌, ◌<◌, ◌+◌, ◌*◌, length, get_or, List, arith, ◌∙◌, sym, ap, subst}
 use Rattle.vpf_prims.specs.declared.rows.Edge.{Edge}
-use Rattle.vpf_wing.specs.NextPlaces.{AreNextPlaces}
+use Rattle.vpf_wing.specs.Inner.NextPlaces.{AreNextPlaces}
 use Rattle.vpf_wing.specs.Places.{turn_place}
 use Rattle.vpf_wing.proofs.PlaceLemmas.{turn_step, turn_below, steps_back-stop, steps_back-more}
 use Rattle.vpf_wing.proofs.places.Darts.turn_size.Goals as goal

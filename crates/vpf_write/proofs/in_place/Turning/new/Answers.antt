@@ -1,6 +1,6 @@
 use Rattle.std.proofs.Common.{refl, sym}
 use denote.Enum.Bare.{same_false}
-use Rattle.vpf_triplet.specs.contracts.orders.Order.{the_type}
+use Rattle.vpf_base.specs.contracts.orders.Order.{the_type}
 use Rattle.vpf_write.proofs.in_place.Turning.new.Goals as goal
 
 pub under-requires-clause-head : goal.under-requires-clause-head

@@ -4,7 +4,7 @@ use Rattle.vpf_head.specs.Canonical.{canonical_header}
 use Rattle.vpf_table.specs.Canonical.{in_order}
 use Rattle.vpf_write.proofs.FixedRows.{fields_wide}
 use Rattle.vpf_write.proofs.InPlaceFiles.{none_is, in_place, told_first, turned_size}
-use Rattle.vpf_write.proofs.WholeTables.{within_limits}
+use Rattle.vpf_write.specs.Inner.WholeLaws.{within_limits}
 use Rattle.vpf_write.proofs.in_place.Turning.under.Goals as goal
 
 pub write-requires : goal.write-requires

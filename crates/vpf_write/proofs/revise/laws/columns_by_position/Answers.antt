@@ -1,7 +1,8 @@
 use Rattle.std.proofs.Common.{refl, arith}
 use Rattle.vpf_head.specs.Head.{Col}
 use Rattle.vpf_write.specs.Revise.Revising.{revised_column}
-use Rattle.vpf_write.proofs.revise.Placing.{each_kept, length-each, slice_get-each}
+use Rattle.vpf_write.proofs.revise.Placing.{length-each, slice_get-each}
+use Rattle.vpf_base.proofs.Lists.{each_kept}
 use Rattle.vpf_write.proofs.revise.laws.columns_by_position.Goals as goal
 
 pub returns-clause-width : goal.returns-clause-width

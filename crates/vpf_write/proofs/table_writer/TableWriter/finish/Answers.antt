@@ -1,9 +1,10 @@
 use Rattle.std.proofs.Common.{◌∙◌, refl, arith}
-use Rattle.vpf_write.specs.Drafts.{begun, progress}
-use Rattle.vpf_write.specs.Tallies.{grid_with}
-use Rattle.vpf_write.specs.TableWriters.{tally_of}
+use Rattle.vpf_write.specs.Inner.Drafts.{begun, progress}
+use Rattle.vpf_write.specs.Inner.Tallies.{grid_with}
+use Rattle.vpf_write.specs.Inner.TableWriters.{tally_of}
 use Rattle.vpf_write.proofs.Tallied.{told_of}
-use Rattle.vpf_write.proofs.WholeTables.{within_limits, written_by}
+use Rattle.vpf_write.proofs.WholeTables.{written_by}
+use Rattle.vpf_write.specs.Inner.WholeLaws.{within_limits}
 use Rattle.vpf_write.proofs.table_writer.TableWriter.finish.Goals as goal
 
 pub returns-in-Some-clause-written : goal.returns-in-Some-clause-written

@@ -1,5 +1,5 @@
 use Rattle.std.proofs.Common.{[], false}
-use Rattle.vpf_write.specs.Drafts.{progress}
+use Rattle.vpf_write.specs.Inner.Drafts.{progress}
 use Rattle.vpf_write.proofs.Tallied.{nothing_held}
 use Rattle.vpf_write.proofs.table_writer.TableWriter.new.Goals as goal
 

@@ -4,9 +4,9 @@ use Rattle.vpf_triplet.specs.declared.places.Part.{Part}
 use Rattle.vpf_value.specs.Values.{view}
 use Rattle.vpf_table.specs.declared.limit.Limit.{Limit}
 use Rattle.vpf_table.specs.Grid.{Row}
-use Rattle.vpf_write.specs.Drafts.{progress, with_row}
-use Rattle.vpf_write.specs.Tallies.{Tally, grid_with}
-use Rattle.vpf_write.specs.TableWriters.{tally_of}
+use Rattle.vpf_write.specs.Inner.Drafts.{progress, with_row}
+use Rattle.vpf_write.specs.Inner.Tallies.{Tally, grid_with}
+use Rattle.vpf_write.specs.Inner.TableWriters.{tally_of}
 use Rattle.vpf_write.specs.Writing.{first_limit}
 use Rattle.vpf_write.proofs.InPlaceFiles.{none_is}
 use Rattle.vpf_write.proofs.Tallied.{one_more, room_for, told_more}

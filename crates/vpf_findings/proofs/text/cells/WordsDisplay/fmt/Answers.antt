@@ -1,6 +1,6 @@
 use Rattle.std.proofs.Common.{refl, arith}
 use Rattle.std.proofs.Output.{has_written_append, has_written_of_eq}
-use Rattle.vpf_value.specs.Coordinates.{words}
+use Rattle.vpf_value.specs.Inner.Coordinates.{words}
 use Rattle.vpf_findings.proofs.text.WordLemmas.{words_more}
 use Rattle.vpf_findings.proofs.text.cells.WordsDisplay.fmt.Goals as goal
 

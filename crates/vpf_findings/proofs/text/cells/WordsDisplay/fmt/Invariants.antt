@@ -1,6 +1,6 @@
 use Rattle.std.proofs.Common.{take}
 use Rattle.std.specs.Fmt.{HasWritten, IsPlainFormatter}
-use Rattle.vpf_value.specs.Coordinates.{words}
+use Rattle.vpf_value.specs.Inner.Coordinates.{words}
 use Rattle.vpf_findings.specs.Text.Cells.{words_text}
 use Rattle.vpf_findings.proofs.text.cells.WordsDisplay.fmt.Given as goal
 

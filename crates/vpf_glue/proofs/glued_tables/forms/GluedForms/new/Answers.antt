@@ -1,8 +1,8 @@
 use Rattle.std.proofs.Common.{◌≡◌, codes, subst}
 use Rattle.vpf_prims.specs.Columns.{column_of}
 use Rattle.vpf_table.specs.Grid.{Grid}
-use Rattle.vpf_primitive_tables.specs.TableForms.Places.{NamesRows}
-use Rattle.vpf_primitive_tables.proofs.table_forms.ColumnLemmas.{reference_names}
+use Rattle.vpf_primitive_tables.specs.Inner.TableForms.Places.{NamesRows}
+use Rattle.vpf_primitive_tables.specs.Inner.TableForms.ColumnLaws.{reference_names}
 use Rattle.vpf_glue.proofs.glued_tables.forms.GluedForms.new.Goals as goal
 
 pub new-requires-4-clause-reference : goal.new-requires-4-clause-reference

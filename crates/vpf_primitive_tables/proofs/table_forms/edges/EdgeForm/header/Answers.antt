@@ -1,6 +1,6 @@
 use Rattle.std.proofs.Common.{◌∙◌, ap}
 use Rattle.vpf_primitive_tables.specs.TableForms.Forms.{edge_kinds_of, head_like}
-use Rattle.vpf_primitive_tables.specs.TableForms.Models.{EdgesLike}
+use Rattle.vpf_primitive_tables.specs.Inner.TableForms.Models.{EdgesLike}
 use Rattle.vpf_primitive_tables.proofs.table_forms.edges.EdgeForm.header.Goals as goal
 
 pub returns : goal.returns

@@ -1,7 +1,7 @@
 use Rattle.std.proofs.Common.{◌≡◌, ◌∙◌, List, ap, map, subst, sym}
 use Rattle.vpf_write.specs.Revise.Revising.{FitsElsewhere, NewValue, new_value}
 use Rattle.vpf_primitive_tables.specs.TableForms.Forms.{AreOfKind, edge_kinds_of, edge_values_of, head_like}
-use Rattle.vpf_primitive_tables.specs.TableForms.Models.{EdgesLike, values_of_edge}
+use Rattle.vpf_primitive_tables.specs.Inner.TableForms.Models.{EdgesLike, values_of_edge}
 use Rattle.vpf_primitive_tables.proofs.table_forms.NewCellLemmas.{edge_fits, edge_puts, edge_values_are, news_fit}
 use Rattle.vpf_primitive_tables.proofs.table_forms.edges.EdgeForm.put.Goals as goal
 

@@ -1,7 +1,7 @@
 use Rattle.std.proofs.Common.{◌≡◌, ◌∙◌, IfOk, ap, subst}
 use Rattle.vpf_head.specs.Head.{Head}
 use Rattle.vpf_primitive_tables.specs.TableForms.Forms.{pair_kinds, head_like}
-use Rattle.vpf_primitive_tables.specs.TableForms.Models.{PairsLike}
+use Rattle.vpf_primitive_tables.specs.Inner.TableForms.Models.{PairsLike}
 use Rattle.vpf_primitive_tables.proofs.table_forms.pairs.PairForm.begin.Goals as goal
 
 pub returns-clause-head : goal.returns-clause-head

@@ -1,6 +1,6 @@
 use Rattle.std.proofs.Common.{◌∙◌, ap}
 use Rattle.vpf_primitive_tables.specs.TableForms.Forms.{pair_kinds, head_like}
-use Rattle.vpf_primitive_tables.specs.TableForms.Models.{PairsLike}
+use Rattle.vpf_primitive_tables.specs.Inner.TableForms.Models.{PairsLike}
 use Rattle.vpf_primitive_tables.proofs.table_forms.pairs.PairForm.header.Goals as goal
 
 pub returns : goal.returns

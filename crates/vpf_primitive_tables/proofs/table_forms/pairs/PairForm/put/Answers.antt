@@ -1,7 +1,7 @@
 use Rattle.std.proofs.Common.{◌≡◌, ◌∙◌, List, [], ◌∷◌, ap, map, subst, sym}
 use Rattle.vpf_write.specs.Revise.Revising.{FitsElsewhere, NewValue, new_value}
 use Rattle.vpf_primitive_tables.specs.TableForms.Forms.{head_like, pair_kinds, pair_values}
-use Rattle.vpf_primitive_tables.specs.TableForms.Models.{PairsLike}
+use Rattle.vpf_primitive_tables.specs.Inner.TableForms.Models.{PairsLike}
 use Rattle.vpf_primitive_tables.proofs.table_forms.NewCellLemmas.{news_fit, number_put, pair_fits, pair_values_are}
 use Rattle.vpf_primitive_tables.proofs.table_forms.pairs.PairForm.put.Goals as goal
 

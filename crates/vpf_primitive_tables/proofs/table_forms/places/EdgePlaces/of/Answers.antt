@@ -1,6 +1,7 @@
 use Rattle.std.specs.Prelude.{codes}
 use Rattle.vpf_prims.specs.Columns.{column_of}
-use Rattle.vpf_primitive_tables.proofs.table_forms.ColumnLemmas.{number_names, reference_names}
+use Rattle.vpf_primitive_tables.proofs.table_forms.ColumnLemmas.{number_names}
+use Rattle.vpf_primitive_tables.specs.Inner.TableForms.ColumnLaws.{reference_names}
 use Rattle.vpf_primitive_tables.proofs.table_forms.places.EdgePlaces.of.Goals as goal
 
 pub place_in-requires : goal.place_in-requires

@@ -1,9 +1,9 @@
 use Rattle.std.proofs.Common.{subst, sym}
 use Rattle.vpf_head.specs.Head.{Head}
-use Rattle.vpf_write.specs.Tallies.{Holds}
+use Rattle.vpf_write.specs.Inner.Tallies.{Holds}
 use Rattle.vpf_write.specs.Writing.{Writes}
 use Rattle.vpf_primitive_tables.specs.TableForms.Forms.{ring_kinds, table_like}
-use Rattle.vpf_primitive_tables.specs.TableForms.Models.{RingsPut}
+use Rattle.vpf_primitive_tables.specs.Inner.TableForms.Models.{RingsPut}
 use Rattle.vpf_primitive_tables.proofs.table_forms.rings.RingTable.finish.Goals as goal
 
 pub returns : goal.returns

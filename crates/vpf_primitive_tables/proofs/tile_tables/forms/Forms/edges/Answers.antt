@@ -1,7 +1,7 @@
 use Rattle.std.proofs.Common.{subst}
 use Rattle.vpf_prims.specs.Reading.{PrimitiveTables}
 use Rattle.vpf_write.specs.Writing.{Writes}
-use Rattle.vpf_cutting.specs.Cuts.{plan_by}
+use Rattle.vpf_cutting.specs.Inner.Cuts.{plan_by}
 use Rattle.vpf_primitive_tables.specs.TileTables.Grids.{edges_made}
 use Rattle.vpf_primitive_tables.proofs.tile_tables.FormLemmas.{edge_rows}
 use Rattle.vpf_primitive_tables.proofs.tile_tables.forms.Forms.edges.Goals as goal

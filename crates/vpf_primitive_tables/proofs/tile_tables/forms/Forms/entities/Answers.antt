@@ -5,10 +5,11 @@ use Rattle.vpf_prims.specs.Primitives.{entities_in}
 use Rattle.vpf_table.specs.Grid.{Grid}
 use Rattle.vpf_tiling.specs.Presence.{containing_face, held_entities, holds_entity, local_face}
 use Rattle.vpf_tiling.specs.Ranks.{numbered}
-use Rattle.vpf_cutting.specs.Cuts.{plan_by}
+use Rattle.vpf_cutting.specs.Inner.Cuts.{plan_by}
 use Rattle.vpf_primitive_tables.specs.TileTables.Grids.{WritesWhere, entities_made}
-use Rattle.vpf_primitive_tables.specs.TileTables.Models.{NamesFaces}
-use Rattle.vpf_primitive_tables.proofs.table_forms.CountedRows.{length-numbered, made_of_items, rows_within}
+use Rattle.vpf_primitive_tables.specs.Inner.TileTables.Models.{NamesFaces}
+use Rattle.vpf_primitive_tables.proofs.table_forms.CountedRows.{made_of_items, rows_within}
+use Rattle.vpf_primitive_tables.specs.Inner.TableForms.CountedLaws.{length-numbered}
 use Rattle.vpf_primitive_tables.proofs.tile_tables.FormLemmas.{entity_rows, entity_table, written_like}
 use Rattle.vpf_primitive_tables.proofs.tile_tables.forms.Forms.entities.Goals as goal
 

@@ -6,10 +6,11 @@ use Rattle.vpf_prims.specs.Numbering.{IsRowOf}
 use Rattle.vpf_prims.specs.Reading.{PrimitiveTables}
 use Rattle.vpf_tiling.specs.Presence.{held_faces, holds_face}
 use Rattle.vpf_tiling.specs.Tiles.{Ring, tiled_rings}
-use Rattle.vpf_cutting.specs.Cuts.{plan_by}
-use Rattle.vpf_cut_rings.specs.Rings.{first_rings_of, ring_of}
+use Rattle.vpf_cutting.specs.Inner.Cuts.{plan_by}
+use Rattle.vpf_cut_rings.specs.Inner.Rings.{first_rings_of, ring_of}
 use Rattle.vpf_primitive_tables.specs.TileTables.Grids.{faces_of_tile}
-use Rattle.vpf_primitive_tables.proofs.table_forms.CountedRows.{length-numbered, made_of_numbers, rows_within}
+use Rattle.vpf_primitive_tables.proofs.table_forms.CountedRows.{made_of_numbers, rows_within}
+use Rattle.vpf_primitive_tables.specs.Inner.TableForms.CountedLaws.{length-numbered}
 use Rattle.vpf_primitive_tables.proofs.tile_tables.FormLemmas.{face_rows, written_like}
 use Rattle.vpf_primitive_tables.proofs.tile_tables.forms.Forms.faces.Goals as goal
 

@@ -5,8 +5,9 @@ use Rattle.vpf_prims.specs.Reading.{PrimitiveTables}
 use Rattle.vpf_tiling.specs.Presence.{has_node, present_nodes}
 use Rattle.vpf_tiling.specs.Ranks.{numbered}
 use Rattle.vpf_tiling.specs.Tiles.{first_edge_at, tiled_edges}
-use Rattle.vpf_cutting.specs.Cuts.{plan_by}
-use Rattle.vpf_primitive_tables.proofs.table_forms.CountedRows.{length-numbered, made_of_numbers, rows_within}
+use Rattle.vpf_cutting.specs.Inner.Cuts.{plan_by}
+use Rattle.vpf_primitive_tables.proofs.table_forms.CountedRows.{made_of_numbers, rows_within}
+use Rattle.vpf_primitive_tables.specs.Inner.TableForms.CountedLaws.{length-numbered}
 use Rattle.vpf_primitive_tables.proofs.tile_tables.FormLemmas.{node_rows, written_like}
 use Rattle.vpf_primitive_tables.proofs.tile_tables.forms.Forms.nodes.Goals as goal
 

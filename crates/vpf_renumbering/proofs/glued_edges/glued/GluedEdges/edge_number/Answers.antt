@@ -1,6 +1,6 @@
 use Rattle.std.proofs.Common.{map, ap, ◌∙◌}
 use Rattle.vpf_darts.specs.Darts.{tile_dart_code}
-use Rattle.vpf_wing.specs.Kept.Kept.{place_among}
+use Rattle.vpf_wing.specs.Inner.Kept.Kept.{place_among}
 use Rattle.vpf_prims.specs.Libraries.{library_of}
 use Rattle.vpf_renumbering.proofs.glued_edges.KeepLemmas.{edge_placed, kept_of}
 use Rattle.vpf_renumbering.proofs.glued_edges.glued.GluedEdges.edge_number.Goals as goal

@@ -4,7 +4,7 @@ use Rattle.vpf_base.specs.Limits.{most_rows}
 use Rattle.vpf_darts.specs.declared.darts.TileDart.{TileDart}
 use Rattle.vpf_darts.specs.Darts.{tile_dart_code}
 use Rattle.vpf_prims.specs.Libraries.{library_of}
-use Rattle.vpf_cutting.specs.Rows.{ArePutAt}
+use Rattle.vpf_cutting.specs.Inner.Rows.{ArePutAt}
 use Rattle.vpf_tiling_laws.specs.Gluing.Glued.{plus_darts}
 use Rattle.vpf_tiling_laws.specs.Gluing.Whole.{whole_of}
 use Rattle.vpf_renumbering.proofs.glued_edges.FirstLemmas.{AreFirsts, firsts_are, firsts_few, firsts_more}

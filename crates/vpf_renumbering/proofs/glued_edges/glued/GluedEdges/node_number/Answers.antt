@@ -1,7 +1,7 @@
 use Rattle.std.proofs.Common.{◌<◌, List, length, map, ap, subst, ◌∙◌}
 use Rattle.vpf_darts.specs.declared.darts.TileDart.{TileDart}
 use Rattle.vpf_darts.specs.Darts.{tile_dart_code}
-use Rattle.vpf_wing.specs.Kept.Kept.{place_among}
+use Rattle.vpf_wing.specs.Inner.Kept.Kept.{place_among}
 use Rattle.vpf_prims.specs.Libraries.{library_of}
 use Rattle.vpf_renumbering.proofs.glued_edges.KeepLemmas.{kept_of, node_placed, node_row}
 use Rattle.vpf_renumbering.proofs.glued_edges.glued.GluedEdges.node_number.Goals as goal

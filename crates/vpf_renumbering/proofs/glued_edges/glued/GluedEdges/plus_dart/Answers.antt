@@ -2,7 +2,7 @@ use Rattle.std.proofs.Common.{◌≡◌, true, sym, ◌∙◌, subst}
 use Rattle.vpf_darts.specs.Darts.{tile_dart_code}
 use Rattle.vpf_prims.specs.Coverages.{CoverageTables}
 use Rattle.vpf_prims.specs.Libraries.{library_of}
-use Rattle.vpf_wing.specs.DartLaws.{stands_in}
+use Rattle.vpf_wing.specs.Inner.DartLaws.{stands_in}
 use Rattle.vpf_wing.specs.Links.{links_of}
 use Rattle.vpf_follow.specs.Following.{library_map}
 use Rattle.vpf_tiling_laws.specs.Gluing.Glued.{plus_darts}

@@ -6,7 +6,7 @@ use Rattle.vpf_prims.specs.Coverages.{CoverageTables, last_tile}
 use Rattle.vpf_prims.specs.Libraries.{library_of}
 use Rattle.vpf_tiling_laws.specs.Gluing.Glued.{plus_darts}
 use Rattle.vpf_tiling_laws.specs.Gluing.Whole.{WholeFace, whole_of}
-use Rattle.vpf_renumbering.specs.GluedFaces.Faces.{HasFewFaces, faces_before}
+use Rattle.vpf_renumbering.specs.Inner.GluedFaces.Faces.{HasFewFaces, faces_before}
 use Rattle.vpf_renumbering.proofs.glued_faces.FewLemmas.{few_faces}
 use Rattle.vpf_renumbering.proofs.glued_faces.faces.GluedFaces.new.Goals as goal
 

@@ -2,7 +2,7 @@ use Rattle.std.proofs.Common.{◌≡◌, ◌≢◌, ℕ, ◌^◌, ◌<◌, ◌�
 use Rattle.std.proofs.lemmas.List.{take_all}
 use Rattle.std.proofs.lemmas.List.Elements.{All-push}
 use Rattle.std.specs.Prelude.{All}
-use Rattle.vpf_copies.specs.Presence.{items_in}
+use Rattle.vpf_cutting.specs.Inner.Copies.Presence.{items_in}
 use Rattle.vpf_darts.specs.Darts.{tile_dart_code}
 use Rattle.vpf_prims.specs.Coverages.{CoverageTables}
 use Rattle.vpf_prims.specs.Libraries.{library_of}
@@ -13,8 +13,8 @@ use Rattle.vpf_prims.specs.Reading.{primitives_of}
 use Rattle.vpf_prims.specs.References.{id_of}
 use Rattle.vpf_wing.specs.Links.{links_of}
 use Rattle.vpf_tiling_laws.specs.Gluing.Whole.{ring_start_dart}
-use Rattle.vpf_cut_rings.proofs.PlaceLemmas.{IsRingOfFace, kept_at}
-use Rattle.vpf_renumbering.specs.GluedFaces.Rings.{HasHomeStart, rings_glued}
+use Rattle.vpf_cut_rings.specs.Inner.PlaceLaws.{IsRingOfFace, kept_at}
+use Rattle.vpf_renumbering.specs.Inner.GluedFaces.Rings.{HasHomeStart, rings_glued}
 use Rattle.vpf_renumbering.proofs.glued_faces.RingLemmas.{face_made, more_made, one_ring, ring_at, start_home}
 use Rattle.vpf_renumbering.proofs.glued_faces.faces.GluedFaces.push_face_rings.Goals as goal
 

@@ -1,8 +1,8 @@
 use Rattle.std.proofs.Common.{◌≡◌, ◌++◌, map, take}
 use Rattle.std.specs.Prelude.{All}
-use Rattle.vpf_copies.specs.Presence.{items_in}
+use Rattle.vpf_cutting.specs.Inner.Copies.Presence.{items_in}
 use Rattle.vpf_prims.specs.Libraries.{library_of}
-use Rattle.vpf_renumbering.specs.GluedFaces.Rings.{HasHomeStart, rings_glued}
+use Rattle.vpf_renumbering.specs.Inner.GluedFaces.Rings.{HasHomeStart, rings_glued}
 use Rattle.vpf_renumbering.proofs.glued_faces.RingLemmas.{ring_at}
 use Rattle.vpf_renumbering.proofs.glued_faces.faces.GluedFaces.push_face_rings.Given as goal
 

@@ -5,7 +5,7 @@ use Rattle.vpf_prims.specs.Libraries.{library_of, primitives_in}
 use Rattle.vpf_prims.specs.Primitives.{face_count, faces_in}
 use Rattle.vpf_prims.specs.Reading.{primitives_of}
 use Rattle.vpf_prims.specs.Tables.{TileTables}
-use Rattle.vpf_renumbering.specs.GluedFaces.Rings.{rings_glued}
+use Rattle.vpf_renumbering.specs.Inner.GluedFaces.Rings.{rings_glued}
 use Rattle.vpf_renumbering.proofs.glued_faces.RingLemmas.{faces_more, none_made, tile_made}
 use Rattle.vpf_renumbering.proofs.glued_faces.faces.GluedFaces.push_tile_rings.Goals as goal
 

@@ -2,7 +2,7 @@ use Rattle.std.proofs.Common.{◌≡◌, ◌++◌}
 use Rattle.std.specs.List.{range_with_len}
 use Rattle.std.specs.Prelude.{All, flat_map}
 use Rattle.vpf_prims.specs.Libraries.{library_of}
-use Rattle.vpf_renumbering.specs.GluedFaces.Rings.{HasHomeStart, rings_said, rings_glued}
+use Rattle.vpf_renumbering.specs.Inner.GluedFaces.Rings.{HasHomeStart, rings_said, rings_glued}
 use Rattle.vpf_renumbering.proofs.glued_faces.faces.GluedFaces.push_tile_rings.Given as goal
 
 abbrev pub invariant-loop-k : goal.invariant-loop-k

@@ -2,7 +2,7 @@ use Rattle.std.proofs.Common.{◌+◌, ◌∙◌, ap, length, map}
 use Rattle.vpf_prims.specs.Libraries.{library_of}
 use Rattle.vpf_tiling_laws.specs.Gluing.Whole.{whole_of}
 use Rattle.vpf_cut_rings.specs.declared.rings.CutRing.{CutRing}
-use Rattle.vpf_cut_rings.specs.Rings.{first_rings_of, ring_of as cut_ring_of}
+use Rattle.vpf_cut_rings.specs.Inner.Rings.{first_rings_of, ring_of as cut_ring_of}
 use Rattle.std.proofs.Common.{List}
 use Rattle.vpf_renumbering.proofs.glued_faces.RingLemmas.{firsts_same}
 use Rattle.vpf_renumbering.proofs.glued_faces.faces.GluedFaces.ring_ptrs.Goals as goal

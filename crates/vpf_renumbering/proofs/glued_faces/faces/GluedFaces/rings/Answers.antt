@@ -5,8 +5,8 @@ use Rattle.vpf_prims.specs.Libraries.{library_of}
 use Rattle.vpf_tiling_laws.specs.Gluing.Glued.{plus_darts, universe_rings}
 use Rattle.vpf_tiling_laws.specs.Gluing.Whole.{whole_of}
 use Rattle.vpf_renumbering.specs.declared.glued_faces.rings.GluedRing.{GluedRing}
-use Rattle.vpf_renumbering.specs.GluedFaces.Faces.{IsJoined}
-use Rattle.vpf_renumbering.specs.GluedFaces.Rings.{HasHomeStart, rings_glued}
+use Rattle.vpf_renumbering.specs.Inner.GluedFaces.Faces.{IsJoined}
+use Rattle.vpf_renumbering.specs.Inner.GluedFaces.Rings.{HasHomeStart, rings_glued}
 use Rattle.vpf_renumbering.proofs.glued_faces.FewLemmas.{few_faces}
 use Rattle.vpf_renumbering.proofs.glued_faces.RingLemmas.{all_made, made_map, no_rings_yet, rings_few, tiles_more}
 use Rattle.vpf_renumbering.proofs.glued_faces.faces.GluedFaces.rings.Goals as goal

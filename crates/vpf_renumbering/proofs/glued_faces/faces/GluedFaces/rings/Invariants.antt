@@ -4,7 +4,7 @@ use Rattle.std.specs.Prelude.{All, flat_map}
 use Rattle.vpf_prims.specs.Libraries.{library_of}
 use Rattle.vpf_tiling_laws.specs.Gluing.Glued.{universe_rings}
 use Rattle.vpf_tiling_laws.specs.Gluing.Whole.{whole_of}
-use Rattle.vpf_renumbering.specs.GluedFaces.Rings.{HasHomeStart, rings_glued, rings_of_tile}
+use Rattle.vpf_renumbering.specs.Inner.GluedFaces.Rings.{HasHomeStart, rings_glued, rings_of_tile}
 use Rattle.vpf_renumbering.proofs.glued_faces.faces.GluedFaces.rings.Given as goal
 
 abbrev pub invariant-loop-tile : goal.invariant-loop-tile

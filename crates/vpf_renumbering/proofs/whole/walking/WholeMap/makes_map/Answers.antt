@@ -5,7 +5,7 @@ use Rattle.vpf_prims.specs.Coverages.{CoverageTables}
 use Rattle.vpf_prims.specs.Libraries.{library_of}
 use Rattle.vpf_wing.specs.Links.{links_of}
 use Rattle.vpf_follow.specs.Following.{is_home, library_map}
-use Rattle.vpf_trace.proofs.LineLemmas.{library_is_map}
+use Rattle.vpf_trace.specs.Inner.LineLaws.{library_is_map}
 use Rattle.vpf_renumbering.proofs.whole.SignLemmas.{two_signs}
 use Rattle.vpf_renumbering.proofs.whole.walking.WholeMap.makes_map.Goals as goal
 

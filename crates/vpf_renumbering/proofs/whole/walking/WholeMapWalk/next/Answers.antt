@@ -5,7 +5,7 @@ use Rattle.vpf_prims.specs.Libraries.{library_of}
 use Rattle.vpf_wing.specs.Links.{links_of}
 use Rattle.vpf_follow.specs.Following.{follow}
 use Rattle.vpf_trace.specs.Tracing.{IsTraceable}
-use Rattle.vpf_trace.proofs.WalkLemmas.{is_followed}
+use Rattle.vpf_trace.specs.Inner.WalkLaws.{is_followed}
 use Rattle.vpf_renumbering.proofs.whole.walking.WholeMapWalk.next.Goals as goal
 
 pub unreachable-requires : goal.unreachable-requires

@@ -1,6 +1,6 @@
 use Rattle.std.proofs.Common.{◌<◌, arith}
 use Rattle.std.proofs.lemmas.Result.{err_from_is_err_and}
-use Rattle.vpf_cutting.specs.Cuts.{plan_by}
+use Rattle.vpf_cutting.specs.Inner.Cuts.{plan_by}
 use Rattle.vpf_tiler.specs.TileFiles.Tables.{tables_if_made}
 use Rattle.vpf_tiler.proofs.tile_files.LibraryLemmas.{tiles_fail, tiles_more}
 use Rattle.vpf_tiler.proofs.tile_files.making.Making.add_all.Goals as goal

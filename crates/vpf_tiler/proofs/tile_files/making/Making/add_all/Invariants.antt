@@ -1,7 +1,7 @@
 use Rattle.std.specs.Prelude.{flat_map}
-use Rattle.vpf_cutting.specs.Cuts.{plan_by}
+use Rattle.vpf_cutting.specs.Inner.Cuts.{plan_by}
 use Rattle.vpf_tiling.specs.Ranks.{up_to}
-use Rattle.vpf_table_files.specs.Adding.{AreAdded}
+use Rattle.vpf_library_files.specs.TableFiles.Adding.{AreAdded}
 use Rattle.vpf_tiler.specs.TileFiles.Tables.{tables_if_made}
 use Rattle.vpf_tiler.proofs.tile_files.making.Making.add_all.Given as goal
 

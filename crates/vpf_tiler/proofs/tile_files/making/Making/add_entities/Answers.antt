@@ -1,4 +1,4 @@
-use Rattle.vpf_cutting.specs.Cuts.{plan_by}
+use Rattle.vpf_cutting.specs.Inner.Cuts.{plan_by}
 use Rattle.vpf_tiler.proofs.tile_files.TileLemmas.{entities_fail}
 use Rattle.vpf_tiler.proofs.tile_files.making.Making.add_entities.Goals as goal
 

@@ -1,7 +1,7 @@
 use Rattle.std.proofs.Common.{◌≡◌, ℕ, List, true, ◌∙◌, subst, rules}
-use Rattle.vpf_cutting.specs.Cuts.{plan_by}
+use Rattle.vpf_cutting.specs.Inner.Cuts.{plan_by}
 use Rattle.vpf_tiling.specs.Tiles.{is_made}
-use Rattle.vpf_table_files.specs.Adding.{Adds}
+use Rattle.vpf_library_files.specs.TableFiles.Adding.{Adds}
 use Rattle.vpf_tiler.specs.TileFiles.Tables.{tile_tables}
 use Rattle.vpf_tiler.proofs.tile_files.making.Making.add_if_made.Goals as goal
 

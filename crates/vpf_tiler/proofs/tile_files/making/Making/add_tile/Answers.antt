@@ -1,6 +1,6 @@
 -- The tables are added one behind another, up to the first that isn't.
 use Rattle.std.proofs.lemmas.Result.{err_from_is_err_and}
-use Rattle.vpf_cutting.specs.Cuts.{plan_by}
+use Rattle.vpf_cutting.specs.Inner.Cuts.{plan_by}
 use Rattle.vpf_primitive_tables.specs.TileTables.Grids.{edges_made, faces_made, nodes_made, rings_made}
 use Rattle.vpf_tiler.proofs.tile_files.TileLemmas.{edges_fail, faces_fail, nodes_fail, rings_fail, tile_adds}
 use Rattle.vpf_tiler.proofs.tile_files.making.Making.add_tile.Goals as goal

@@ -1,5 +1,5 @@
 use Rattle.std.proofs.lemmas.Result.{err_from_is_err_and}
-use Rattle.vpf_cutting.specs.Cuts.{plan_by}
+use Rattle.vpf_cutting.specs.Inner.Cuts.{plan_by}
 use Rattle.vpf_primitive_tables.specs.TileTables.Grids.{tiles_made}
 use Rattle.vpf_tiler.proofs.tile_files.LibraryLemmas.{library_fails, library_made, tileref_fails}
 use Rattle.vpf_tiler.proofs.tile_files.making.Making.files.Goals as goal

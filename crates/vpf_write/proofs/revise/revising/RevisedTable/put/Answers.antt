@@ -2,7 +2,7 @@ use Rattle.std.proofs.Common.{◌≡◌, ◌∷◌, ◌++◌, [], map, sym, ap, 
 use Rattle.vpf_value.specs.Values.{view}
 use Rattle.vpf_table.specs.Canonical.{FitsRow}
 use Rattle.vpf_table.specs.Grid.{Row}
-use Rattle.vpf_write.specs.Tallies.{Tally, Holds}
+use Rattle.vpf_write.specs.Inner.Tallies.{Tally, Holds}
 use Rattle.vpf_write.specs.Revise.Revising.{new_value, revised}
 use Rattle.vpf_write.proofs.revise.FittingRows.{revised_fits}
 use Rattle.vpf_write.proofs.revise.Turns.{all_within}

@@ -1,6 +1,0 @@
-use Rattle.std.proofs.Common.{◌≡◌, drop}
-use Rattle.vpf_classes.proofs.HeaderLemmas.{first_of}
-use Rattle.vpf_classes.proofs.keys.first_header.Given as goal
-
-abbrev pub invariant-loop-t : goal.invariant-loop-t
-invariant-loop-t l = first_of l.name (drop l.t l.coverage.tiles) ≡ first_of l.name l.coverage.tiles

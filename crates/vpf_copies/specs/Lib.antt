@@ -1,4 +1,0 @@
-pub mod Lists
-pub mod Presence
-pub mod Placing
-pub mod Laws

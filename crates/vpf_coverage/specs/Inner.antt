@@ -1,0 +1,3 @@
+pub mod Coverages
+pub mod Opened
+pub mod Opening

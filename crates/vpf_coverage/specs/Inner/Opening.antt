@@ -1,0 +1,4 @@
+pub mod OpenLaws
+pub mod Opened
+pub mod Opens
+pub mod OpensTiles

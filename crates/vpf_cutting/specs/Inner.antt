@@ -1,0 +1,7 @@
+pub mod Copies
+pub mod Cuts
+pub mod FirstLaws
+pub mod Onward
+pub mod Rows
+pub mod Sides
+pub mod WalkLaws

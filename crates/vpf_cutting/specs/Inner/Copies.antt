@@ -1,0 +1,4 @@
+pub mod Laws
+pub mod Lists
+pub mod Placing
+pub mod Presence

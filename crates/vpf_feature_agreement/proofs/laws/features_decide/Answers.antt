@@ -1,5 +1,0 @@
-use Rattle.vpf_feature_agreement.proofs.FeatureTables.{features_decided}
-use Rattle.vpf_feature_agreement.proofs.laws.features_decide.Goals as goal
-
-pub returns : goal.returns
-returns c = features_decided c.agreement_is_no_finding.ensures.agrees c.agreement_is_no_finding.ensures.none

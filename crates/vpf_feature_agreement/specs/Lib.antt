@@ -1,4 +1,0 @@
-pub mod Agreeing
-pub mod Steps
-pub use Rattle.vpf_features.specs.declared.faults.FeatureFault
-pub use Rattle.vpf_features.specs.Finding

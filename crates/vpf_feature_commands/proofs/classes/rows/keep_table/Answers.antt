@@ -1,0 +1,12 @@
+use Rattle.std.proofs.Common.{◌∙◌, List, ap, map, rules}
+use Rattle.std.proofs.lemmas.Fn.{filter_same}
+use Rattle.vpf_feature_files.specs.declared.schema_rows.rows.SchemaRow.{SchemaRow}
+use Rattle.vpf_feature_files.specs.SchemaRows.Joins.{SchemaJoin, join_of}
+use Rattle.vpf_feature_files.specs.SchemaRows.Items.{same_item}
+use Rattle.vpf_feature_commands.proofs.classes.RowLemmas.{kept_seen}
+use Rattle.vpf_feature_commands.proofs.classes.rows.keep_table.Goals as goal
+
+pub returns : goal.returns
+returns c =
+    ap (λ (rows : List SchemaRow). map join_of rows) (filter_same _ (λ (row : SchemaRow). same_item row.table1.text.now c.args.table.text.now) _ (λ x b q r. search rules) _ _ c.retain.ensures.filtered)
+    ∙ kept_seen join_of (λ (other : SchemaJoin). same_item other.table1 c.args.table.text.now) c.args.rows.now.items

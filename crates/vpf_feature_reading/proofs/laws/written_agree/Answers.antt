@@ -1,9 +1,0 @@
-use Rattle.vpf_feature_reading.proofs.RebuiltLemmas.{written_agrees}
-use Rattle.vpf_feature_reading.proofs.laws.written_agree.Goals as goal
-
-pub returns : goal.returns
-returns c = written_agrees c.built_indexes_agree.ensures (record {
-  read = c.opened_is_read.ensures;
-  spelled = c.read_is_spelled.ensures;
-  writable = c.read_is_writable.ensures;
-})

@@ -1,0 +1,3 @@
+pub mod AddLaws
+pub mod Adding
+pub mod FeatureReading

@@ -1,0 +1,3 @@
+pub mod FeatureAgreement
+pub mod Opened
+pub mod Views

@@ -1,0 +1,9 @@
+pub mod FollowLaws
+pub mod Followed
+pub mod HomeLaws
+pub mod Homes
+pub mod Laws
+pub mod ListLaws
+pub mod Rows
+pub mod TileLaws
+pub mod DartPlaces

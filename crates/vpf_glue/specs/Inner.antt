@@ -1,0 +1,4 @@
+pub mod Forms
+pub mod GluedReading
+pub mod GluedTables
+pub mod Sources

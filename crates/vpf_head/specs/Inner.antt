@@ -1,0 +1,4 @@
+pub mod CountLaws
+pub mod Deciding
+pub mod Soundness
+pub mod Views

@@ -1,0 +1,14 @@
+use Rattle.std.proofs.Common.{rules}
+use Rattle.std.specs.Ordering.{is_le}
+use Rattle.std.proofs.lemmas.List.Sorted.{IsPartitionPoint-from_clause}
+use Rattle.vpf_value.specs.Values.{view}
+use Rattle.vpf_joins.specs.declared.keys.keyed.KeyedRow.{KeyedRow}
+use Rattle.vpf_joins.specs.Keys.Keys.{standing}
+use Rattle.vpf_joins.proofs.keys.SearchLemmas.{up_to_partitioned}
+use Rattle.vpf_joins.proofs.keys.ordering.count_up_to.Goals as goal
+
+pub returns-clause-up_to : goal.returns-clause-up_to
+returns-clause-up_to c =
+    let key = view c.args.key.now in
+    IsPartitionPoint-from_clause (λ (row : KeyedRow). is_le (standing key row)) c.args.rows.now c.partition_point.result c.partition_point.ensures.partitioned
+    (up_to_partitioned c.values_are_ordered.ensures.total key c.args.rows.now c.requires) (λ a r f h. search rules)

@@ -1,0 +1,2 @@
+pub mod TiledFeatures
+pub mod Tilings

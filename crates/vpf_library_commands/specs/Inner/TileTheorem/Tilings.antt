@@ -1,0 +1,4 @@
+pub mod Laws
+pub mod MadeLaws
+pub mod ReadLaws
+pub mod SourceLaws

@@ -1,0 +1,46 @@
+-- What is so of every tiled library that is made, and of the names that words spell.
+use Rattle.std.specs.Prelude.{◌≡◌, ℕ, IsUtf8, List, Some, length}
+use Rattle.std.specs.List.{AllByRecursion}
+use Rattle.vpf_source.specs.Files.{Files}
+use Rattle.vpf_source.specs.Making.{with_all}
+use Rattle.vpf_prims.specs.Reading.{primitives_of}
+use Rattle.vpf_prims.specs.Tables.{TileTables}
+use Rattle.vpf_library_files.specs.Loading.Holding.{HoldsBytes}
+use Rattle.vpf_library_commands.specs.declared.requesting.MakeRequest.{MakeRequest}
+use Rattle.vpf_replies.specs.Making.{made_answer}
+use Rattle.vpf_library_commands.specs.Make.{make_request}
+use Rattle.vpf_library_commands.specs.Tile.{TileParts, tile_answer}
+use Rattle.vpf_library_commands.specs.Reading.{no_features}
+use Rattle.vpf_library_commands.specs.TileTheorem.Tilings.Cutting.{IsCutFrom, cut_files, cut_plan}
+use Rattle.vpf_library_commands.specs.TileTheorem.Tilings.Tilings.{HasNames, HoldsTiled, HoldsTiling, LacksTheRest, StandsAlone, made_request}
+
+-- where what was read can be cut, the answer of `tile` is to make the files of the tiled library and of its features
+abbrev pub TilesAreMade : Type 0
+TilesAreMade = (files : Files) (request : MakeRequest) (parts : TileParts) (T : TileTables) → IsCutFrom files request parts T
+    → tile_answer files request ≡ made_answer (cut_files request parts T)
+
+-- where these files are made, stand alone, and what the features lacked isn't there, the tree holds that library with its features, and it agrees;
+-- names are text, and the files that are read hold bytes
+abbrev pub TilingsAreHeld : Type 0
+TilingsAreHeld = (files after : Files) (request : MakeRequest) (parts : TileParts) (T : TileTables) → HoldsBytes files → HasNames request
+    → IsCutFrom files request parts T → StandsAlone files request.out (cut_files request parts T)
+    → with_all (cut_files request parts T) (Some files) ≡ Some after → LacksTheRest after request.out request.cov parts.schema
+    → HoldsTiled after (made_request request) (primitives_of T.tables) (cut_plan parts T) (length parts.tileref.grid.rows) parts.schema
+
+-- and where all files hold bytes, `check` accepts it, and `trace` lists the coverage's cycles
+abbrev pub TilingsAgree : Type 0
+TilingsAgree = (files after : Files) (request : MakeRequest) (parts : TileParts) (T : TileTables) → HoldsBytes files → HoldsBytes after → HasNames request
+    → IsCutFrom files request parts T → StandsAlone files request.out (cut_files request parts T)
+    → with_all (cut_files request parts T) (Some files) ≡ Some after → LacksTheRest after request.out request.cov parts.schema
+    → HoldsTiling after (made_request request) (primitives_of T.tables) (cut_plan parts T) (length parts.tileref.grid.rows) parts.schema
+
+-- a coverage without features lacks none of the rest
+abbrev pub NoneIsLacked : Type 0
+NoneIsLacked = (files after : Files) (request : MakeRequest) (parts : TileParts) (T : TileTables) → HoldsBytes files → HasNames request
+    → IsCutFrom files request parts T → StandsAlone files request.out (cut_files request parts T)
+    → with_all (cut_files request parts T) (Some files) ≡ Some after → parts.schema ≡ no_features
+    → LacksTheRest after request.out request.cov parts.schema
+
+-- words of text spell requests whose names are text
+abbrev pub RequestsHaveNames : Type 0
+RequestsHaveNames = (words : List (List ℕ)) (request : MakeRequest) → AllByRecursion IsUtf8 words → make_request words ≡ Some request → HasNames request

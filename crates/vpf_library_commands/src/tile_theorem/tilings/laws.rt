@@ -1,0 +1,52 @@
+//! What is so of every tiled library that is made, and of the requests that words spell.
+
+ghost use Rattle.vpf_library_commands.specs.Inner.TileTheorem.Tilings.Laws.{NoneIsLacked, RequestsHaveNames, TilesAreMade, TilingsAgree, TilingsAreHeld};
+
+use crate::laws::{check_decides_agreement, trace_lists_cycles};
+use crate::tile_theorem::tiled_features::laws::made_with_features;
+use crate::tiler::laws::made_agrees;
+use vpf_features::feature_agreement::laws::features_decide;
+use vpf_library_files::tileref::laws::stops_decide;
+use vpf_table::laws::{opened_is_read, read_is_spelled, read_is_writable};
+
+/// Where an untiled coverage agrees with its features, its plan serves and no features are joined by numbers, `tile` makes the files of its tiled library, and
+/// behind them those of its features.
+pub fn tiles_are_made()
+    ensures { TilesAreMade }
+{}
+
+/// Where the files of a tiled library and of its features are made in an empty folder, no two under one name and with not too many bytes in all, and what the
+/// features lacked isn't there, the tree holds that library with its features: `check` accepts it, since its tables, references, cycles and features agree, and
+/// `trace` lists exactly the boundary cycles of the coverage without its lines between tiles, each dart called by its name in the tiles.
+pub fn tilings_agree()
+    ensures held { TilingsAreHeld }
+    ensures listed { TilingsAgree }
+{
+    opened_is_read();
+    read_is_spelled();
+    read_is_writable();
+    stops_decide();
+    features_decide();
+    check_decides_agreement();
+    trace_lists_cycles();
+    made_agrees();
+    made_with_features();
+}
+
+/// What features lack can't stand among the files that are made of a coverage without features.
+pub fn none_is_lacked()
+    ensures { NoneIsLacked }
+{
+    opened_is_read();
+    read_is_spelled();
+    read_is_writable();
+    stops_decide();
+    features_decide();
+    check_decides_agreement();
+    made_agrees();
+}
+
+/// Words of text spell requests of `tile` whose names are text, and whose coverage has one.
+pub fn requests_have_names()
+    ensures { RequestsHaveNames }
+{}

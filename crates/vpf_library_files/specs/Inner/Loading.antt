@@ -1,0 +1,4 @@
+pub mod FileLaws
+pub mod HeldLaws
+pub mod Laws
+pub mod StepLaws

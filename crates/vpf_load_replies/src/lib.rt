@@ -1,8 +1,0 @@
-//! The replies to what stops the loading of files, and the names of files by their places.
-#![tactic(auto)]
-
-mod naming;
-mod stopping;
-
-pub use naming::named;
-pub use stopping::stopped;

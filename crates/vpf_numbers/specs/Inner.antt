@@ -1,0 +1,4 @@
+pub mod Beyond
+pub mod CarriedLaws
+pub mod Inside
+pub mod Laws

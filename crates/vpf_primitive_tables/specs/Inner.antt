@@ -1,0 +1,4 @@
+pub mod TableForms
+pub mod TileReading
+pub mod TileTables
+pub mod TileWriting

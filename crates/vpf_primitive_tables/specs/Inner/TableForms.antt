@@ -1,0 +1,4 @@
+pub mod ColumnLaws
+pub mod CountedLaws
+pub mod Models
+pub mod Places

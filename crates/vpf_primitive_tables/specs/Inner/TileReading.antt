@@ -1,0 +1,9 @@
+pub mod CarriedLaws
+pub mod CellLaws
+pub mod ChangeLaws
+pub mod Cuts
+pub mod EachLaws
+pub mod Laws
+pub mod NumberLaws
+pub mod OwnLaws
+pub mod RowLaws

@@ -1,0 +1,3 @@
+pub mod GluedEdges
+pub mod GluedFaces
+pub mod Whole

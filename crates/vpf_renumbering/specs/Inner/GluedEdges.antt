@@ -1,0 +1,4 @@
+pub mod Counting
+pub mod FaceLaws
+pub mod Glued
+pub mod Numbers

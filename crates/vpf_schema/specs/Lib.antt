@@ -1,4 +1,0 @@
-pub mod Items
-pub mod Joins
-pub mod Placed
-pub mod Listing

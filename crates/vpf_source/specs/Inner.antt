@@ -1,0 +1,5 @@
+pub mod Calls
+pub mod Halves
+pub mod Held
+pub mod Names
+pub mod Sure

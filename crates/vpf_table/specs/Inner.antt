@@ -1,0 +1,17 @@
+pub mod CanonicalLaws
+pub mod CellsLeft
+pub mod Counts
+pub mod Deciding
+pub mod FileTables
+pub mod Lower
+pub mod Offsets
+pub mod OrderLaws
+pub mod PlacedHeaders
+pub mod RowViews
+pub mod RowWalks
+pub mod RowsLeft
+pub mod TableFiles
+pub mod Views
+pub mod WalkLaws
+pub mod WidthLaws
+pub mod Widths

@@ -1,0 +1,13 @@
+pub mod Deciding
+pub mod FaultLaws
+pub mod Faults
+pub mod HeaderLaws
+pub mod Keeping
+pub mod KeyLaws
+pub mod Keys
+pub mod PieceLaws
+pub mod Searching
+pub mod StoredLaws
+pub mod ValueLaws
+pub mod Views
+pub mod WalkLaws

@@ -1,1 +1,0 @@
-pub use Rattle.vpf_library_commands.proofs.TraceAnswers

@@ -1,8 +1,0 @@
-//! What `tile` makes is the coverage: `check` accepts it, and `trace` lists the cycles of the coverage (MIL-STD-2407, 5.2.3, tiled coverages and
-//! cross-tile topology).
-#![tactic(auto)]
-
-pub mod tiled_features;
-pub mod tilings;
-
-pub use vpf_library_commands as library_commands;

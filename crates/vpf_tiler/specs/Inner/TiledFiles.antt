@@ -1,0 +1,13 @@
+pub mod AbsentLaws
+pub mod EntryLaws
+pub mod Folders
+pub mod Laws
+pub mod LibraryLaws
+pub mod NameLaws
+pub mod Names
+pub mod PairLaws
+pub mod PathLaws
+pub mod StemLaws
+pub mod TableLaws
+pub mod TileLaws
+pub mod WrittenLaws

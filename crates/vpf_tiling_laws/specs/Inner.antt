@@ -1,0 +1,2 @@
+pub mod Gluing
+pub mod Tiled

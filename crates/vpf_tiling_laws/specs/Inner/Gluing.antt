@@ -1,0 +1,3 @@
+pub mod Gluing
+pub mod ListLaws
+pub mod Renumbering

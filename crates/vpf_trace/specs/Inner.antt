@@ -1,0 +1,8 @@
+pub mod AgreeLaws
+pub mod CheckedLaws
+pub mod GatherLaws
+pub mod Gathering
+pub mod Laws
+pub mod LineLaws
+pub mod UntiledLaws
+pub mod WalkLaws

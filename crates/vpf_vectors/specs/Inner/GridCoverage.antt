@@ -1,0 +1,4 @@
+pub mod Coverage
+pub mod DartLaws
+pub mod Laws
+pub mod RowLaws

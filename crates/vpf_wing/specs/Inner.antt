@@ -1,0 +1,11 @@
+pub mod DartLaws
+pub mod Errors
+pub mod FirstNumbers
+pub mod FlipLaws
+pub mod Kept
+pub mod Laws
+pub mod Leasts
+pub mod NextPlaces
+pub mod Nodes
+pub mod NumberLaws
+pub mod RangeLaws

@@ -1,0 +1,10 @@
+pub mod CellLists
+pub mod Cuts
+pub mod Drafts
+pub mod InPlace
+pub mod LimitLaws
+pub mod TableWriters
+pub mod Tallies
+pub mod Turning
+pub mod WholeLaws
+pub mod WritingLaws
