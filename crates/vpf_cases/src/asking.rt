@@ -5,31 +5,28 @@ use crate::folders::{enter, files_here, leave, put_files};
 use crate::memory::{CaseSink, CaseTree};
 use std::alloc::{AllocError, Global};
 use std::io;
-use vpf_notation::Case;
+use vpf_notation::{Case, Run};
 use vpf_run::run;
 use vpf_source::{FolderTree, Tree};
 
 /// The length of long pieces.
 const LONG: usize = 4096;
 
-/// Asks the words of a case one after another over a tree.
+/// Asks some words over a tree.
 fn ask_words<T: Tree>(
     alloc: Global,
-    case: &Case,
+    asked: &Run,
     tree: &mut T,
     piece: usize,
     way: &str,
     differences: &mut Differences,
 ) -> Result<(), AllocError> {
-    for asked in &case.runs {
-        let mut out = CaseSink::new(alloc, piece);
-        let status = run(alloc, &asked.words, tree, &mut out);
-        differences.compare_run(way, asked, status.code(), out.bytes())?;
-    }
-    Ok(())
+    let mut out = CaseSink::new(alloc, piece);
+    let status = run(alloc, &asked.words, tree, &mut out);
+    differences.compare_run(way, asked, status.code(), out.bytes())
 }
 
-/// Asks a case over files in memory.
+/// Asks a case over files in memory, no byte of which a run may ask for twice.
 fn ask_memory(
     alloc: Global,
     case: &Case,
@@ -38,7 +35,11 @@ fn ask_memory(
     differences: &mut Differences,
 ) -> Result<(), AllocError> {
     let mut tree = CaseTree::new(alloc, piece, case)?;
-    ask_words(alloc, case, &mut tree, piece, way, differences)?;
+    for asked in &case.runs {
+        tree.begin();
+        ask_words(alloc, asked, &mut tree, piece, way, differences)?;
+        differences.compare_reads(way, asked, tree.asked_twice())?;
+    }
     differences.compare_files(way, case, tree.files())
 }
 
@@ -47,7 +48,9 @@ fn ask_here(rt: &HostRuntime, case: &Case, differences: &mut Differences) -> io:
     let way = "real files";
     let mut tree = FolderTree::new(rt.alloc(), rt);
     put_files(&mut tree, &case.files)?;
-    ask_words(rt.alloc(), case, &mut tree, LONG, way, differences)?;
+    for asked in &case.runs {
+        ask_words(rt.alloc(), asked, &mut tree, LONG, way, differences)?;
+    }
     let files = files_here(rt)?;
     Ok(differences.compare_files(way, case, &files)?)
 }

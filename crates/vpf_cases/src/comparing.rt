@@ -134,6 +134,21 @@ impl Differences {
         self.compare_text(way, run, text)
     }
 
+    /// That no file was asked for twice by the words of a run.
+    pub fn compare_reads(
+        &mut self,
+        way: &str,
+        run: &Run,
+        again: Option<&str>,
+    ) -> Result<(), AllocError> {
+        let Some(name) = again else {
+            return Ok(());
+        };
+        let line = run.line;
+        let what = format!(in self.alloc; "words in line {line}: file {name:?} asked for twice")?;
+        self.tell(way, what)
+    }
+
     /// A file that should stand there.
     fn compare_file(
         &mut self,

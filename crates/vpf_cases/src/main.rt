@@ -8,6 +8,7 @@ mod memory;
 mod shelf;
 mod tags;
 mod telling;
+mod touching;
 
 use shelf::{Book, Shelf, read_shelf};
 use std::io;

@@ -2,6 +2,7 @@
 
 ghost use Rattle.std.specs.Prelude.{◌≤◌, ◌<◌, None, length};
 
+use crate::touching::Touches;
 use std::alloc::{AllocError, Global};
 use vpf_notation::{Case, Files};
 use vpf_source::{DeviceError, Failed, Sink, Tree};
@@ -12,6 +13,7 @@ pub struct CaseTree {
     alloc: Global,
     piece: usize,
     files: Files,
+    touches: Touches,
     ghost some: { 1 ≤ piece },
 }
 
@@ -24,7 +26,18 @@ impl CaseTree {
             alloc,
             piece: piece.max(1),
             files,
+            touches: Touches::new(alloc),
         })
+    }
+
+    /// A run begins: what those before asked for is forgotten.
+    pub fn begin(&mut self) {
+        self.touches = Touches::new(self.alloc);
+    }
+
+    /// The first file that is there of which the run asked twice for the size, or for a byte.
+    pub fn asked_twice(&self) -> Option<&str> {
+        self.touches.again()
     }
 
     /// The files as they stand now.
@@ -52,17 +65,21 @@ impl Tree for CaseTree {
     ghost faults = { λ _. 0 };
 
     fn size(&mut self, name: &str) -> Result<Option<u64>, Failed> {
-        match self.files.get(name) {
-            Some(bytes) => Ok(Some(bytes.len() as u64)),
-            None => Ok(None),
-        }
+        let Some(bytes) = self.files.get(name) else {
+            return Ok(None);
+        };
+        let size = bytes.len() as u64;
+        let _noted = self.touches.size(name);
+        Ok(Some(size))
     }
 
     fn read_at(&mut self, name: &str, at: u64, buf: &mut [u8]) -> Result<usize, Failed> {
-        match self.files.get(name) {
-            Some(bytes) => Ok(read_piece(bytes, at, self.piece, buf)),
-            None => Ok(0),
-        }
+        let count = match self.files.get(name) {
+            Some(bytes) => read_piece(bytes, at, self.piece, buf),
+            None => 0,
+        };
+        let _noted = self.touches.read(name, at, count);
+        Ok(count)
     }
 
     fn make(&mut self, name: &str, bytes: &[u8]) -> Result<(), DeviceError> {

@@ -2,7 +2,7 @@
 use Rattle.std.specs.Prelude.{◌≡◌, Result, Ok, Err}
 use Rattle.vpf_source.specs.Files.{Files}
 use Rattle.vpf_library_files.specs.declared.loading.loading.LoadStop.{LoadStop}
-use Rattle.vpf_feature_commands.specs.Classes.Serving.{IndexesServe, unindexed_schema}
+use Rattle.vpf_feature_commands.specs.Classes.Serving.{AskedIndexServes, unindexed_schema}
 use Rattle.vpf_replies.specs.Answer.{Answer}
 use Rattle.vpf_feature_commands.specs.declared.requesting.SelectRequest.{SelectRequest}
 use Rattle.vpf_featured.specs.Reading.{FeaturedCoverage, read_featured}
@@ -17,16 +17,16 @@ plain_read (Err stop) = Err stop
 abbrev pub plain_select_answer : Files → SelectRequest → Answer
 plain_select_answer files request = featured_answer request (plain_read (read_featured files request.lib request.cov 0).0)
 
--- the thematic indexes that were read agree with their columns
-abbrev pub ServeWhatIsRead : Result FeaturedCoverage LoadStop → Type 0
-ServeWhatIsRead (Ok read) = IndexesServe read.schema
-ServeWhatIsRead (Err stop) = Unit {0}
+-- the thematic index of what was read that a request asks for agrees with its column
+abbrev pub ServesWhatIsRead : SelectRequest → Result FeaturedCoverage LoadStop → Type 0
+ServesWhatIsRead request (Ok read) = AskedIndexServes read.schema request.class request.column
+ServesWhatIsRead request (Err stop) = Unit {0}
 
--- .. those of the features that are selected from
-abbrev pub FeatureIndexesAgree : Files → SelectRequest → Type 0
-FeatureIndexesAgree files request = ServeWhatIsRead (read_featured files request.lib request.cov 0).0
+-- .. that of the features that are selected from
+abbrev pub FeatureIndexAgrees : Files → SelectRequest → Type 0
+FeatureIndexAgrees files request = ServesWhatIsRead request (read_featured files request.lib request.cov 0).0
 
--- where the indexes agree, the answer is that by plain scans
+-- where that index agrees, the answer is that by plain scans
 abbrev pub PlainSelections : Type 0
-PlainSelections = (files : Files) (request : SelectRequest) → FeatureIndexesAgree files request
+PlainSelections = (files : Files) (request : SelectRequest) → FeatureIndexAgrees files request
     → plain_select_answer files request ≡ select_answer files request

@@ -33,7 +33,7 @@ ghost use Rattle.vpf_table_commands.specs.declared.indexing.IndexRequest.{IndexR
 ghost use Rattle.vpf_table_commands.specs.declared.selecting.RowsRequest.{RowsRequest};
 ghost use Rattle.vpf_table_commands.specs.Rows.{IndexAgrees};
 ghost use Rattle.vpf_feature_commands.specs.declared.requesting.SelectRequest.{SelectRequest};
-ghost use Rattle.vpf_feature_commands.specs.Plain.{FeatureIndexesAgree, plain_select_answer};
+ghost use Rattle.vpf_feature_commands.specs.Plain.{FeatureIndexAgrees, plain_select_answer};
 ghost use Rattle.vpf_run.specs.declared.command.Command.{Command};
 ghost use Rattle.vpf_run.specs.declared.command.Command.TheVariants.{Check, Drill, Index, Rows, Select, Tile, Trace};
 ghost use Rattle.vpf_run.specs.Commands.{command_of, IsAnswerTo, IsAnswer, IsAnswerAlone};
@@ -197,9 +197,9 @@ pub fn run<T: Tree, O: Sink>(alloc: Global, words: &[String], tree: &mut T, out:
         → T.files tree.old ≡ Some files → AsksForIndexed files request asked → result ≡ Status.Done
         → IfSome (T.files tree.new) (λ after. IndexAgrees after asked) }
 
-    // Where the thematic indexes of the feature tables agree with their columns, `select` does what plain scans of these do.
+    // Where the thematic index of the column that is asked for agrees with it, `select` does what plain scans of the feature table do.
     ensures selected { (files : Files) (request : SelectRequest) → command_of (map string_bytes words.now) ≡ Some (Select request)
-        → T.files tree.old ≡ Some files → FeatureIndexesAgree files request
+        → T.files tree.old ≡ Some files → FeatureIndexAgrees files request
         → Carries (plain_select_answer files request) result (record { files = T.files tree.old; written = O.written out.old })
         (record { files = T.files tree.new; written = O.written out.new }) }
 

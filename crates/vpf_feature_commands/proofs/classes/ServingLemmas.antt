@@ -1,4 +1,4 @@
--- What is asked for is the same without indexes, where these agree.
+-- What is asked for is the same without indexes, where the one that is asked for agrees.
 use Rattle.std.proofs.Common.{◌≡◌, ◌∙◌, ℕ, Bool, true, false, cond, List, [], ◌∷◌, length, map, Option, Some, None, option_map, refl, sym, ap}
 use Rattle.std.specs.Prelude.{Ok, Err, Result, slice_get, IfSome, bytes_eq}
 use Rattle.std.specs.Option.{option_or}
@@ -18,7 +18,7 @@ use Rattle.vpf_feature_files.specs.Schemas.{FeatureTable, Index, Schema, table_c
 use Rattle.vpf_feature_commands.specs.Classes.Asking.{by_column, by_joins, by_place, by_table, class_joins, features_of_rows, index_of_column, joined_table, rows_of_word, unless_absent, unless_bad, unless_lacks, unless_wrong}
 use Rattle.vpf_feature_commands.specs.Classes.Keys.{first_absent}
 use Rattle.vpf_feature_commands.specs.Classes.Lacks.{Lack, IndexUnfit}
-use Rattle.vpf_feature_commands.specs.Classes.Serving.{HasGoodIndexes, IndexesServe, unindexed_schema, unindexed_table}
+use Rattle.vpf_feature_commands.specs.Classes.Serving.{AskedIndexServes, HasGoodIndex, unindexed_schema, unindexed_table}
 
 -- what an index selects, and that nothing is found on it, where it agrees
 abbrev pub SelectsScan : Type 0
@@ -56,19 +56,23 @@ rows_same scans none F c column word (Some i) at agrees =
 -- ---- the features
 
 column_same : SelectsScan → NoFinding → (c : CoverageTables) (joins : List SchemaJoin) (F : FeatureTable) (name word : List ℕ) (p : ℕ) (column : Option Col)
-    → slice_get F.grid.head.columns p ≡ column → HasGoodIndexes F → by_column c joins F name word p column ≡ by_column c joins (unindexed_table F) name word p column
+    → slice_get F.grid.head.columns p ≡ column → HasGoodIndex F p → by_column c joins F name word p column ≡ by_column c joins (unindexed_table F) name word p column
 column_same scans none c joins F name word p None at good = refl
 column_same scans none c joins F name word p (Some column) at good =
     ap (λ (rows : Result (List ℕ) Lack). unless_absent (features_of_rows c joins F.grid rows) (first_absent c F.grid.head.columns joins))
-    (rows_same scans none F p column word (index_of_column F p) at (good p))
+    (rows_same scans none F p column word (index_of_column F p) at good)
 
 place_same : SelectsScan → NoFinding → (c : CoverageTables) (joins : List SchemaJoin) (F : FeatureTable) (name word : List ℕ) (place : Option ℕ)
-    → HasGoodIndexes F → by_place c joins F name word place ≡ by_place c joins (unindexed_table F) name word place
+    → ((p : ℕ) → place ≡ Some p → HasGoodIndex F p) → by_place c joins F name word place ≡ by_place c joins (unindexed_table F) name word place
 place_same scans none c joins F name word None good = refl
-place_same scans none c joins F name word (Some p) good = column_same scans none c joins F name word p (slice_get F.grid.head.columns p) refl good
+place_same scans none c joins F name word (Some p) good = column_same scans none c joins F name word p (slice_get F.grid.head.columns p) refl (good p refl)
+
+-- the index that a table has for the column of a name agrees
+abbrev HasGoodColumn : List ℕ → FeatureTable → Type 0
+HasGoodColumn name F = (p : ℕ) → place_of name F.grid.head.columns ≡ Some p → HasGoodIndex F p
 
 table_same : SelectsScan → NoFinding → (c : CoverageTables) (joins : List SchemaJoin) (name word : List ℕ) (table : Option FeatureTable)
-    → ((F : FeatureTable) → table ≡ Some F → HasGoodIndexes F) → by_table c joins name word table ≡ by_table c joins name word (option_map unindexed_table table)
+    → ((F : FeatureTable) → table ≡ Some F → HasGoodColumn name F) → by_table c joins name word table ≡ by_table c joins name word (option_map unindexed_table table)
 table_same scans none c joins name word None good = refl
 table_same scans none c joins name word (Some F) good = place_same scans none c joins F name word (place_of name F.grid.head.columns) (good F refl)
 
@@ -83,25 +87,23 @@ in_file : (tables : List FeatureTable) (name : List ℕ) → table_in_file (map 
 in_file [] name = refl
 in_file (F ∷ tables) name = find_here (bytes_eq F.name name) F (table_in_file tables name) (table_in_file (map unindexed_table tables) name) (in_file tables name)
 
--- the table that is called so has good indexes, and is the one that is called so without them
-abbrev Called : Schema → Option FeatureTable → Option FeatureTable → Type 0
-Called S table plain = (plain ≡ option_map unindexed_table table) × ((F : FeatureTable) → table ≡ Some F → HasGoodIndexes F)
+-- the table that is called so without its indexes is the one that is called so
+named : (S : Schema) (file : Option (List ℕ)) (item : List ℕ) → own_file item ≡ file → table_called (unindexed_schema S) item ≡ option_map unindexed_table (table_called S item)
+named S None item e = rw e refl
+named S (Some name) item e = rw e (in_file S.tables name)
 
-named : (S : Schema) (file : Option (List ℕ)) (item : List ℕ) → own_file item ≡ file → IndexesServe S → Called S (table_called S item) (table_called (unindexed_schema S) item)
-named S None item e serve = rw e (refl, λ F no. absurd (cc no))
-named S (Some name) item e serve = rw e (in_file S.tables name, λ F is. serve name F is)
+called : (S : Schema) (joins : List SchemaJoin) → joined_table (unindexed_schema S) joins ≡ option_map unindexed_table (joined_table S joins)
+called S [] = refl
+called S (r ∷ rs) = named S (own_file r.table1) r.table1 refl
 
-called : (S : Schema) (joins : List SchemaJoin) → IndexesServe S → Called S (joined_table S joins) (joined_table (unindexed_schema S) joins)
-called S [] serve = (refl, λ F no. absurd (cc no))
-called S (r ∷ rs) serve = named S (own_file r.table1) r.table1 refl serve
-
-joins_same : SelectsScan → NoFinding → (c : CoverageTables) (S : Schema) (name word : List ℕ) (joins : Result (List SchemaJoin) Lack) → IndexesServe S
+joins_same : SelectsScan → NoFinding → (c : CoverageTables) (S : Schema) (name word : List ℕ) (joins : Result (List SchemaJoin) Lack)
+    → ((rows : List SchemaJoin) (F : FeatureTable) → joins ≡ Ok rows → joined_table S rows ≡ Some F → HasGoodColumn name F)
     → by_joins c S name word joins ≡ by_joins c (unindexed_schema S) name word joins
-joins_same scans none c S name word (Err lack) serve = refl
-joins_same scans none c S name word (Ok joins) serve =
-    let table = called S joins serve in
-    table_same scans none c joins name word (joined_table S joins) table.1 ∙ sym (ap (by_table c joins name word) table.0)
+joins_same scans none c S name word (Err lack) good = refl
+joins_same scans none c S name word (Ok joins) good =
+    table_same scans none c joins name word (joined_table S joins) (λ F is. good joins F refl is) ∙ sym (ap (by_table c joins name word) (called S joins))
 
-pub asked_same : SelectsScan → NoFinding → (c : CoverageTables) (S : Schema) (class name word : List ℕ) → IndexesServe S
+pub asked_same : SelectsScan → NoFinding → (c : CoverageTables) (S : Schema) (class name word : List ℕ) → AskedIndexServes S class name
     → by_joins c S name word (class_joins S class) ≡ by_joins c (unindexed_schema S) name word (class_joins S class)
-asked_same scans none c S class name word serve = joins_same scans none c S name word (class_joins S class) serve
+asked_same scans none c S class name word serve =
+    joins_same scans none c S name word (class_joins S class) (λ joins F rows table p place. serve joins F p rows table place)
