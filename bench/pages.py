@@ -1,7 +1,7 @@
 """Sees that the pages of docs/ name what is there, and that specs/ is laid out as they say, and tells what is lacking: pages.py, at the root of the clone.
 
 DEFINITIONS: each word stands in a module of `specs/` that is named beside it. What the contract of `run` reaches, definition by definition, are exactly the modules outside of the folders `Inner`, lists of modules
-apart; how many it reached is printed. No name has two definitions in `specs/`. No file names lemmas of another crate's `proofs/`, but for those of vpf_base. ARCHITECTURE: each crate stands in one layer and in one
+apart; how many it reached is printed. Its table of clauses has the definitions that each comes to. No name has two definitions in `specs/`. No file names lemmas of another crate's `proofs/`, but for those of vpf_base. ARCHITECTURE: each crate stands in one layer and in one
 family, above none that it names, and has a row with the crates right below it. Each crate has a README. REFUSALS: each code of FORMAT, each rule of AGREEMENT, and each refusal and bound of COMMANDS, has a row.
 HEADLINE and CALLING: what is quoted is the source's. README: at most 130 lines, of at most 100 characters but for rows of tables. No sentence has more than 50 words. Links of the READMEs and of docs/ lead to files
 and headings that are there."""
@@ -86,15 +86,19 @@ called = {key: {name: home(crate, module) for crate, module, name in CALLED.find
 defined = {key: definitions(text) for key, text in modules.items()}
 
 
-def reached():
-    """The definitions that the contract of `run` comes to, each in its module."""
-    seen, todo = set(), [(key, name) for name, key in imports(pathlib.Path("crates/vpf_run/src/running.rt").read_text()).items()]
+RUN = pathlib.Path("crates/vpf_run/src/running.rt").read_text()
+WORD = re.compile(r"(?:(\w+)\.)?([^\s(){}\[\],.;:→λ×]+)")
+
+
+def closed(todo):
+    """The definitions that some come to, each in its module, themselves among them."""
+    seen = set()
     while todo:
         key, name = todo.pop()
         if (key, name) in seen:
             continue
         seen.add((key, name))
-        for alias, word in set(re.findall(r"(?:(\w+)\.)?([^\s(){}\[\],.;:→λ×]+)", defined[key].get(name, ""))):
+        for alias, word in set(WORD.findall(defined[key].get(name, ""))):
             if alias in called[key]:
                 todo.append((called[key][alias], word))
             elif word in defined[key]:
@@ -102,6 +106,43 @@ def reached():
             elif word in taken[key]:
                 todo.append((taken[key][word], word))
     return {(key, name) for key, name in seen if name in defined[key]}
+
+
+@functools.cache
+def reached():
+    """The definitions that the contract of `run` comes to."""
+    return closed([(key, name) for name, key in imports(RUN).items()])
+
+
+def clauses():
+    """The clauses of `run`, by their names."""
+    contract = RUN[RUN.index("pub fn run<"):]
+    found = {}
+    for head in re.finditer(r"^    ensures (\w+) \{", contract[: contract.index("\n{\n")], re.M):
+        at, depth = head.end(), 1
+        while depth:
+            depth += {"{": 1, "}": -1}.get(contract[at], 0)
+            at += 1
+        found[head[1]] = contract[head.end() : at - 1]
+    return found
+
+
+def is_reading(key, name):
+    """Whether a definition says how files are read, and not what they hold: its name begins with `read_`, or it stands in a module on reading."""
+    return name.startswith("read_") or key[1].split(".")[-1] in ("Reading", "Opening", "Walking", "Loading")
+
+
+def see_clauses():
+    """The table of DEFINITIONS: of each clause of `run` how many definitions its words come to, and how many of these read."""
+    taken_by_run = imports(RUN)
+    wanted = []
+    for clause, text in clauses().items():
+        words = closed([(taken_by_run[word], word) for _, word in WORD.findall(text) if word in taken_by_run])
+        if words:
+            wanted.append([f"`{clause}`", str(len(words)), str(sum(is_reading(*word) for word in words))])
+    told = [cells for cells in rows(page("DEFINITIONS.md")) if len(cells) == 3 and cells[1].isdigit() and cells[2].isdigit()]
+    if told != wanted:
+        lacks.append("DEFINITIONS counts otherwise than the clauses of `run`:\n" + "\n".join(f"| {' | '.join(cells)} |" for cells in wanted))
 
 
 def is_list(text):
@@ -249,6 +290,7 @@ def see_front():
 
 told = see_inner()
 see_names()
+see_clauses()
 see_proofs()
 see_definitions()
 see_architecture()

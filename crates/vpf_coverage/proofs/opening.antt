@@ -5,3 +5,4 @@ pub mod FolderLemmas
 pub mod LoopLemmas
 pub mod OpenLemmas
 pub mod TileLemmas
+pub mod CountLemmas

@@ -9,11 +9,12 @@ ghost use Rattle.vpf_coverage.specs.Inner.Opening.Opened.{opened_coverage};
 ghost use Rattle.vpf_coverage.specs.Inner.Opened.{HasCountedTiles, IsPlaced};
 
 use crate::columns::columns_of;
-use crate::opening::{OpenCoverage, open_files};
+use crate::opening::{OpenCoverage, Unopened, open_files};
 use crate::tiles::{all_kept, tiles_of};
 use std::alloc::{AllocError, Global};
 use std::marker::Model;
 use vpf_findings::FindError;
+use vpf_library_files::loading::LoadedTables;
 use vpf_library_files::loading::laws::files_are_libraries;
 use vpf_library_files::tileref::TilePaths;
 use vpf_prims::Tile;
@@ -127,6 +128,22 @@ fn checked<'a>(alloc: Global, opened: OpenCoverage<'a>) -> Result<Coverage<'a>, 
     })
 }
 
+/// The coverage of files that are still to be opened.
+fn open_unopened<'a>(
+    alloc: Global,
+    files: Unopened<'a>,
+    lib: &str,
+    cov: &str,
+) -> Result<Coverage<'a>, FindError<'a>>
+    requires { AreOfCoverage lib.now cov.now files }
+    ensures first { (c : CoverageTables) → AreCoverageFiles lib.now cov.now c files.entry → Tells result (coverage_numbers c) }
+    ensures opened { (c : CoverageTables) → AreCoverageFiles lib.now cov.now c files.entry → IfOk result (λ coverage. coverage ≡ c) }
+{
+    files_are_libraries();
+    let opened = open_files(alloc, files, lib, cov)?;
+    checked(alloc, opened)
+}
+
 /// Opens the primitives of a coverage from its files, as `load_coverage` gives them for the same two names.
 ///
 /// The first place where a column, an id, a reference or a mark isn't right is the finding: tile by tile, table by table in reading order,
@@ -142,7 +159,20 @@ pub fn open_coverage<'a>(
     ensures first { (c : CoverageTables) → AreCoverageFiles lib.now cov.now c files.now → Tells result (coverage_numbers c) }
     ensures opened { (c : CoverageTables) → AreCoverageFiles lib.now cov.now c files.now → IfOk result (λ coverage. coverage ≡ c) }
 {
-    files_are_libraries();
-    let opened = open_files(alloc, files, lib, cov)?;
-    checked(alloc, opened)
+    open_unopened(alloc, Unopened::of(files), lib, cov)
+}
+
+/// Opens the primitives of a coverage from its tables, as `load_coverage_tables` gives them for the same two names: exactly as `open_coverage` does from
+/// their files, but no row is counted again.
+pub fn open_tables<'a>(
+    alloc: Global,
+    files: &'a LoadedTables,
+    lib: &str,
+    cov: &str,
+) -> Result<Coverage<'a>, FindError<'a>>
+    requires { AreOfCoverage lib.now cov.now files.now }
+    ensures first { (c : CoverageTables) → AreCoverageFiles lib.now cov.now c files.now → Tells result (coverage_numbers c) }
+    ensures opened { (c : CoverageTables) → AreCoverageFiles lib.now cov.now c files.now → IfOk result (λ coverage. coverage ≡ c) }
+{
+    open_unopened(alloc, Unopened::loaded(files), lib, cov)
 }

@@ -7,4 +7,4 @@ mod coverage;
 pub mod opening;
 mod tiles;
 
-pub use coverage::{Coverage, open_coverage};
+pub use coverage::{Coverage, open_coverage, open_tables};

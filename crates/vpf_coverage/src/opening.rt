@@ -4,4 +4,6 @@ mod folders;
 mod opening;
 mod tables;
 
-pub use opening::{OpenCoverage, open_files, open_tileref, views_at};
+pub(crate) use opening::open_files;
+pub use opening::{OpenCoverage, open_tileref, views_at};
+pub(crate) use tables::Unopened;

@@ -17,7 +17,7 @@ use crate::lacks::lacking;
 use crate::printing::listed;
 use crate::requesting::SelectRequest;
 use std::alloc::{AllocError, Global};
-use vpf_coverage::{Coverage, open_coverage};
+use vpf_coverage::{Coverage, open_tables};
 use vpf_feature_files::FeatureFiles;
 use vpf_featured::load_replies::{named, stopped};
 use vpf_featured::{FeaturedFiles, load_featured};
@@ -88,7 +88,7 @@ fn read(alloc: Global, files: &FeaturedFiles, request: &SelectRequest) -> Result
     ensures { (read : FeaturedCoverage) → AreFeaturedFiles request.now.lib request.now.cov files.now read
         → IfOk result (λ reply. reply ≡ coverage_answer request.now read (coverage_numbers read.coverage.coverage)) }
 {
-    match open_coverage(
+    match open_tables(
         alloc,
         &files.coverage,
         request.lib.as_str(),
@@ -96,7 +96,7 @@ fn read(alloc: Global, files: &FeaturedFiles, request: &SelectRequest) -> Result
     ) {
         Ok(coverage) => opened(alloc, &files.features, request, &coverage),
         Err(FindError::Finding(finding)) => {
-            disagreement(alloc, named(&files.coverage, finding.file), &finding)
+            disagreement(alloc, named(files.coverage.files(), finding.file), &finding)
         }
         Err(FindError::NoMemory) => Err(AllocError),
     }

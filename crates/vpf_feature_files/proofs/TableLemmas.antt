@@ -1,5 +1,5 @@
 -- What reading a feature table comes to.
-use Rattle.std.proofs.Common.{[], Vec, Global, ◌≡◌, ◌∙◌, ℕ, Bool, true, false, List, ◌∷◌, Option, None, Some, Ok, Err, refl, sym, ap, subst, inl, inr}
+use Rattle.std.proofs.Common.{[], ◌≡◌, ◌∙◌, ℕ, Bool, true, false, List, ◌∷◌, Option, None, Some, Ok, Err, refl, sym, ap, subst, inl, inr}
 use Rattle.std.specs.Prelude.{IfOk, Result, if◌then◌else◌}
 use Rattle.vpf_source.specs.Files.{Files}
 use Rattle.vpf_source.specs.declared.file.File.{File}
@@ -127,27 +127,27 @@ some_comes spelled again held name m n (Some t) grid files e h are =
     let one = same_grid spelled again name t.grid grid files is are in
     e ∙ rw (sym one, sym h) refl
 
-abbrev HasRead : (name : List ℕ) (m n : ℕ) (files : Vec File Global) → Files → Type 0
-HasRead name m n files held = ReadsValue (λ (v : Vec File Global) (t : Option LoadedTable). files_in t ≡ v.items) files n (read_optional_table held name m)
+abbrev HasRead : (name : List ℕ) (m n : ℕ) (files : List File) → Files → Type 0
+HasRead name m n files held = ReadsValue (λ (v : List File) (t : Option LoadedTable). files_in t ≡ v) files n (read_optional_table held name m)
 
-pub own_comes : SpelledOpens → OpensRead → (told : Option Files) (name : List ℕ) (m n : ℕ) (files : Vec File Global)
-    → ((held : Files) → told ≡ Some held → HasRead name m n files held) → (grid : Option Grid) → AreFilesOfOption name grid files.items
-    → Comes told (λ held. read_optional_table held name m) (λ table. HasFiles name files.items table) n
+pub own_comes : SpelledOpens → OpensRead → (told : Option Files) (name : List ℕ) (m n : ℕ) (files : List File)
+    → ((held : Files) → told ≡ Some held → HasRead name m n files held) → (grid : Option Grid) → AreFilesOfOption name grid files
+    → Comes told (λ held. read_optional_table held name m) (λ table. HasFiles name files table) n
 own_comes spelled again told name m n files reads None are = record {
   value = None;
   is = record { all = are; are = are };
   comes = λ held t. let r = reads held t in none_comes held name m n r.value r.comes (r.is ∙ are);
 }
 own_comes spelled again told name m n files reads (Some grid) are = record {
-  value = Some (of_files grid files.items);
+  value = Some (of_files grid files);
   is = record { all = refl; are = are };
-  comes = λ held t. let r = reads held t in some_comes spelled again held name m n r.value grid files.items r.comes r.is are;
+  comes = λ held t. let r = reads held t in some_comes spelled again held name m n r.value grid files r.comes r.is are;
 }
 
-pub own_loads : SpelledOpens → OpensRead → (told : Option Files) (name : List ℕ) (m n : ℕ) (result : Result (Vec File Global) LoadStop)
-    → ((held : Files) → told ≡ Some held → ReadsAs (λ (v : Vec File Global) (t : Option LoadedTable). files_in t ≡ v.items) result n (read_optional_table held name m))
-    → IfOk result (λ files. (grid : Option Grid) × AreFilesOfOption name grid files.items)
-    → LoadsAs told (λ held. read_optional_table held name m) (λ (files : Vec File Global) table. HasFiles name files.items table) result n
+pub own_loads : SpelledOpens → OpensRead → (told : Option Files) (name : List ℕ) (m n : ℕ) (result : Result (List File) LoadStop)
+    → ((held : Files) → told ≡ Some held → ReadsAs (λ (v : List File) (t : Option LoadedTable). files_in t ≡ v) result n (read_optional_table held name m))
+    → IfOk result (λ files. (grid : Option Grid) × AreFilesOfOption name grid files)
+    → LoadsAs told (λ held. read_optional_table held name m) (λ (files : List File) table. HasFiles name files table) result n
 own_loads spelled again told name m n (Ok files) reads are = own_comes spelled again told name m n files reads are.0 are.1
 own_loads spelled again told name m n (Err stop) reads are = reads
 
@@ -184,16 +184,17 @@ called_stop told now folder file name n0 n1 m files stop named same table some s
     rw (called_read held folder file name n0 n1 table.value at.0 named (table.comes held t) at.1)
     (ends (with_them file at.0.grid) (read_indexes held folder at.0.grid.head.order at.0.grid.head.columns n1) m stop (stops name at.0.grid at.2 held (same ∙ t)))
 
-pub called_comes : (told now : Option Files) (folder file name : List ℕ) (n0 n1 m : ℕ) (kept : TableFiles) → name ≡ within folder file → now ≡ told → kept.name ≡ file
-    → Called told name n0 n1 kept.table.items → (kept.table.items ≡ [] → ⊥)
-    → ((of : List ℕ) (grid : Grid) → AreFilesOf of grid kept.table.items
+pub called_comes : (told now : Option Files) (folder file name : List ℕ) (n0 n1 m : ℕ) (kept : TableFiles) (files : List File) → kept.table ≡ files
+    → name ≡ within folder file → now ≡ told → kept.name ≡ file → Called told name n0 n1 files → (files ≡ [] → ⊥)
+    → ((of : List ℕ) (grid : Grid) → AreFilesOf of grid files
     → Comes now (λ held. read_indexes held folder grid.head.order grid.head.columns n1) (λ indexes. AreIndexFiles grid.head.order indexes kept.indexes.items) m)
     → Comes told (λ held. read_named_table held folder (Some file) n0) (λ table. AreTableFilesOption folder table (Some kept)) m
-called_comes told now folder file name n0 n1 m kept named same own table some indexes =
-    let at = there name kept.table.items table.value table.is some in
+called_comes told now folder file name n0 n1 m kept files alike named same own table some indexes =
+    let at = there name files table.value table.is some in
     let b = indexes name at.0.grid at.2 in
+    let are = subst (λ (x : List ℕ). AreFilesOf x at.0.grid files) named at.2 in
     record {
       value = Some (record { name = file; grid = at.0.grid; indexes = b.value });
-      is = record { name = own; own = subst (λ (x : List ℕ). AreFilesOf x at.0.grid kept.table.items) named at.2; indexes = b.is };
+      is = record { name = own; own = subst (λ (x : List File). AreFilesOf (within folder file) at.0.grid x) (sym alike) are; indexes = b.is };
       comes = λ held t. called_read held folder file name n0 n1 table.value at.0 named (table.comes held t) at.1 ∙ rw (b.comes held (same ∙ t)) refl;
     }

@@ -1,11 +1,11 @@
 //! Thematic indexes.
 
 ghost use Rattle.std.specs.Prelude.{◌≡◌, ◌≤◌, ℕ, List, [], ◌∷◌, ◌++◌, IfOk, IsErrOf, OnOk, Some, option_and_then};
-ghost use Rattle.vpf_source.specs.Causes.{Rose, Stood};
 ghost use Rattle.vpf_head.specs.Inner.Views.{col};
 ghost use Rattle.vpf_theme.specs.Reading.{theme_of};
 ghost use Rattle.vpf_library_files.specs.Loading.Loading.{most_loaded, within};
 ghost use Rattle.vpf_library_files.specs.Loading.Loads.{LoadsAs, ReadsAs};
+ghost use Rattle.vpf_library_files.specs.Inner.Loading.Only.{OnlyLoads};
 ghost use Rattle.vpf_feature_files.specs.SchemaRows.Items.{own_file};
 ghost use Rattle.vpf_feature_files.specs.Inner.Held.{AreIndexFiles, IsIndexFileOption};
 ghost use Rattle.vpf_feature_files.specs.Reading.{read_index, read_indexes, read_named_index, theme_graded};
@@ -45,12 +45,7 @@ fn index_called<T: Tree>(
     requires { loaded.old ≤ most_loaded }
     ensures reads { LoadsAs (T.files tree.old) (λ held. read_named_index held folder.now order (Some file) loaded.old)
         (λ kept index. IsIndexFileOption order index kept) result loaded.new }
-    ensures rising { loaded.old ≤ loaded.new }
-    ensures most { loaded.new ≤ most_loaded }
-    ensures fault { IsErrOf result LoadStop.Fault → Rose (T.faults tree.old) (T.faults tree.new) }
-    ensures stood { ¬ IsErrOf result LoadStop.Fault → Stood (T.faults tree.old) (T.faults tree.new) }
-    ensures later { T.faults tree.old ≤ T.faults tree.new }
-    ensures files { T.files tree.new ≡ T.files tree.old }
+    ensures only { OnlyLoads T.files T.faults tree.old tree.new loaded.old loaded.new (IsErrOf result LoadStop.Fault) }
 {
     let name = Name::new(within(alloc, folder, file.as_str())?);
     match optional_file(alloc, tree, name.as_str(), loaded)? {
@@ -81,12 +76,7 @@ fn load_index<T: Tree>(
     requires { loaded.old ≤ most_loaded }
     ensures reads { LoadsAs (T.files tree.old) (λ held. read_index held folder.now order (col column.now) loaded.old)
         (λ kept index. IsIndexFileOption order index kept) result loaded.new }
-    ensures rising { loaded.old ≤ loaded.new }
-    ensures most { loaded.new ≤ most_loaded }
-    ensures fault { IsErrOf result LoadStop.Fault → Rose (T.faults tree.old) (T.faults tree.new) }
-    ensures stood { ¬ IsErrOf result LoadStop.Fault → Stood (T.faults tree.old) (T.faults tree.new) }
-    ensures later { T.faults tree.old ≤ T.faults tree.new }
-    ensures files { T.files tree.new ≡ T.files tree.old }
+    ensures only { OnlyLoads T.files T.faults tree.old tree.new loaded.old loaded.new (IsErrOf result LoadStop.Fault) }
 {
     match index_file(alloc, column)? {
         Some(file) => index_called(alloc, tree, folder, file, order, loaded),
@@ -113,12 +103,7 @@ pub fn load_indexes<T: Tree>(
     requires { loaded.old ≤ most_loaded }
     ensures reads { LoadsAs (T.files tree.old) (λ held. read_indexes held folder.now header.now.order header.now.columns loaded.old)
         (λ kept indexes. AreIndexFiles header.now.order indexes kept.items) result loaded.new }
-    ensures rising { loaded.old ≤ loaded.new }
-    ensures most { loaded.new ≤ most_loaded }
-    ensures fault { IsErrOf result LoadStop.Fault → Rose (T.faults tree.old) (T.faults tree.new) }
-    ensures stood { ¬ IsErrOf result LoadStop.Fault → Stood (T.faults tree.old) (T.faults tree.new) }
-    ensures later { T.faults tree.old ≤ T.faults tree.new }
-    ensures files { T.files tree.new ≡ T.files tree.old }
+    ensures only { OnlyLoads T.files T.faults tree.old tree.new loaded.old loaded.new (IsErrOf result LoadStop.Fault) }
 {
     let mut files = Vec::new(alloc);
     for c in 0..header.len() {

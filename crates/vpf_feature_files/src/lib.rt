@@ -8,5 +8,5 @@ mod schema;
 pub mod schema_rows;
 mod tables;
 
-pub use files::{FeatureFiles, TableFiles};
+pub use files::{FeatureFiles, SchemaFile, TableFiles};
 pub use schema::load_features;

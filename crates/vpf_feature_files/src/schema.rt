@@ -1,15 +1,17 @@
 //! The schema table, and with it all files of features.
 
-ghost use Rattle.std.specs.Prelude.{◌≡◌, ◌≤◌, ℕ, List, Option, IfErr, IfOk, IsErrOf, IsOk, Ok, Some, map};
+ghost use Rattle.std.specs.Prelude.{◌≡◌, ◌≤◌, ℕ, List, Option, IfErr, IfOk, IsErrOf, Ok, Some, map};
 ghost use Rattle.vpf_source.specs.Causes.{Rose, Stood};
 ghost use Rattle.vpf_source.specs.Files.{Files};
 ghost use Rattle.vpf_table.specs.Grid.{Grid};
+ghost use Rattle.vpf_table.specs.Inner.Counts.{IsCountOf};
 ghost use Rattle.vpf_table.specs.Reading.{table_of};
 ghost use Rattle.vpf_findings.specs.Findings.{disagreement_of};
 ghost use Rattle.vpf_findings.specs.Printing.{own_of};
 ghost use Rattle.vpf_library_files.specs.declared.loading.loading.LoadStop.TheVariants as stops;
 ghost use Rattle.vpf_library_files.specs.Loading.Loading.{graded, most_loaded};
 ghost use Rattle.vpf_library_files.specs.Loading.Loads.{LoadsAs, ReadsAs};
+ghost use Rattle.vpf_library_files.specs.Inner.Loading.Only.{OnlyLoads};
 ghost use Rattle.vpf_feature_files.specs.SchemaRows.Joins.{feature_items, joins_in};
 ghost use Rattle.vpf_feature_files.specs.Inner.SchemaRows.Listing.{item_text};
 ghost use Rattle.vpf_feature_files.specs.Inner.Held.{AreOfSchema, AreSchemaFiles, IsSchemaFile, IsSchemaFileOption};
@@ -17,14 +19,14 @@ ghost use Rattle.vpf_feature_files.specs.Inner.Loads.{IsLooked, IsSchemaIn, Refu
 ghost use Rattle.vpf_feature_files.specs.Reading.{looked_at, read_schema, read_schema_table, schema_name};
 ghost use Rattle.vpf_feature_files.specs.Schemas.{joins_of};
 
-use crate::files::FeatureFiles;
+use crate::files::{FeatureFiles, SchemaFile};
 use crate::schema_rows::{ItemName, SchemaColumns, feature_items, schema_rows};
 use crate::tables::load_tables;
 use std::alloc::{AllocError, Global};
 use vpf_findings::{Finding, OwnFinding};
 use vpf_library_files::loading::{LoadStop, optional_file, within};
 use vpf_source::{Bytes, File, Name, Tree};
-use vpf_table::{TableFile, TableView};
+use vpf_table::{Counted, TableFile};
 use vpf_triplet::PlaceError;
 
 /// The finding on the schema table of this name, as it stops the load.
@@ -52,6 +54,7 @@ fn look_at(alloc: Global, name: &str, table: &TableFile<'_>) -> Result<(), LoadS
 
 /// The table in the bytes of the file of this name.
 fn table_in<'a>(alloc: Global, name: &str, bytes: &'a [u8]) -> Result<TableFile<'a>, LoadStop>
+    ensures bytes { IfOk result (λ table. table.bytes ≡ bytes.now) }
     ensures read { IfOk result (λ table. table_of bytes.now ≡ Ok table.grid) }
     ensures refused { IfErr result (RefusedSchema name.now (table_of bytes.now)) }
     ensures no_fault { ¬ IsErrOf result LoadStop.Fault }
@@ -66,27 +69,27 @@ fn table_in<'a>(alloc: Global, name: &str, bytes: &'a [u8]) -> Result<TableFile<
     }
 }
 
-/// The bytes are a schema table.
-fn check_bytes(alloc: Global, name: &str, bytes: &[u8]) -> Result<(), LoadStop>
+/// What counting the rows of a schema table found, which the bytes are.
+fn check_bytes(alloc: Global, name: &str, bytes: &[u8]) -> Result<Counted, LoadStop>
     ensures looks { (loaded : ℕ) → ReadsAs (λ _ fcs. IsSchemaIn bytes.now fcs) result loaded (graded name.now (looked_at name.now)
         (table_of bytes.now) loaded) }
+    ensures counted { IfOk result (IsCountOf bytes.now) }
     ensures no_fault { ¬ IsErrOf result LoadStop.Fault }
 {
     let table = table_in(alloc, name, bytes)?;
-    look_at(alloc, name, &table)
+    look_at(alloc, name, &table)?;
+    Ok(table.counted())
 }
 
 /// The file of the schema table in these bytes.
-fn schema_file(alloc: Global, name: Name, bytes: Vec<u8>) -> Result<File, LoadStop>
+fn schema_file(alloc: Global, name: Name, bytes: Vec<u8>) -> Result<SchemaFile, LoadStop>
     ensures reads { (folder : List ℕ) → name ≡ schema_name folder → (loaded : ℕ)
         → ReadsAs (λ kept fcs. IsSchemaFileOption folder fcs (Some kept)) result loaded (graded name (looked_at name) (table_of bytes.items) loaded) }
     ensures no_fault { ¬ IsErrOf result LoadStop.Fault }
 {
-    check_bytes(alloc, name.as_str(), &bytes)?;
-    Ok(File {
-        name,
-        bytes: Bytes::new(bytes),
-    })
+    let counted = check_bytes(alloc, name.as_str(), &bytes)?;
+    let bytes = Bytes::new(bytes);
+    Ok(SchemaFile::new(File { name, bytes }, counted))
 }
 
 /// The schema table of a folder, or nothing where it is absent.
@@ -95,16 +98,11 @@ fn load_schema_table<T: Tree>(
     tree: &mut T,
     folder: &str,
     loaded: &mut u64,
-) -> Result<Option<File>, LoadStop>
+) -> Result<Option<SchemaFile>, LoadStop>
     requires { loaded.old ≤ most_loaded }
     ensures reads { LoadsAs (T.files tree.old) (λ held. read_schema_table held (schema_name folder.now) loaded.old)
         (λ kept fcs. IsSchemaFileOption folder.now fcs kept) result loaded.new }
-    ensures rising { loaded.old ≤ loaded.new }
-    ensures most { loaded.new ≤ most_loaded }
-    ensures fault { IsErrOf result LoadStop.Fault → Rose (T.faults tree.old) (T.faults tree.new) }
-    ensures stood { ¬ IsErrOf result LoadStop.Fault → Stood (T.faults tree.old) (T.faults tree.new) }
-    ensures later { T.faults tree.old ≤ T.faults tree.new }
-    ensures files { T.files tree.new ≡ T.files tree.old }
+    ensures only { OnlyLoads T.files T.faults tree.old tree.new loaded.old loaded.new (IsErrOf result LoadStop.Fault) }
 {
     let name = Name::new(within(alloc, folder, "fcs")?);
     match optional_file(alloc, tree, name.as_str(), loaded)? {
@@ -113,31 +111,22 @@ fn load_schema_table<T: Tree>(
     }
 }
 
-/// The schema table in its file.
-fn view_of<'a>(alloc: Global, file: &'a File) -> Result<TableView<'a>, AllocError>
-    requires { IsOk (table_of file.now.bytes) }
-    ensures { IfOk result (λ table. table_of file.now.bytes ≡ Ok table) }
-{
-    match TableFile::read(alloc, file.bytes.as_slice()) {
-        Ok(table) => Ok(table.without_index()),
-        Err(PlaceError::NoMemory) => Err(AllocError),
-        Err(PlaceError::Place(_)) => unreachable!(),
-    }
-}
-
 /// The items of the schema table that name feature tables.
-fn items_of<'a>(alloc: Global, file: &'a File) -> Result<Vec<ItemName<'a>>, AllocError>
+fn items_of<'a>(alloc: Global, file: &'a SchemaFile) -> Result<Vec<ItemName<'a>>, AllocError>
     requires { (folder : List ℕ) × (grid : Grid) × IsSchemaFile folder grid file.now }
     ensures { (folder : List ℕ) (grid : Grid) → IsSchemaFile folder grid file.now
         → IfOk result (λ items. map item_text items.items ≡ feature_items (joins_in grid)) }
 {
-    let table = view_of(alloc, file)?;
+    let table = file.view(alloc)?;
     let rows = schema_rows(alloc, &table)?;
     feature_items(alloc, &rows)
 }
 
 /// The items of a schema table that may be absent.
-fn items_in<'a>(alloc: Global, file: &'a Option<File>) -> Result<Vec<ItemName<'a>>, AllocError>
+fn items_in<'a>(
+    alloc: Global,
+    file: &'a Option<SchemaFile>,
+) -> Result<Vec<ItemName<'a>>, AllocError>
     requires { (folder : List ℕ) × (fcs : Option Grid) × IsSchemaFileOption folder fcs file.now }
     ensures { (folder : List ℕ) (fcs : Option Grid) → IsSchemaFileOption folder fcs file.now
         → IfOk result (λ items. map item_text items.items ≡ feature_items (joins_of fcs)) }
@@ -157,12 +146,7 @@ fn load_all<T: Tree>(
 ) -> Result<FeatureFiles, LoadStop>
     requires { loaded.old ≤ most_loaded }
     ensures reads { LoadsAs (T.files tree.old) (λ held. read_schema held folder.now loaded.old) (λ v S. AreSchemaFiles folder.now S v) result loaded.new }
-    ensures rising { loaded.old ≤ loaded.new }
-    ensures most { loaded.new ≤ most_loaded }
-    ensures fault { IsErrOf result LoadStop.Fault → Rose (T.faults tree.old) (T.faults tree.new) }
-    ensures stood { ¬ IsErrOf result LoadStop.Fault → Stood (T.faults tree.old) (T.faults tree.new) }
-    ensures later { T.faults tree.old ≤ T.faults tree.new }
-    ensures files { T.files tree.new ≡ T.files tree.old }
+    ensures only { OnlyLoads T.files T.faults tree.old tree.new loaded.old loaded.new (IsErrOf result LoadStop.Fault) }
 {
     let fcs = load_schema_table(alloc, tree, folder, loaded)?;
     let items = items_in(alloc, &fcs)?;

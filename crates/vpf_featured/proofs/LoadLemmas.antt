@@ -1,5 +1,5 @@
 -- The files that `select` reads, one load after another.
-use Rattle.std.proofs.Common.{Vec, Global, ◌≡◌, ◌∙◌, ℕ, List, Ok, Err, refl, sym, subst}
+use Rattle.std.proofs.Common.{◌≡◌, ◌∙◌, ℕ, List, Ok, Err, refl, sym, subst}
 use Rattle.vpf_base.specs.Results.{Told}
 use Rattle.vpf_source.specs.Files.{Files}
 use Rattle.vpf_source.specs.declared.file.File.{File}
@@ -18,7 +18,7 @@ use Rattle.vpf_featured.specs.Inner.LoadLaws.{ends_read, ends_first, goes_on, bo
 -- ---- what stops a load
 
 pub coverage_ends : (read : Read LoadedCoverage) (stop : LoadStop) (n : ℕ) → Told (stop_seen stop) (loaded_read read)
-    → CountsAs {V = Vec File Global} (Err stop) read n → ReadsStop stop n read
+    → CountsAs {V = List File} (Err stop) read n → ReadsStop stop n read
 coverage_ends read stops.Fault n told counted = tt
 coverage_ends read stops.NoMemory n told counted = tt
 coverage_ends read (stops.Missing name) n told counted = ends_read read (stops.Missing name) n told counted
@@ -40,9 +40,9 @@ came lib cov files (Ok c, k) n told counted held =
     (c, rw counted refl, sym same, held c k refl)
 came lib cov files (Err stop, k) n told counted held = absurd cc
 
-pub coverage_comes : (lib cov : List ℕ) (v : Vec File Global) (read : Read LoadedCoverage) (n : ℕ) → loaded_read read ≡ Ok v.items → CountsAs (Ok v) read n
-    → ((c : LoadedCoverage) (k : ℕ) → read ≡ (Ok c, k) → AreCoverageFiles lib cov c.coverage v.items) → CameTo lib cov v.items read n
-coverage_comes lib cov v read n told counted held = came lib cov v.items read n told counted held
+pub coverage_comes : (lib cov : List ℕ) (v : List File) (read : Read LoadedCoverage) (n : ℕ) → loaded_read read ≡ Ok v → CountsAs (Ok v) read n
+    → ((c : LoadedCoverage) (k : ℕ) → read ≡ (Ok c, k) → AreCoverageFiles lib cov c.coverage v) → CameTo lib cov v read n
+coverage_comes lib cov v read n told counted held = came lib cov v read n told counted held
 
 -- ---- both
 
@@ -56,7 +56,7 @@ features_stop held lib cov files old m n stop (c, e, listed, are) h =
     subst (ReadsStop stop n) (sym (goes_on (read_coverage held lib cov old) (after_coverage held lib cov) c m e))
     (ends_first (read_schema held (within lib cov) m) (after_features c) stop n h)
 
-pub both_read : (held : Files) (lib cov : List ℕ) (files : FeaturedFiles) (old m n : ℕ) → CameTo lib cov files.coverage.items (read_coverage held lib cov old) m
+pub both_read : (held : Files) (lib cov : List ℕ) (files : FeaturedFiles) (old m n : ℕ) → CameTo lib cov files.coverage (read_coverage held lib cov old) m
     → ReadsValue (λ v S. AreSchemaFiles (within lib cov) S v) files.features n (read_schema held (within lib cov) m)
     → ReadsValue (λ files read. AreFeaturedFiles lib cov files read) files n (read_featured held lib cov old)
 both_read held lib cov files old m n (c, e, listed, are) features = record {
@@ -67,8 +67,8 @@ both_read held lib cov files old m n (c, e, listed, are) features = record {
 }
 
 -- files that were loaded are those of something
-pub both_are : (lib cov : List ℕ) (files : FeaturedFiles) → AreOfCoverage lib cov files.coverage.items → AreOfSchema (within lib cov) files.features
+pub both_are : (lib cov : List ℕ) (files : FeaturedFiles) → AreOfCoverage lib cov files.coverage → AreOfSchema (within lib cov) files.features
     → AreOfFeatured lib cov files
 both_are lib cov files coverage features =
-    let c : LoadedCoverage = record { coverage = coverage.0; files = files.coverage.items } in
+    let c : LoadedCoverage = record { coverage = coverage.0; files = files.coverage } in
     (both_of c features.0, record { coverage = coverage.1; listed = refl; features = features.1 })

@@ -20,12 +20,12 @@ ghost use Rattle.vpf_featured.specs.Reading.{FeaturedCoverage};
 use crate::load_replies::named;
 use crate::loading::FeaturedFiles;
 use std::alloc::{AllocError, Global};
-use vpf_coverage::{Coverage, open_coverage};
+use vpf_coverage::{Coverage, open_tables};
 use vpf_cross::{Checked, check_coverage};
 use vpf_feature_files::FeatureFiles;
 use vpf_features::{FeatureFault, Schema, check_themes, open_features};
 use vpf_findings::{FindError, Finding};
-use vpf_library_files::loading::within;
+use vpf_library_files::loading::{LoadedTables, within};
 use vpf_source::{File, Name};
 
 /// A coverage and its features, opened, in whose tables and thematic indexes nothing disagrees. Of the topology that isn't known.
@@ -52,7 +52,7 @@ fn placed<'a>(
 /// The tables of primitives, where nothing disagrees in them.
 fn open_primitives<'a>(
     alloc: Global,
-    files: &'a [File],
+    files: &'a LoadedTables,
     lib: &str,
     cov: &str,
 ) -> Result<Coverage<'a>, FeatureFault<'a>>
@@ -60,9 +60,9 @@ fn open_primitives<'a>(
     ensures first { (c : CoverageTables) → AreCoverageFiles lib.now cov.now c files.now → TellsNamed result (placed_finding files.now (coverage_numbers c)) }
     ensures opened { (c : CoverageTables) → AreCoverageFiles lib.now cov.now c files.now → IfOk result (λ coverage. coverage ≡ c) }
 {
-    match open_coverage(alloc, files, lib, cov) {
+    match open_tables(alloc, files, lib, cov) {
         Ok(coverage) => Ok(coverage),
-        Err(FindError::Finding(finding)) => Err(placed(alloc, files, finding)?),
+        Err(FindError::Finding(finding)) => Err(placed(alloc, files.files(), finding)?),
         Err(FindError::NoMemory) => Err(FeatureFault::NoMemory),
     }
 }
@@ -175,7 +175,7 @@ pub fn open_agreeing<'a>(
     ensures schema { (read : FeaturedCoverage) → AreFeaturedFiles lib.now cov.now files.now read → IfOk result (λ f. f.schema ≡ read.schema) }
 {
     match open_featured(alloc, files, lib, cov) {
-        Ok(featured) => with_topology(alloc, &files.coverage, featured),
+        Ok(featured) => with_topology(alloc, files.coverage.files(), featured),
         Err(fault) => Err(fault),
     }
 }

@@ -10,14 +10,14 @@ ghost use Rattle.vpf_featured.specs.Inner.Held.{AreFeaturedFiles, AreOfFeatured}
 
 use std::alloc::Global;
 use vpf_feature_files::{FeatureFiles, load_features};
-use vpf_library_files::loading::{LoadStop, load_coverage, within};
-use vpf_source::{File, Tree};
+use vpf_library_files::loading::{LoadStop, LoadedTables, load_coverage_tables, within};
+use vpf_source::Tree;
 
 /// What is read: a coverage, and its features.
 #[derive(Drop)]
 pub struct FeaturedFiles {
     /// The tables of primitives.
-    pub coverage: Vec<File>,
+    pub coverage: LoadedTables,
     /// The schema table, the feature tables and their thematic indexes.
     pub features: FeatureFiles,
 }
@@ -39,7 +39,7 @@ pub fn load_featured<T: Tree>(
     ensures later { T.faults tree.old ≤ T.faults tree.new }
     ensures files { T.files tree.new ≡ T.files tree.old }
 {
-    let coverage = load_coverage(alloc, tree, lib, cov, loaded)?;
+    let coverage = load_coverage_tables(alloc, tree, lib, cov, loaded)?;
     let folder = within(alloc, lib, cov)?;
     let features = load_features(alloc, tree, folder.as_str(), loaded)?;
     Ok(FeaturedFiles { coverage, features })

@@ -15,12 +15,11 @@ use crate::rows::check_features;
 use crate::schema::{FeatureView, IndexView, Schema};
 use crate::themes::named;
 use std::alloc::{AllocError, Global};
-use vpf_feature_files::{FeatureFiles, TableFiles};
-use vpf_library_files::loading::table_in;
+use vpf_feature_files::{FeatureFiles, SchemaFile, TableFiles};
 use vpf_source::File;
-use vpf_table::{TableFile, TableView};
+use vpf_table::TableView;
 use vpf_theme::ThemeView;
-use vpf_triplet::{Order, PlaceError};
+use vpf_triplet::Order;
 
 /// The thematic index in a file, of a table in this order.
 fn open_index<'a>(order: Order, file: &'a File) -> IndexView<'a>
@@ -69,7 +68,7 @@ fn open_table<'a>(alloc: Global, files: &'a TableFiles) -> Result<FeatureView<'a
     requires { (folder : List ℕ) × IsOfTable folder files.now }
     ensures { (folder : List ℕ) (table : FeatureTable) → AreTableFiles folder table files.now → IfOk result (λ view. table_seen view ≡ table) }
 {
-    let table = table_in(alloc, &files.table)?;
+    let table = files.table.only(alloc)?;
     let indexes = open_indexes(alloc, table.header().order(), &files.indexes)?;
     Ok(FeatureView {
         name: &files.name,
@@ -97,19 +96,15 @@ fn open_tables<'a>(
 /// The schema table in a file that may be absent.
 fn open_schema_table<'a>(
     alloc: Global,
-    file: &'a Option<File>,
+    file: &'a Option<SchemaFile>,
 ) -> Result<Option<TableView<'a>>, AllocError>
     requires { (folder : List ℕ) × HasSchemaFile folder file.now }
     ensures opened { (folder : List ℕ) (fcs : Option Grid) → IsSchemaFileOption folder fcs file.now → IfOk result (λ table. table ≡ fcs) }
     ensures right { IfOk result IsRightSchemaTable }
 {
-    let Some(file) = file else {
-        return Ok(None);
-    };
-    match TableFile::read(alloc, file.bytes.as_slice()) {
-        Ok(table) => Ok(Some(table.without_index())),
-        Err(PlaceError::NoMemory) => Err(AllocError),
-        Err(PlaceError::Place(_)) => unreachable!(),
+    match file {
+        Some(file) => Ok(Some(file.view(alloc)?)),
+        None => Ok(None),
     }
 }
 

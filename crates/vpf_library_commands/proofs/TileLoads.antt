@@ -1,5 +1,5 @@
 -- The files that `tile` reads, one load after another.
-use Rattle.std.proofs.Common.{Vec, Global, ◌≡◌, ◌∙◌, ℕ, List, Ok, Err, refl, sym, subst, inl}
+use Rattle.std.proofs.Common.{◌≡◌, ◌∙◌, ℕ, List, Ok, Err, refl, sym, subst, inl}
 use Rattle.vpf_base.specs.Results.{Told}
 use Rattle.vpf_source.specs.Files.{Files}
 use Rattle.vpf_source.specs.declared.file.File.{File}
@@ -22,7 +22,7 @@ use Rattle.vpf_featured.specs.Inner.LoadLaws.{ends_read, ends_first, goes_on, bo
 -- ---- what stops a load
 
 pub untiled_ends : (read : Read LoadedCoverage) (stop : LoadStop) (n : ℕ) → Told (stop_seen stop) (loaded_read read)
-    → CountsAs {V = Vec File Global} (Err stop) read n → ReadsStop stop n read
+    → CountsAs {V = List File} (Err stop) read n → ReadsStop stop n read
 untiled_ends read stops.Fault n told counted = tt
 untiled_ends read stops.NoMemory n told counted = tt
 untiled_ends read (stops.Missing name) n told counted = ends_read read (stops.Missing name) n told counted
@@ -50,9 +50,9 @@ came lib cov files (Err stop, k) n told counted held = absurd cc
 abbrev pub CameTo : (lib cov : List ℕ) → List File → Read LoadedCoverage → ℕ → Type 0
 CameTo lib cov files read n = (c : LoadedCoverage) × (read ≡ (Ok c, n)) × (files ≡ c.files) × AreUntiledFiles lib cov c.coverage files
 
-pub untiled_comes : (lib cov : List ℕ) (v : Vec File Global) (read : Read LoadedCoverage) (n : ℕ) → loaded_read read ≡ Ok v.items → CountsAs (Ok v) read n
-    → ((c : LoadedCoverage) (k : ℕ) → read ≡ (Ok c, k) → AreUntiledFiles lib cov c.coverage v.items) → CameTo lib cov v.items read n
-untiled_comes lib cov v read n told counted held = came lib cov v.items read n told counted held
+pub untiled_comes : (lib cov : List ℕ) (v : List File) (read : Read LoadedCoverage) (n : ℕ) → loaded_read read ≡ Ok v → CountsAs (Ok v) read n
+    → ((c : LoadedCoverage) (k : ℕ) → read ≡ (Ok c, k) → AreUntiledFiles lib cov c.coverage v) → CameTo lib cov v read n
+untiled_comes lib cov v read n told counted held = came lib cov v read n told counted held
 
 -- ---- the coverage and its features
 
@@ -65,7 +65,7 @@ pub features_stop : (held : Files) (lib cov : List ℕ) (files : List File) (old
 features_stop held lib cov files old m n stop (c, e, listed, are) h =
     ends_next (read_untiled held lib cov old) (after_coverage held lib cov) c m stop n e (ends_first (read_schema held (within lib cov) m) (after_features c) stop n h)
 
-pub both_read : (held : Files) (lib cov : List ℕ) (files : FeaturedFiles) (old m n : ℕ) → CameTo lib cov files.coverage.items (read_untiled held lib cov old) m
+pub both_read : (held : Files) (lib cov : List ℕ) (files : FeaturedFiles) (old m n : ℕ) → CameTo lib cov files.coverage (read_untiled held lib cov old) m
     → ReadsValue (λ v S. AreSchemaFiles (within lib cov) S v) files.features n (read_schema held (within lib cov) m)
     → ReadsValue (λ files read. AreUntiledFeatured lib cov files read) files n (read_untiled_featured held lib cov old)
 both_read held lib cov files old m n (c, e, listed, are) features = record {
@@ -76,10 +76,10 @@ both_read held lib cov files old m n (c, e, listed, are) features = record {
 }
 
 -- files that were loaded are those of something
-pub both_are : (lib cov : List ℕ) (files : FeaturedFiles) → AreOfUntiled lib cov files.coverage.items → AreOfSchema (within lib cov) files.features
+pub both_are : (lib cov : List ℕ) (files : FeaturedFiles) → AreOfUntiled lib cov files.coverage → AreOfSchema (within lib cov) files.features
     → AreOfUntiledFeatured lib cov files
 both_are lib cov files coverage features =
-    let c : LoadedCoverage = record { coverage = coverage.0; files = files.coverage.items } in
+    let c : LoadedCoverage = record { coverage = coverage.0; files = files.coverage } in
     (both_of c features.0, record { untiled = coverage.1; featured = record { coverage = inl coverage.1; listed = refl; features = features.1 } })
 
 -- ---- all
@@ -123,14 +123,14 @@ IsTilerefIn lib files paths table = LoadsTileref (tileref_name lib) files paths 
 
 -- the files are those of what was read
 their_files : (lib cov : List ℕ) (files : TileFiles) (read : FeaturedCoverage) (paths : List (List ℕ)) (t p : LoadedTable) → AreUntiledFeatured lib cov files.featured read
-    → IsTilerefIn lib files.tileref.items paths t → ArePlanFiles (plan_name lib cov) p.grid files.plan.items → ArePartsFiles lib cov files (tile_parts read t p)
+    → IsTilerefIn lib files.tileref paths t → ArePlanFiles (plan_name lib cov) p.grid files.plan → ArePartsFiles lib cov files (tile_parts read t p)
 their_files lib cov files read paths t p are tiles plan = record { featured = are; tileref = rw tiles.all tiles.are; goes_on = tiles.goes_on; plan = plan }
 
 pub parts_read : (held : Files) (lib cov : List ℕ) (files : TileFiles) (paths : List (List ℕ)) (t : LoadedTable) (old m k n : ℕ)
     → ReadsValue (λ files read. AreUntiledFeatured lib cov files read) files.featured m (read_untiled_featured held lib cov old)
-    → read_tileref held lib m ≡ (Ok t, k) → IsTilerefIn lib files.tileref.items paths t
-    → ReadsValue (λ (v : Vec File Global) (p : LoadedTable). p.files ≡ v.items) files.plan n (read_plan held (plan_name lib cov) k)
-    → ((p : LoadedTable) (j : ℕ) → read_plan held (plan_name lib cov) k ≡ (Ok p, j) → ArePlanFiles (plan_name lib cov) p.grid files.plan.items)
+    → read_tileref held lib m ≡ (Ok t, k) → IsTilerefIn lib files.tileref paths t
+    → ReadsValue (λ (v : List File) (p : LoadedTable). p.files ≡ v) files.plan n (read_plan held (plan_name lib cov) k)
+    → ((p : LoadedTable) (j : ℕ) → read_plan held (plan_name lib cov) k ≡ (Ok p, j) → ArePlanFiles (plan_name lib cov) p.grid files.plan)
     → ReadsValue (λ files parts. ArePartsFiles lib cov files parts) files n (read_parts held lib cov old)
 parts_read held lib cov files paths t old m k n read f tiles plan plan_are = record {
   value = tile_parts read.value t plan.value;
@@ -140,7 +140,7 @@ parts_read held lib cov files paths t old m k n read f tiles plan plan_are = rec
 
 -- files that were loaded are those of something
 pub parts_are : (lib cov : List ℕ) (files : TileFiles) (paths : List (List ℕ)) (t : LoadedTable) → AreOfUntiledFeatured lib cov files.featured
-    → IsTilerefIn lib files.tileref.items paths t → AreOfPlan (plan_name lib cov) files.plan.items → ArePartsOf lib cov files
+    → IsTilerefIn lib files.tileref paths t → AreOfPlan (plan_name lib cov) files.plan → ArePartsOf lib cov files
 parts_are lib cov files paths t featured tiles plan =
-    let p : LoadedTable = record { grid = plan.0; files = files.plan.items } in
+    let p : LoadedTable = record { grid = plan.0; files = files.plan } in
     (tile_parts featured.0 t p, their_files lib cov files featured.0 paths t p featured.1 tiles plan.1)

@@ -102,7 +102,7 @@ fn read(alloc: Global, files: &FeaturedFiles, request: &MakeRequest) -> Result<R
     let (lib, cov) = (request.lib.as_str(), request.cov.as_str());
     match open_featured(alloc, files, lib, cov) {
         Ok(featured) if featured.coverage.is_tiled() => {
-            checked(alloc, &files.coverage, request, &featured)
+            checked(alloc, files.coverage.files(), request, &featured)
         }
         // It was there when it was looked for.
         Ok(_) => untiled(alloc, request),

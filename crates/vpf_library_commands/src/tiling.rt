@@ -1,6 +1,6 @@
 //! `tile`: the files of the tiled library of an untiled coverage.
 
-ghost use Rattle.std.specs.Prelude.{◌≡◌, ◌≤◌, ◌++◌, ℕ, IfOk, IsErrOf, List, OnOk, Result, Some, codes, false, string_bytes};
+ghost use Rattle.std.specs.Prelude.{◌≡◌, ◌≤◌, ◌++◌, IfOk, IsErrOf, List, OnOk, Result, Some, codes, false, string_bytes};
 ghost use Rattle.std.specs.Fmt.{decimal, signed_decimal};
 ghost use Rattle.vpf_base.specs.Results.{Meets};
 ghost use Rattle.vpf_source.specs.Causes.{Rose, Stood};
@@ -14,6 +14,7 @@ ghost use Rattle.vpf_cross.specs.CrossFinding.{topology_finding};
 ghost use Rattle.vpf_tiler.specs.declared.errors.TileError.{TileError};
 ghost use Rattle.vpf_tiler.specs.Making.{tile_error_seen};
 ghost use Rattle.vpf_library_files.specs.TableFiles.Adding.{error_seen};
+ghost use Rattle.vpf_library_files.specs.Inner.Loading.Only.{OnlyLoads};
 ghost use Rattle.vpf_features.specs.Finding.{TellsNamed};
 ghost use Rattle.vpf_feature_writing.specs.Making.{Made};
 ghost use Rattle.vpf_replies.specs.Answer.{refused};
@@ -34,7 +35,7 @@ use vpf_feature_files::load_features;
 use vpf_featured::load_replies::stopped;
 use vpf_featured::{Featured, FeaturedFiles, check_topology, open_featured};
 use vpf_features::{FeatureFault, Schema};
-use vpf_library_files::loading::{LoadStop, load_tileref, table_in, within};
+use vpf_library_files::loading::{LoadStop, LoadedTables, load_tileref, within};
 use vpf_library_files::table_files::AddError;
 use vpf_library_files::tileref::laws::stops_decide;
 use vpf_replies::{Halt, Reply, Stop, Verdict, disagreement};
@@ -47,8 +48,8 @@ use vpf_tiling::tileable::Refusal;
 #[derive(Drop)]
 struct TileFiles {
     featured: FeaturedFiles,
-    tileref: Vec<File>,
-    plan: Vec<File>,
+    tileref: LoadedTables,
+    plan: LoadedTables,
 }
 
 /// The name of the plan of a coverage.
@@ -71,12 +72,7 @@ fn load_untiled_featured<T: Tree>(
     ensures told { (held : Files) → T.files tree.old ≡ Some held
         → ReadsAs (λ files read. AreUntiledFeatured lib.now cov.now files read) result loaded.new (read_untiled_featured held lib.now cov.now loaded.old) }
     ensures are { IfOk result (AreOfUntiledFeatured lib.now cov.now) }
-    ensures rising { loaded.old ≤ loaded.new }
-    ensures most { loaded.new ≤ most_loaded }
-    ensures fault { IsErrOf result LoadStop.Fault → Rose (T.faults tree.old) (T.faults tree.new) }
-    ensures stood { ¬ IsErrOf result LoadStop.Fault → Stood (T.faults tree.old) (T.faults tree.new) }
-    ensures later { T.faults tree.old ≤ T.faults tree.new }
-    ensures files { T.files tree.new ≡ T.files tree.old }
+    ensures only { OnlyLoads T.files T.faults tree.old tree.new loaded.old loaded.new (IsErrOf result LoadStop.Fault) }
 {
     let coverage = load_untiled(alloc, tree, lib, cov, loaded)?;
     let folder = within(alloc, lib, cov)?;
@@ -102,7 +98,7 @@ fn load_parts<T: Tree>(
     ensures files { T.files tree.new ≡ T.files tree.old }
 {
     let featured = load_untiled_featured(alloc, tree, lib, cov, loaded)?;
-    let mut tileref = Vec::new(alloc);
+    let mut tileref = LoadedTables::new(alloc);
     load_tileref(alloc, tree, lib, loaded, &mut tileref)?;
     let name = plan_name(alloc, lib, cov)?;
     let plan = load_plan(alloc, tree, name.as_str(), loaded)?;
@@ -212,7 +208,7 @@ fn tiled(
 {
     stops_decide();
     let plan = open_plan(alloc, &files.plan)?;
-    let tileref = table_in(alloc, &files.tileref)?;
+    let tileref = files.tileref.only(alloc)?;
     let made = vpf_tiler::tile(alloc, checked, &plan, &tileref, request.cov.as_str());
     tiled_so(alloc, request, schema, made)
 }
@@ -230,7 +226,7 @@ fn checked(
         → featured.now.schema ≡ parts.schema → IfOk result (λ reply. reply
         ≡ tiling_answer request.now parts (placed_finding parts.coverage.files (topology_finding parts.coverage.coverage))) }
 {
-    match check_topology(alloc, &files.featured.coverage, &featured.coverage) {
+    match check_topology(alloc, files.featured.coverage.files(), &featured.coverage) {
         Ok(checked) => tiled(alloc, files, request, &checked, &featured.schema),
         Err(FeatureFault::Finding(name, finding)) => disagreement(alloc, name.as_str(), &finding),
         Err(FeatureFault::NoMemory) => Err(AllocError),

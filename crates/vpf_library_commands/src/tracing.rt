@@ -54,7 +54,7 @@ fn cycles_of<'a>(
         → IfOk result (λ listing. IsTrace (library_of read.coverage.coverage) (numbers_of listing)) }
 {
     let coverage = opened(alloc, files, request)?;
-    let checked = check_topology(alloc, &files.coverage, &coverage)?;
+    let checked = check_topology(alloc, files.coverage.files(), &coverage)?;
     Ok(vpf_trace::trace(alloc, &checked)?)
 }
 

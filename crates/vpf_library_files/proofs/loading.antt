@@ -1,5 +1,6 @@
 pub mod FileLists
 pub mod TableLaws
+pub mod CountLemmas
 pub mod ReadSteps
 pub mod LoadLemmas
 pub mod OneTable

@@ -23,5 +23,5 @@ pub use making::{file_of, makes};
 pub use refusing::{Refusal, refuse};
 pub use reply::Reply;
 pub use selecting::wrong_row;
-pub use texts::{fault, limit, usage};
+pub use texts::{fault, limit};
 pub use verdict::Verdict;

@@ -1,13 +1,11 @@
 //! What is to be made and printed.
 
-ghost use Rattle.std.specs.Prelude.{◌≡◌};
-
 use crate::verdict::Verdict;
 use std::alloc::Global;
 use std::marker::Model;
 use vpf_source::{Bytes, File};
 
-/// How a run ends where nothing stops it, all that it prints, and the files that it makes before that.
+/// How a command ends where nothing stops it, all that it prints, and the files that it makes before that. It never says that the words are no command.
 #[derive(Debug, Drop)]
 pub struct Reply {
     verdict: Verdict,
@@ -16,18 +14,23 @@ pub struct Reply {
 }
 
 impl Model for Reply {
+    ghost use Rattle.std.specs.Prelude.{◌≢◌};
     ghost use Rattle.vpf_replies.specs.Answer.{Answer};
+    ghost use Rattle.vpf_replies.specs.declared.verdict.Verdict.TheVariants as verdicts;
 
     ghost Value = { Answer };
 
     ghost view = { λ r. record { verdict = r.verdict; text = r.text; made = r.made.items } };
+
+    ghost invariant = { λ r. r.verdict ≢ verdicts.Usage };
 }
 
 impl Reply {
-    ghost use Rattle.std.specs.Prelude.{◌≡◌, [], string_bytes};
+    ghost use Rattle.std.specs.Prelude.{◌≡◌, ◌≢◌, [], string_bytes};
 
     /// A reply that makes no file.
     pub fn new(alloc: Global, verdict: Verdict, text: String) -> Self
+        requires { verdict ≢ Verdict.Usage }
         ensures { result ≡ record { verdict = verdict; text = string_bytes text; made = [] } }
     {
         Reply::of_bytes(alloc, verdict, Bytes::new(text.into_bytes()))
@@ -35,6 +38,7 @@ impl Reply {
 
     /// A reply that prints these bytes and makes no file.
     pub fn of_bytes(alloc: Global, verdict: Verdict, text: Bytes) -> Self
+        requires { verdict ≢ Verdict.Usage }
         ensures { result ≡ record { verdict = verdict; text = text; made = [] } }
     {
         Reply {
@@ -55,9 +59,10 @@ impl Reply {
         }
     }
 
-    /// How the run ends, where nothing stops it.
+    /// How the command ends, where nothing stops it.
     pub fn verdict(&self) -> Verdict
-        ensures { result ≡ self.now.verdict }
+        ensures value { result ≡ self.now.verdict }
+        ensures asked { result ≢ Verdict.Usage }
     {
         self.verdict
     }

@@ -1,8 +1,8 @@
-//! The printed lines of usage, limits and faults.
+//! The printed lines of limits and faults.
 
 ghost use Rattle.std.specs.Prelude.{◌≡◌, IfOk};
 ghost use Rattle.vpf_table.specs.Limits.{bound_text};
-ghost use Rattle.vpf_replies.specs.Answer.{refused, limited, usage_answer};
+ghost use Rattle.vpf_replies.specs.Answer.{refused, limited};
 ghost use Rattle.vpf_replies.specs.Texts.{refused_text, limit_text};
 ghost use Rattle.vpf_replies.specs.Tables.{fault_answer};
 
@@ -12,13 +12,6 @@ use std::alloc::{AllocError, Global};
 use vpf_findings::text::put_printed;
 use vpf_table::Bound;
 use vpf_triplet::{Code, Place};
-
-/// The reply to words that are no command.
-pub fn usage(alloc: Global) -> Result<Reply, AllocError>
-    ensures { IfOk result (λ reply. reply ≡ usage_answer) }
-{
-    Ok(Reply::new(alloc, Verdict::Usage, format!(in alloc; "usage\n")?))
-}
 
 /// The reply where a bound is passed.
 pub fn limit(alloc: Global, bound: Bound, name: &str, found: u64) -> Result<Reply, AllocError>

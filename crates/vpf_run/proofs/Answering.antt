@@ -9,7 +9,7 @@ use Rattle.vpf_replies.specs.declared.halting.Halt.{Halt}
 use Rattle.vpf_replies.specs.declared.halting.Halt.TheVariants as halts
 use Rattle.vpf_replies.specs.declared.halting.Stop.{Stop}
 use Rattle.vpf_replies.specs.declared.verdict.Verdict.TheVariants.{Done}
-use Rattle.vpf_replies.specs.Answer.{Answer, usage_answer}
+use Rattle.vpf_replies.specs.Answer.{Answer}
 use Rattle.vpf_replies.specs.Halting.{ComesTo, settled}
 use Rattle.vpf_table_commands.specs.Accept.{table_answer, table_request}
 use Rattle.vpf_table_commands.specs.Cycles.{HasCyclesAnswer, OneCyclesAnswer, cycles_request}
@@ -154,13 +154,6 @@ drill_makes_none law command told n reply e side answers =
     let given = subst (λ (k : Option Command). IsAnswer k told has.0) (sym e) has.1 in
     let got = subst (λ (k : Option Command). IsAnswer k told reply) e (answers has.0 given) in
     ap (λ (a : Answer). a.made) (over_drill told n reply got).is
-
--- usage makes no file, over every tree
-pub usage_makes_none : (command : Option Command) (told : Option Files) (reply : Answer) → command ≡ None → ((answer : Answer) → IsAnswer command told answer → IsAnswer command told reply) → reply.made ≡ []
-usage_makes_none command told reply none answers =
-    let given : IsAnswer command told usage_answer = subst (λ (k : Option Command). IsAnswer k told usage_answer) (sym none) refl in
-    let got : IsAnswer None told reply = subst (λ (k : Option Command). IsAnswer k told reply) none (answers usage_answer given) in
-    ap (λ (a : Answer). a.made) got
 
 -- ---- what a command comes to
 

@@ -10,7 +10,7 @@ use Rattle.vpf_run.specs.declared.command.Command.TheVariants.{Drill}
 use Rattle.vpf_run.specs.declared.status.Status.{Status}
 use Rattle.vpf_run.specs.declared.status.Status.TheVariants as statuses
 use Rattle.vpf_run.specs.Commands.{IsAnswer}
-use Rattle.vpf_run.specs.Run.{Carries, World}
+use Rattle.vpf_run.specs.Run.{Carries, IsCompleted, World}
 use Rattle.vpf_run.specs.Statuses.{EndsAsDone, EndsAsUsage, status_of}
 use Rattle.vpf_run.proofs.Answering.{drill_answered, drill_is_done}
 
@@ -38,6 +38,17 @@ usage_ends statuses.TreeFault old new apart h = absurd (apart refl)
 usage_ends statuses.SinkFault old new apart h = inr (inl refl)
 usage_ends statuses.NoMemory old new apart h = inr (inr refl)
 usage_ends statuses.Limit old new apart h = inl h.0
+
+-- a run that neither the tree nor the sink stopped is completed
+pub completes : (answer : Answer) (status : Status) (old new : World) → status ≢ statuses.TreeFault → status ≢ statuses.SinkFault → Carries answer status old new
+    → IsCompleted answer status
+completes answer statuses.Done old new tree sink h = inl h.0
+completes answer statuses.Refused old new tree sink h = inl h.0
+completes answer statuses.Usage old new tree sink h = inl h.0
+completes answer statuses.TreeFault old new tree sink h = absurd (tree refl)
+completes answer statuses.SinkFault old new tree sink h = absurd (sink refl)
+completes answer statuses.NoMemory old new tree sink h = inr refl
+completes answer statuses.Limit old new tree sink h = inl h.0
 
 pub run_tells_usage : (command : Option Command) (told : Option Files) (status : Status) (old new : World) → command ≡ None → status ≢ statuses.TreeFault
     → ((answer : Answer) → IsAnswer command told answer → Carries answer status old new) → EndsAsUsage status

@@ -9,7 +9,7 @@ ghost use Rattle.vpf_triplet.specs.declared.places.Place.{Place};
 ghost use Rattle.vpf_table.specs.Faults.{FirstFault};
 ghost use Rattle.vpf_table.specs.Grid.{Grid};
 ghost use Rattle.vpf_table.specs.Spelling.{IsTable};
-ghost use Rattle.vpf_replies.specs.Answer.{Answer, done};
+ghost use Rattle.vpf_replies.specs.Answer.{Answer, done, usage_answer};
 ghost use Rattle.vpf_replies.specs.Tables.{fault_answer};
 ghost use Rattle.vpf_replies.specs.Halting.{ComesTo, TellsFault};
 ghost use Rattle.vpf_library_files.specs.Loading.Holding.{HoldsBytes};
@@ -20,8 +20,9 @@ ghost use Rattle.vpf_library_commands.specs.Agreeing.{Agrees, IsAgreeing};
 ghost use Rattle.vpf_library_commands.specs.Tile.{TileParts, tile_answer};
 ghost use Rattle.vpf_prims.specs.Tables.{TileTables};
 ghost use Rattle.vpf_replies.specs.Making.{made_answer};
-ghost use Rattle.vpf_run.specs.Cutting.{IsTiling, LacksAfter};
+ghost use Rattle.vpf_run.specs.Cutting.{IsAnsweredTiling, IsTiling, LacksAfter};
 ghost use Rattle.vpf_drill.specs.Cutting.{IsCutFrom, cut_files};
+ghost use Rattle.vpf_drill.specs.Request.{CanBeAsked};
 ghost use Rattle.vpf_drill.specs.Tilings.{StandsAlone};
 ghost use Rattle.vpf_library_commands.specs.Check.{agrees_text};
 ghost use Rattle.vpf_darts.specs.declared.darts.TileDart.{TileDart};
@@ -53,7 +54,7 @@ use vpf_drill::tile_theorem::tilings::laws::{requests_have_names, tiles_are_made
 use vpf_feature_commands::laws::plain_selections;
 use vpf_feature_commands::select;
 use vpf_library_commands::{check, glue, tile, trace};
-use vpf_replies::{Halt, Reply, Stop, settle, usage};
+use vpf_replies::{Halt, Reply, Stop, settle};
 use vpf_source::{DeviceError, Sink, Tree, make_all, put_all};
 use vpf_table::laws::opened_is_read;
 use vpf_table_commands::laws::{indexes_are_elsewhere, made_indexes_serve};
@@ -83,18 +84,29 @@ fn obey<T: Tree>(alloc: Global, command: &Command, tree: &mut T) -> Result<Reply
     }
 }
 
-/// The reply to words.
-fn reply_to<T: Tree>(alloc: Global, words: &[String], tree: &mut T) -> Result<Reply, Stop>
-    ensures told { (answer : Answer) → IsAnswer (command_of (map string_bytes words.now)) (T.files tree.old) answer
-        → IfOk result (IsAnswer (command_of (map string_bytes words.now)) (T.files tree.old)) }
+/// The reply to a command.
+fn reply_to<T: Tree>(alloc: Global, command: &Command, tree: &mut T) -> Result<Reply, Stop>
+    ensures told { (answer : Answer) → IsAnswer (Some command.now) (T.files tree.old) answer → IfOk result (IsAnswer (Some command.now) (T.files tree.old)) }
     ensures fault { TellsFault result Stop.TreeFault (T.faults tree.old) (T.faults tree.new) }
-    ensures usage { command_of (map string_bytes words.now) ≡ None → ¬ IsErrOf result Stop.TreeFault }
-    ensures drilled { (n : ℕ) → command_of (map string_bytes words.now) ≡ Some (Drill n) → ¬ IsErrOf result Stop.TreeFault }
+    ensures drilled { (n : ℕ) → command.now ≡ Drill n → ¬ IsErrOf result Stop.TreeFault }
     ensures files { T.files tree.new ≡ T.files tree.old }
 {
-    match read_command(alloc, words)? {
-        Some(command) => settle(obey(alloc, &command, tree)),
-        None => Ok(usage(alloc)?),
+    settle(obey(alloc, command, tree))
+}
+
+/// Prints the line that answers words that are no command.
+fn print_usage<O: Sink>(out: &mut O) -> Status
+    ensures prints { Prints usage_answer result (O.written out.old) (O.written out.new) }
+    ensures sink_fault { result ≡ Status.SinkFault → Rose (O.faults out.old) (O.faults out.new) }
+    ensures sink_stood { result ≢ Status.SinkFault → Stood (O.faults out.old) (O.faults out.new) }
+    ensures no_tree_fault { result ≢ Status.TreeFault }
+    ensures tells { TellsAsBefore (O.written out.old) (O.written out.new) }
+    ensures later { O.faults out.old ≤ O.faults out.new }
+{
+    match put_all(out, b"usage\n") {
+        Ok(()) => Status::Usage,
+        Err(DeviceError::Failed) => Status::SinkFault,
+        Err(DeviceError::NoMemory) => Status::NoMemory,
     }
 }
 
@@ -104,6 +116,7 @@ fn print_reply<O: Sink>(out: &mut O, reply: &Reply) -> Status
     ensures sink_fault { result ≡ Status.SinkFault → Rose (O.faults out.old) (O.faults out.new) }
     ensures sink_stood { result ≢ Status.SinkFault → Stood (O.faults out.old) (O.faults out.new) }
     ensures no_tree_fault { result ≢ Status.TreeFault }
+    ensures asked { result ≢ Status.Usage }
     ensures tells { TellsAsBefore (O.written out.old) (O.written out.new) }
     ensures later { O.faults out.old ≤ O.faults out.new }
 {
@@ -123,6 +136,7 @@ fn carry_out<T: Tree, O: Sink>(tree: &mut T, out: &mut O, reply: &Reply) -> Stat
     ensures sink_fault { result ≡ Status.SinkFault → Rose (O.faults out.old) (O.faults out.new) }
     ensures sink_stood { result ≢ Status.SinkFault → Stood (O.faults out.old) (O.faults out.new) }
     ensures makes_none { reply.now.made ≡ [] → result ≢ Status.TreeFault }
+    ensures asked { result ≢ Status.Usage }
     ensures silent { result ≡ Status.TreeFault → Keeps (O.written out.old) (O.written out.new) }
     ensures tells { TellsAsBefore (O.written out.old) (O.written out.new) }
     ensures tells_files { is_some (T.files tree.new) ≡ is_some (T.files tree.old) }
@@ -133,6 +147,39 @@ fn carry_out<T: Tree, O: Sink>(tree: &mut T, out: &mut O, reply: &Reply) -> Stat
         Ok(()) => print_reply(out, reply),
         Err(DeviceError::Failed) => Status::TreeFault,
         Err(DeviceError::NoMemory) => Status::NoMemory,
+    }
+}
+
+/// Does a command, as `run` does.
+fn do_command<T: Tree, O: Sink>(
+    alloc: Global,
+    command: &Command,
+    tree: &mut T,
+    out: &mut O,
+) -> Status
+    ensures answer { (answer : Answer) → IsAnswer (Some command.now) (T.files tree.old) answer
+        → Carries answer result (record { files = T.files tree.old; written = O.written out.old })
+        (record { files = T.files tree.new; written = O.written out.new }) }
+    ensures tree_fault { result ≡ Status.TreeFault → Rose (T.faults tree.old) (T.faults tree.new) }
+    ensures tree_stood { result ≢ Status.TreeFault → Stood (T.faults tree.old) (T.faults tree.new) }
+    ensures sink_fault { result ≡ Status.SinkFault → Rose (O.faults out.old) (O.faults out.new) }
+    ensures sink_stood { result ≢ Status.SinkFault → Stood (O.faults out.old) (O.faults out.new) }
+    ensures completed { (answer : Answer) → IsAnswer (Some command.now) (T.files tree.old) answer
+        → ¬ Rose (T.faults tree.old) (T.faults tree.new) → ¬ Rose (O.faults out.old) (O.faults out.new) → IsCompleted answer result }
+    ensures asked { result ≢ Status.Usage }
+    ensures drilled { (n : ℕ) → command.now ≡ Drill n → CanBeAsked n → result ≢ Status.TreeFault }
+    ensures silent { result ≡ Status.TreeFault → Keeps (O.written out.old) (O.written out.new) }
+    ensures tells { TellsAsBefore (O.written out.old) (O.written out.new) }
+    ensures tells_files { is_some (T.files tree.new) ≡ is_some (T.files tree.old) }
+    ensures tree_later { T.faults tree.old ≤ T.faults tree.new }
+    ensures sink_later { O.faults out.old ≤ O.faults out.new }
+{
+    one_answer();
+    one_drill();
+    match reply_to(alloc, command, tree) {
+        Ok(reply) => carry_out(tree, out, &reply),
+        Err(Stop::TreeFault) => Status::TreeFault,
+        Err(Stop::NoMemory) => Status::NoMemory,
     }
 }
 
@@ -148,6 +195,7 @@ fn do_words<T: Tree, O: Sink>(alloc: Global, words: &[String], tree: &mut T, out
     ensures completed { (answer : Answer) → IsAnswer (command_of (map string_bytes words.now)) (T.files tree.old) answer
         → ¬ Rose (T.faults tree.old) (T.faults tree.new) → ¬ Rose (O.faults out.old) (O.faults out.new) → IsCompleted answer result }
     ensures usage { command_of (map string_bytes words.now) ≡ None → result ≢ Status.TreeFault }
+    ensures only_usage { result ≡ Status.Usage → command_of (map string_bytes words.now) ≡ None }
     ensures drilled { (n : ℕ) → command_of (map string_bytes words.now) ≡ Some (Drill n) → result ≢ Status.TreeFault }
     ensures silent { result ≡ Status.TreeFault → Keeps (O.written out.old) (O.written out.new) }
     ensures tells { TellsAsBefore (O.written out.old) (O.written out.new) }
@@ -155,13 +203,11 @@ fn do_words<T: Tree, O: Sink>(alloc: Global, words: &[String], tree: &mut T, out
     ensures tree_later { T.faults tree.old ≤ T.faults tree.new }
     ensures sink_later { O.faults out.old ≤ O.faults out.new }
 {
-    one_answer();
-    one_drill();
     requests_can_be_asked();
-    match reply_to(alloc, words, tree) {
-        Ok(reply) => carry_out(tree, out, &reply),
-        Err(Stop::TreeFault) => Status::TreeFault,
-        Err(Stop::NoMemory) => Status::NoMemory,
+    match read_command(alloc, words) {
+        Ok(Some(command)) => do_command(alloc, &command, tree, out),
+        Ok(None) => print_usage(out),
+        Err(_) => Status::NoMemory,
     }
 }
 
@@ -233,12 +279,18 @@ pub fn run<T: Tree, O: Sink>(alloc: Global, words: &[String], tree: &mut T, out:
         (record { files = T.files tree.new; written = O.written out.new }) }
 
     // And what it makes is that coverage: where `tile` is done, no file stood in its folder before, no two of the files that it makes have one name, they
-    // have no more bytes in all than a run reads, and what the features lacked isn't there after, then `check` accepts the library that was made, with its
-    // features, and `trace` lists exactly the boundary cycles of the coverage without its lines between tiles, each dart called by its name in the tiles.
+    // have no more bytes in all than a run reads, and what the features lacked isn't there after, then the library that was made agrees, with its features,
+    // and its boundary cycles are exactly those of the coverage without its lines between tiles, each dart called by its name in the tiles.
     ensures rejoined { (before after : Files) (request : MakeRequest) → HoldsBytes before → HoldsBytes after
         → command_of (map string_bytes words.now) ≡ Some (Tile request) → T.files tree.old ≡ Some before → T.files tree.new ≡ Some after
         → result ≡ Status.Done → StandsAlone before request.out (tile_answer before request).made → LacksAfter before after request
         → IsTiling before after request }
+
+    // So `check` accepts that library, with the numbers of primitives of its tiles, and `trace` lists exactly these cycles.
+    ensures answered { (before after : Files) (request : MakeRequest) → HoldsBytes before → HoldsBytes after
+        → command_of (map string_bytes words.now) ≡ Some (Tile request) → T.files tree.old ≡ Some before → T.files tree.new ≡ Some after
+        → result ≡ Status.Done → StandsAlone before request.out (tile_answer before request).made → LacksAfter before after request
+        → IsAnsweredTiling before after request }
 
     // A fault is answered exactly where its count rose in this call; where neither rose, the run is completed.
     ensures tree_fault { result ≡ Status.TreeFault → Rose (T.faults tree.old) (T.faults tree.new) }
@@ -248,8 +300,10 @@ pub fn run<T: Tree, O: Sink>(alloc: Global, words: &[String], tree: &mut T, out:
     ensures completed { (answer : Answer) → IsAnswer (command_of (map string_bytes words.now)) (T.files tree.old) answer
         → ¬ Rose (T.faults tree.old) (T.faults tree.new) → ¬ Rose (O.faults out.old) (O.faults out.new) → IsCompleted answer result }
 
-    // These hold over every tree. `drill` is done, unless the sink fails or memory runs out: its grid can be cut into tiles, and what comes of it agrees.
+    // These hold over every tree. Only words that are no command are answered with usage. `drill` is done, unless the sink fails or memory runs out: its
+    // grid can be cut into tiles, and what comes of it agrees.
     ensures usage { command_of (map string_bytes words.now) ≡ None → result ≢ Status.TreeFault }
+    ensures only_usage { result ≡ Status.Usage → command_of (map string_bytes words.now) ≡ None }
     ensures drilled { (n : ℕ) → command_of (map string_bytes words.now) ≡ Some (Drill n)
         → (result ≡ Status.Done) ⊎ ((result ≡ Status.SinkFault) ⊎ (result ≡ Status.NoMemory)) }
     ensures silent { result ≡ Status.TreeFault → Keeps (O.written out.old) (O.written out.new) }

@@ -110,6 +110,7 @@ dart_name c plan d = copy_in c plan (home c plan d) d
 abbrev pub absent_darts : Primitives → (ℕ → ℕ) → ℕ → List ℕ
 absent_darts c plan t = filter (λ d. not (is_present c plan t d)) (edge_darts c)
 
--- the map of the coverage without the edges that aren't present in the tile
+-- the map of the coverage without the edges that aren't present in the tile: so the next of a dart there is the first that is present among its next,
+-- the one after it round the node, and so on (that this is the same is a law, `following_is_next` of vpf_tiling_laws)
 abbrev pub tile_map : Primitives → (ℕ → ℕ) → ℕ → DartMap
 tile_map c plan t = without (coverage_map c) (absent_darts c plan t)

@@ -1,6 +1,6 @@
 //! The tables of a folder, opened one after another from its files.
 
-ghost use Rattle.std.specs.Prelude.{◌≡◌, ◌≤◌, List, IfOk, OnOk, Option, codes};
+ghost use Rattle.std.specs.Prelude.{◌≡◌, ◌≤◌, List, IfOk, OnOk, Option};
 ghost use Rattle.std.specs.Option.{option_map};
 ghost use Rattle.vpf_source.specs.declared.file.File.{File as SourceFile};
 ghost use Rattle.vpf_table.specs.Grid.{Grid};
@@ -9,10 +9,9 @@ ghost use Rattle.vpf_prims.specs.Inner.Views.{tables_in_view};
 ghost use Rattle.vpf_coverage.specs.Inner.Opening.Opens.{AreOpeningTables, IsOpeningEnd, IsOpeningFolder, OpensEnd};
 ghost use Rattle.vpf_coverage.specs.Inner.Opening.Opens.{OpensFolder, OpensTables, files_of_folder, files_of_option};
 
-use crate::opening::tables::{is_first, next_table};
+use crate::opening::tables::Unopened;
 use std::alloc::{AllocError, Global};
 use vpf_prims::{PrimitiveViews, files_of};
-use vpf_source::File;
 use vpf_table::TableView;
 
 /// The entity nodes of a folder, where the next file is their table.
@@ -20,14 +19,14 @@ fn open_end<'a>(
     alloc: Global,
     folder: &str,
     like: Option<&TableView<'a>>,
-    files: &mut &'a [File],
+    files: &mut Unopened<'a>,
 ) -> Result<Option<TableView<'a>>, AllocError>
-    requires { IsOpeningEnd folder.now files.old.now }
-    ensures table { (end : Option Grid) (rest : List SourceFile) → OpensEnd folder.now end rest files.old.now → IfOk result (λ table. table ≡ end) }
-    ensures rest { (end : Option Grid) (rest : List SourceFile) → OpensEnd folder.now end rest files.old.now → OnOk result (files.new.now ≡ rest) }
+    requires { IsOpeningEnd folder.now files.old }
+    ensures table { (end : Option Grid) (rest : List SourceFile) → OpensEnd folder.now end rest files.old → IfOk result (λ table. table ≡ end) }
+    ensures rest { (end : Option Grid) (rest : List SourceFile) → OpensEnd folder.now end rest files.old → OnOk result (files.new ≡ rest) }
 {
-    if is_first(alloc, folder, "end", files)? {
-        Ok(Some(next_table(alloc, like, files)?))
+    if files.is_first(alloc, folder, "end")? {
+        Ok(Some(files.next_table(alloc, like)?))
     } else {
         Ok(None)
     }
@@ -38,18 +37,18 @@ fn open_tables<'a>(
     alloc: Global,
     folder: &str,
     like: Option<&PrimitiveViews<'a>>,
-    files: &mut &'a [File],
+    files: &mut Unopened<'a>,
 ) -> Result<PrimitiveViews<'a>, AllocError>
-    requires { AreOpeningTables folder.now files.old.now }
-    ensures tables { (tables : PrimitiveTables) (rest : List SourceFile) → OpensTables folder.now tables rest files.old.now
+    requires { AreOpeningTables folder.now files.old }
+    ensures tables { (tables : PrimitiveTables) (rest : List SourceFile) → OpensTables folder.now tables rest files.old
         → IfOk result (λ views. tables_in_view views ≡ tables) }
-    ensures rest { (tables : PrimitiveTables) (rest : List SourceFile) → OpensTables folder.now tables rest files.old.now → OnOk result (files.new.now ≡ rest) }
+    ensures rest { (tables : PrimitiveTables) (rest : List SourceFile) → OpensTables folder.now tables rest files.old → OnOk result (files.new ≡ rest) }
 {
     Ok(PrimitiveViews {
-        edg: next_table(alloc, like.map(|tables| &tables.edg), files)?,
-        fac: next_table(alloc, like.map(|tables| &tables.fac), files)?,
-        rng: next_table(alloc, like.map(|tables| &tables.rng), files)?,
-        cnd: next_table(alloc, like.map(|tables| &tables.cnd), files)?,
+        edg: files.next_table(alloc, like.map(|tables| &tables.edg))?,
+        fac: files.next_table(alloc, like.map(|tables| &tables.fac))?,
+        rng: files.next_table(alloc, like.map(|tables| &tables.rng))?,
+        cnd: files.next_table(alloc, like.map(|tables| &tables.cnd))?,
         end: open_end(
             alloc,
             folder,
@@ -65,15 +64,15 @@ pub(crate) fn open_folder<'a>(
     alloc: Global,
     folder: &str,
     like: Option<&PrimitiveViews<'a>>,
-    files: &mut &'a [File],
+    files: &mut Unopened<'a>,
 ) -> Result<Option<PrimitiveViews<'a>>, AllocError>
-    requires { IsOpeningFolder folder.now files.old.now }
-    ensures tables { (tables : Option PrimitiveTables) (rest : List SourceFile) → OpensFolder folder.now tables rest files.old.now
+    requires { IsOpeningFolder folder.now files.old }
+    ensures tables { (tables : Option PrimitiveTables) (rest : List SourceFile) → OpensFolder folder.now tables rest files.old
         → IfOk result (λ views. option_map tables_in_view views ≡ tables) }
-    ensures rest { (tables : Option PrimitiveTables) (rest : List SourceFile) → OpensFolder folder.now tables rest files.old.now
-        → OnOk result (files.new.now ≡ rest) }
+    ensures rest { (tables : Option PrimitiveTables) (rest : List SourceFile) → OpensFolder folder.now tables rest files.old
+        → OnOk result (files.new ≡ rest) }
 {
-    if is_first(alloc, folder, "edg", files)? {
+    if files.is_first(alloc, folder, "edg")? {
         Ok(Some(open_tables(alloc, folder, like, files)?))
     } else {
         Ok(None)

@@ -17,7 +17,7 @@ ghost use Rattle.vpf_coverage.specs.Inner.Opening.OpensTiles.{AreOpeningTiles, F
 ghost use Rattle.vpf_coverage.specs.Inner.Opening.OpensTiles.{OpensCoverage, OpensTiled, OpensTileref, OpensTiles};
 
 use crate::opening::folders::{files_of_folder, open_folder};
-use crate::opening::tables::next_table;
+use crate::opening::tables::Unopened;
 use std::alloc::{AllocError, Global};
 use vpf_library_files::loading::within;
 use vpf_library_files::tileref::laws::stops_decide;
@@ -60,16 +60,16 @@ fn files_open()
 }
 
 /// The paths in the table of tiles, and how many files it is, which are taken.
-fn open_paths<'a>(alloc: Global, files: &mut &'a [File]) -> Result<(TilePaths, u32), AllocError>
-    requires { IsOpeningTileref files.old.now }
-    ensures paths { (tileref : Grid) (rest : List SourceFile) → OpensTileref tileref rest files.old.now
+fn open_paths<'a>(alloc: Global, files: &mut Unopened<'a>) -> Result<(TilePaths, u32), AllocError>
+    requires { IsOpeningTileref files.old }
+    ensures paths { (tileref : Grid) (rest : List SourceFile) → OpensTileref tileref rest files.old
         → IfOk result (λ opened. opened.0 ≡ path_texts tileref) }
-    ensures count { (tileref : Grid) (rest : List SourceFile) → OpensTileref tileref rest files.old.now
+    ensures count { (tileref : Grid) (rest : List SourceFile) → OpensTileref tileref rest files.old
         → IfOk result (λ opened. opened.1 ≡ files_of_grid tileref) }
-    ensures rest { (tileref : Grid) (rest : List SourceFile) → OpensTileref tileref rest files.old.now → OnOk result (files.new.now ≡ rest) }
+    ensures rest { (tileref : Grid) (rest : List SourceFile) → OpensTileref tileref rest files.old → OnOk result (files.new ≡ rest) }
     ensures few { IfOk result (λ opened. opened.1 ≤ 2) }
 {
-    let table = next_table(alloc, None, files)?;
+    let table = files.next_table(alloc, None)?;
     let paths = paths_in(alloc, &table)?;
     Ok((paths, files_of(&table)))
 }
@@ -80,13 +80,13 @@ fn open_tile<'a>(
     folder: &str,
     path: &str,
     like: Option<&PrimitiveViews<'a>>,
-    files: &mut &'a [File],
+    files: &mut Unopened<'a>,
 ) -> Result<Option<PrimitiveViews<'a>>, AllocError>
-    requires { IsOpeningFolder (within folder.now path.now) files.old.now }
-    ensures tables { (tables : Option PrimitiveTables) (rest : List SourceFile) → OpensFolder (within folder.now path.now) tables rest files.old.now
+    requires { IsOpeningFolder (within folder.now path.now) files.old }
+    ensures tables { (tables : Option PrimitiveTables) (rest : List SourceFile) → OpensFolder (within folder.now path.now) tables rest files.old
         → IfOk result (λ views. tables_in_views views ≡ tables) }
-    ensures rest { (tables : Option PrimitiveTables) (rest : List SourceFile) → OpensFolder (within folder.now path.now) tables rest files.old.now
-        → OnOk result (files.new.now ≡ rest) }
+    ensures rest { (tables : Option PrimitiveTables) (rest : List SourceFile) → OpensFolder (within folder.now path.now) tables rest files.old
+        → OnOk result (files.new ≡ rest) }
 {
     let folder = within(alloc, folder, path)?;
     open_folder(alloc, folder.as_str(), like, files)
@@ -112,11 +112,11 @@ fn open_tiles<'a>(
     folder: &str,
     paths: &TilePaths,
     mut at: u32,
-    mut files: &'a [File],
+    mut files: Unopened<'a>,
 ) -> Result<(Vec<u32>, Vec<Option<PrimitiveViews<'a>>>), AllocError>
     requires few { at ≤ 2 }
-    requires tiles { AreOpeningTiles folder.now at paths.now files.now }
-    ensures opened { (tiles : List (Option TileTables)) → OpensTiles folder.now at paths.now tiles files.entry.now
+    requires tiles { AreOpeningTiles folder.now at paths.now files }
+    ensures opened { (tiles : List (Option TileTables)) → OpensTiles folder.now at paths.now tiles files.entry
         → IfOk result (λ o. placed_views o.0.items o.1.items ≡ None ∷ tiles) }
     ensures alike { IfOk result (λ o. length o.0.items ≡ length o.1.items) }
     ensures few { IfOk result (λ o. All (λ first. first < 2 ^ 31) o.0.items) }
@@ -146,10 +146,10 @@ fn open_tiles<'a>(
 fn open_tiled<'a>(
     alloc: Global,
     folder: &str,
-    mut files: &'a [File],
+    mut files: Unopened<'a>,
 ) -> Result<OpenCoverage<'a>, AllocError>
-    requires { IsOpeningTiled folder.now files.now }
-    ensures opened { (c : CoverageTables) → OpensTiled folder.now c files.entry.now → IfOk result (λ o. opened_coverage o ≡ c) }
+    requires { IsOpeningTiled folder.now files }
+    ensures opened { (c : CoverageTables) → OpensTiled folder.now c files.entry → IfOk result (λ o. opened_coverage o ≡ c) }
     ensures alike { IfOk result (λ o. length o.firsts.items ≡ length o.tiles.items) }
     ensures few { IfOk result (λ o. All (λ first. first < 2 ^ 31) o.firsts.items) }
 {
@@ -182,10 +182,10 @@ fn untiled<'a>(alloc: Global, views: PrimitiveViews<'a>) -> Result<OpenCoverage<
 fn open_coverage<'a>(
     alloc: Global,
     folder: &str,
-    mut files: &'a [File],
+    mut files: Unopened<'a>,
 ) -> Result<OpenCoverage<'a>, AllocError>
-    requires { IsOpeningCoverage folder.now files.now }
-    ensures opened { (c : CoverageTables) → OpensCoverage folder.now c files.entry.now → IfOk result (λ o. opened_coverage o ≡ c) }
+    requires { IsOpeningCoverage folder.now files }
+    ensures opened { (c : CoverageTables) → OpensCoverage folder.now c files.entry → IfOk result (λ o. opened_coverage o ≡ c) }
     ensures alike { IfOk result (λ o. length o.firsts.items ≡ length o.tiles.items) }
     ensures few { IfOk result (λ o. All (λ first. first < 2 ^ 31) o.firsts.items) }
 {
@@ -197,15 +197,15 @@ fn open_coverage<'a>(
 
 /// The tables of a coverage from its files, in the order in which they were read: whether it is tiled, and which tables its folders
 /// have, the names of the files tell.
-pub fn open_files<'a>(
+pub(crate) fn open_files<'a>(
     alloc: Global,
-    files: &'a [File],
+    files: Unopened<'a>,
     lib: &str,
     cov: &str,
 ) -> Result<OpenCoverage<'a>, AllocError>
-    requires { AreOfCoverage lib.now cov.now files.now }
+    requires { AreOfCoverage lib.now cov.now files }
     // The coverage that the files are.
-    ensures opened { (c : CoverageTables) → AreCoverageFiles lib.now cov.now c files.now → IfOk result (λ o. opened_coverage o ≡ c) }
+    ensures opened { (c : CoverageTables) → AreCoverageFiles lib.now cov.now c files.entry → IfOk result (λ o. opened_coverage o ≡ c) }
     // Each tile has a place for the first of its files.
     ensures alike { IfOk result (λ o. length o.firsts.items ≡ length o.tiles.items) }
     // There are few enough files to count them.
@@ -219,14 +219,14 @@ pub fn open_files<'a>(
 /// The table of tiles of a tiled coverage, which stands first among its files in the order in which they were read.
 pub fn open_tileref<'a>(
     alloc: Global,
-    mut files: &'a [File],
+    files: &'a [File],
     lib: &str,
     cov: &str,
 ) -> Result<TableView<'a>, AllocError>
     requires { (c : CoverageTables) × AreTiledFiles lib.now cov.now c files.now }
-    ensures { (c : CoverageTables) (are : AreTiledFiles lib.now cov.now c files.entry.now) → IfOk result (λ table. table ≡ are.tileref) }
+    ensures { (c : CoverageTables) (are : AreTiledFiles lib.now cov.now c files.now) → IfOk result (λ table. table ≡ are.tileref) }
 {
     spelled_is_opened();
     opened_is_read();
-    next_table(alloc, None, &mut files)
+    Unopened::of(files).next_table(alloc, None)
 }

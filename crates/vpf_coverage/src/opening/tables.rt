@@ -1,33 +1,41 @@
 //! Tables, opened one after another from files.
 
-ghost use Rattle.std.specs.Prelude.{◌≡◌, ◌≢◌, ◌∷◌, [], List, IfOk, IsOk, Ok, OnOk, Some};
+ghost use Rattle.std.specs.Prelude.{◌≡◌, ◌≢◌, ◌∷◌, [], List, IfOk, IfSome, IsOk, Ok, OnOk, Some};
 ghost use Rattle.vpf_source.specs.declared.file.File.{File as SourceFile};
 ghost use Rattle.vpf_table.specs.Grid.{Grid};
+ghost use Rattle.vpf_table.specs.Inner.Counts.{IsCountOf};
 ghost use Rattle.vpf_table.specs.Opening.{opened_of};
 ghost use Rattle.vpf_table.specs.Reading.{table_of};
+ghost use Rattle.vpf_library_files.specs.Inner.Loading.Counting.{AreCounted, IsFirstCounted};
 ghost use Rattle.vpf_library_files.specs.Loading.Loading.{within};
 ghost use Rattle.vpf_coverage.specs.Inner.Opening.Opens.{IsOpening, Opens, is_first_file};
 
 use std::alloc::{AllocError, Global};
-use vpf_library_files::loading::within;
+use std::marker::Model;
+use vpf_library_files::loading::{LoadedTables, within};
 use vpf_source::File;
-use vpf_table::{TableFile, TableView};
+use vpf_table::laws::{opened_is_read, spelled_is_opened};
+use vpf_table::{Counted, TableFile, TableView};
 use vpf_triplet::PlaceError;
 
-/// Whether there are files, and the first of them has the name in the folder.
-pub(crate) fn is_first(
-    alloc: Global,
-    folder: &str,
-    name: &str,
-    files: &[File],
-) -> Result<bool, AllocError>
-    ensures { IfOk result (λ is. is ≡ is_first_file (within folder.now name.now) files.now) }
-{
-    let name = within(alloc, folder, name)?;
-    match files.first() {
-        Some(file) => Ok(file.name.as_str() == name.as_str()),
-        None => Ok(false),
-    }
+/// Files of tables that are still to be opened, one table behind another, and what counting the rows of each found, where that is known. Contracts see
+/// them as the files.
+#[derive(Drop)]
+pub(crate) struct Unopened<'a> {
+    files: &'a [File],
+    counts: Option<&'a [Counted]>,
+}
+
+impl<'a> Model for Unopened<'a> {
+    ghost use Rattle.std.specs.Prelude.{IfSome, List};
+    ghost use Rattle.vpf_source.specs.declared.file.File.{File};
+    ghost use Rattle.vpf_library_files.specs.Inner.Loading.Counting.{AreCounted};
+
+    ghost Value = { List File };
+
+    ghost view = { λ u. u.files.now };
+
+    ghost invariant = { λ u. IfSome u.counts (λ counts. AreCounted u.files.now counts.now) };
 }
 
 /// The next file, which is taken.
@@ -42,8 +50,62 @@ fn next_file<'a>(files: &mut &'a [File]) -> &'a File
     file
 }
 
-/// The table of a file, which has one. Its header is shared with a given table's, where it is the same.
+/// What counting the rows of the first table found, and what it found of the others, where that is known.
+fn next_count<'a>(counts: Option<&'a [Counted]>) -> (Option<Counted>, Option<&'a [Counted]>)
+    ensures first { (grid : Grid) (rest : List SourceFile) (files : List SourceFile) → Opens grid rest files
+        → IfSome counts.entry (λ all. AreCounted files all.now) → IfSome result.0 (IsFirstCounted files) }
+    ensures others { (grid : Grid) (rest : List SourceFile) (files : List SourceFile) → Opens grid rest files
+        → IfSome counts.entry (λ all. AreCounted files all.now) → IfSome result.1 (λ others. AreCounted rest others.now) }
+{
+    spelled_is_opened();
+    opened_is_read();
+    let Some(all) = counts else {
+        return (None, None);
+    };
+    match all.split_first() {
+        Some((first, others)) => (Some(*first), Some(others)),
+        None => (None, None),
+    }
+}
+
+/// The table of a file that has one, whose rows aren't counted again where they were. Its header is shared with a given table's, where it is the same.
 fn table_in<'a>(
+    alloc: Global,
+    like: Option<&TableView<'a>>,
+    file: &'a File,
+    counted: Option<Counted>,
+) -> Result<TableFile<'a>, AllocError>
+    requires table { IsOk (table_of file.now.bytes) }
+    requires counted { IfSome counted (IsCountOf file.now.bytes) }
+    ensures bytes { IfOk result (λ table. table.bytes ≡ file.now.bytes) }
+    ensures grid { IfOk result (λ table. table_of file.now.bytes ≡ Ok table.grid) }
+{
+    match counted {
+        Some(counted) => counted_table(alloc, like, file, counted),
+        None => read_table(alloc, like, file),
+    }
+}
+
+/// The table of a file whose rows were counted.
+fn counted_table<'a>(
+    alloc: Global,
+    like: Option<&TableView<'a>>,
+    file: &'a File,
+    counted: Counted,
+) -> Result<TableFile<'a>, AllocError>
+    requires { IsCountOf file.now.bytes counted }
+    ensures bytes { IfOk result (λ table. table.bytes ≡ file.now.bytes) }
+    ensures grid { IfOk result (λ table. table_of file.now.bytes ≡ Ok table.grid) }
+{
+    let bytes = file.bytes.as_slice();
+    match like {
+        Some(table) => table.counted_like(alloc, bytes, counted),
+        None => TableFile::read_counted(alloc, bytes, counted),
+    }
+}
+
+/// The table of a file, which has one.
+fn read_table<'a>(
     alloc: Global,
     like: Option<&TableView<'a>>,
     file: &'a File,
@@ -64,45 +126,86 @@ fn table_in<'a>(
     }
 }
 
-/// A table with its own index.
-fn with_index<'a>(table: TableFile<'a>, index: &'a File) -> TableView<'a>
-    requires { IsOk (opened_of table.bytes (Some index.now.bytes)) }
-    ensures { opened_of table.entry.bytes (Some index.now.bytes) ≡ Ok result }
-{
-    match table.with_index(index.bytes.as_slice()) {
-        Ok(view) => view,
-        Err(_) => unreachable!(),
-    }
-}
-
 /// The table of a file, whose index is the next one where its rows vary.
 fn table_of_file<'a>(
     alloc: Global,
     like: Option<&TableView<'a>>,
     file: &'a File,
+    counted: Option<Counted>,
     files: &mut &'a [File],
 ) -> Result<TableView<'a>, AllocError>
-    requires { IsOpening (file.now ∷ files.old.now) }
+    requires opening { IsOpening (file.now ∷ files.old.now) }
+    requires counted { IfSome counted (IsCountOf file.now.bytes) }
     ensures table { (grid : Grid) (rest : List SourceFile) → Opens grid rest (file.now ∷ files.old.now) → IfOk result (λ table. table ≡ grid) }
     ensures rest { (grid : Grid) (rest : List SourceFile) → Opens grid rest (file.now ∷ files.old.now) → OnOk result (files.new.now ≡ rest) }
 {
-    let table = table_in(alloc, like, file)?;
+    let table = table_in(alloc, like, file, counted)?;
     if !table.header().varies() {
         return Ok(table.without_index());
     }
     Ok(with_index(table, next_file(files)))
 }
 
-/// The next table: its files are taken. Its header is shared with a given table's, where it is the same.
-pub(crate) fn next_table<'a>(
-    alloc: Global,
-    like: Option<&TableView<'a>>,
-    files: &mut &'a [File],
-) -> Result<TableView<'a>, AllocError>
-    requires { IsOpening files.old.now }
-    ensures table { (grid : Grid) (rest : List SourceFile) → Opens grid rest files.old.now → IfOk result (λ table. table ≡ grid) }
-    ensures rest { (grid : Grid) (rest : List SourceFile) → Opens grid rest files.old.now → OnOk result (files.new.now ≡ rest) }
+/// A table with its own index.
+fn with_index<'a>(table: TableFile<'a>, index: &'a File) -> TableView<'a>
+    requires { IsOk (opened_of table.bytes (Some index.now.bytes)) }
+    ensures { opened_of table.entry.bytes (Some index.now.bytes) ≡ Ok result }
 {
-    let file = next_file(files);
-    table_of_file(alloc, like, file, files)
+    table.with_own_index(index.bytes.as_slice())
+}
+
+impl<'a> Unopened<'a> {
+    /// Files whose tables are read.
+    pub(crate) fn of(files: &'a [File]) -> Unopened<'a>
+        ensures { result ≡ files.now }
+    {
+        Unopened {
+            files,
+            counts: None,
+        }
+    }
+
+    /// The files of tables that were loaded, whose rows aren't counted again.
+    pub(crate) fn loaded(tables: &'a LoadedTables) -> Unopened<'a>
+        ensures { result ≡ tables.now }
+    {
+        Unopened {
+            files: tables.files(),
+            counts: Some(tables.counts()),
+        }
+    }
+
+    /// Whether there are files, and the first of them has the name in the folder.
+    pub(crate) fn is_first(
+        &self,
+        alloc: Global,
+        folder: &str,
+        name: &str,
+    ) -> Result<bool, AllocError>
+        ensures { IfOk result (λ is. is ≡ is_first_file (within folder.now name.now) self.now) }
+    {
+        let name = within(alloc, folder, name)?;
+        match self.files.first() {
+            Some(file) => Ok(file.name.as_str() == name.as_str()),
+            None => Ok(false),
+        }
+    }
+
+    /// The next table: its files are taken. Its header is shared with a given table's, where it is the same.
+    pub(crate) fn next_table(
+        &mut self,
+        alloc: Global,
+        like: Option<&TableView<'a>>,
+    ) -> Result<TableView<'a>, AllocError>
+        requires { IsOpening self.old }
+        ensures table { (grid : Grid) (rest : List SourceFile) → Opens grid rest self.old → IfOk result (λ table. table ≡ grid) }
+        ensures rest { (grid : Grid) (rest : List SourceFile) → Opens grid rest self.old → OnOk result (self.new ≡ rest) }
+    {
+        let mut files = self.files;
+        let file = next_file(&mut files);
+        let (counted, counts) = next_count(self.counts);
+        let table = table_of_file(alloc, like, file, counted, &mut files)?;
+        *self = Unopened { files, counts };
+        Ok(table)
+    }
 }

@@ -47,7 +47,7 @@ AreIndexFiles order indexes files = ⊥
 -- these are the files of a feature table
 pub record AreTableFiles (folder : List ℕ) (table : FeatureTable) (files : TableFiles) : Type 0 where
   pub name : files.name ≡ table.name
-  pub own : AreFilesOf (within folder table.name) table.grid files.table.items
+  pub own : AreFilesOf (within folder table.name) table.grid files.table
   pub indexes : AreIndexFiles table.grid.head.order table.indexes files.indexes.items
 
 -- those of all feature tables

@@ -8,8 +8,8 @@ use Rattle.vpf_featured.specs.Reading.{FeaturedCoverage}
 
 -- the files are those of what was read
 pub record AreFeaturedFiles (lib cov : List ℕ) (files : FeaturedFiles) (read : FeaturedCoverage) : Type 0 where
-  pub coverage : AreCoverageFiles lib cov read.coverage.coverage files.coverage.items
-  pub listed : files.coverage.items ≡ read.coverage.files
+  pub coverage : AreCoverageFiles lib cov read.coverage.coverage files.coverage
+  pub listed : files.coverage ≡ read.coverage.files
   pub features : AreSchemaFiles (within lib cov) read.schema files.features
 
 -- they are those of something that was read

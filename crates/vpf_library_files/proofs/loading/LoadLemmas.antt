@@ -1,5 +1,5 @@
 -- What the files of a coverage are, and what reading them comes to, step by step.
-use Rattle.std.proofs.Common.{[], Vec, Global, ◌≡◌, inr, ◌∙◌, ℕ, List, ◌∷◌, Option, Some, None, Ok, Err, Bool, true, false, nat_le, length, cond, refl, sym, ap}
+use Rattle.std.proofs.Common.{[], ◌≡◌, inr, ◌∙◌, ℕ, List, ◌∷◌, Option, Some, None, Ok, Err, Bool, true, false, nat_le, length, cond, refl, sym, ap}
 use Rattle.std.specs.Prelude.{IfOk, IfSome, Result}
 use Rattle.vpf_base.specs.Limits.{most_bytes}
 use Rattle.vpf_base.specs.Results.{Meets, Told}
@@ -53,7 +53,7 @@ stops_all stop n read next h = onward (stop_seen stop) n read next h
 
 -- ---- what was loaded, as the clauses of a load say it
 
-counted_stop : (stop : LoadStop) (n : ℕ) (read : Read LoadedCoverage) → ReadsStop stop n read → CountsAs {V = Vec File Global} (Err stop) read n
+counted_stop : (stop : LoadStop) (n : ℕ) (read : Read LoadedCoverage) → ReadsStop stop n read → CountsAs {V = List File} (Err stop) read n
 counted_stop stops.Fault n read h = tt
 counted_stop (stops.Missing name) n read h = rw h refl
 counted_stop (stops.Place name place) n read h = rw h refl
@@ -62,15 +62,15 @@ counted_stop (stops.Finding name found) n read h = rw h refl
 counted_stop (stops.Varies name) n read h = rw h refl
 counted_stop stops.NoMemory n read h = tt
 
-abbrev Loaded : (lib cov : List ℕ) → Option Files → (before : ℕ) → Result (Vec File Global) LoadStop → ℕ → Type 0
-Loaded lib cov told before result n = LoadsAs told (λ held. read_coverage held lib cov before) (λ (v : Vec File Global) c. LoadsCoverage lib cov v.items c) result n
+abbrev Loaded : (lib cov : List ℕ) → Option Files → (before : ℕ) → Result (List File) LoadStop → ℕ → Type 0
+Loaded lib cov told before result n = LoadsAs told (λ held. read_coverage held lib cov before) (λ (v : List File) c. LoadsCoverage lib cov v c) result n
 
-pub load_told : (lib cov : List ℕ) (tells : Option Files) (before n : ℕ) (result : Result (Vec File Global) LoadStop) → Loaded lib cov tells before result n
-    → (held : Files) → tells ≡ Some held → Meets (λ (v : Vec File Global). v.items) stop_seen result (loaded_read (read_coverage held lib cov before))
+pub load_told : (lib cov : List ℕ) (tells : Option Files) (before n : ℕ) (result : Result (List File) LoadStop) → Loaded lib cov tells before result n
+    → (held : Files) → tells ≡ Some held → Meets (λ (v : List File). v) stop_seen result (loaded_read (read_coverage held lib cov before))
 load_told lib cov tells before n (Ok v) h held e = rw (h.comes held e) (ap Ok (sym h.is.all))
 load_told lib cov tells before n (Err stop) h held e = told (stop_seen stop) n (read_coverage held lib cov before) (h held e)
 
-pub load_counted : (lib cov : List ℕ) (tells : Option Files) (before n : ℕ) (result : Result (Vec File Global) LoadStop) → Loaded lib cov tells before result n
+pub load_counted : (lib cov : List ℕ) (tells : Option Files) (before n : ℕ) (result : Result (List File) LoadStop) → Loaded lib cov tells before result n
     → (held : Files) → tells ≡ Some held → CountsAs result (read_coverage held lib cov before) n
 load_counted lib cov tells before n (Ok v) h held e = rw (h.comes held e) refl
 load_counted lib cov tells before n (Err stop) h held e = counted_stop stop n (read_coverage held lib cov before) (h held e)
@@ -78,13 +78,13 @@ load_counted lib cov tells before n (Err stop) h held e = counted_stop stop n (r
 files_so : (lib cov : List ℕ) (x c : LoadedCoverage) (files : List File) → x ≡ c → LoadsCoverage lib cov files x → AreCoverageFiles lib cov c.coverage files
 files_so lib cov x c files e h = rw (h.all, sym e) h.are
 
-pub load_held : (lib cov : List ℕ) (tells : Option Files) (before n : ℕ) (result : Result (Vec File Global) LoadStop) → Loaded lib cov tells before result n
+pub load_held : (lib cov : List ℕ) (tells : Option Files) (before n : ℕ) (result : Result (List File) LoadStop) → Loaded lib cov tells before result n
     → (held : Files) → tells ≡ Some held → (c : LoadedCoverage) (k : ℕ) → read_coverage held lib cov before ≡ (Ok c, k)
-    → IfOk result (λ (v : Vec File Global). AreCoverageFiles lib cov c.coverage v.items)
-load_held lib cov tells before n (Ok v) h held e c k read = files_so lib cov h.value c v.items (value_is h.value c n k (sym (h.comes held e) ∙ read)) h.is
+    → IfOk result (λ (v : List File). AreCoverageFiles lib cov c.coverage v)
+load_held lib cov tells before n (Ok v) h held e c k read = files_so lib cov h.value c v (value_is h.value c n k (sym (h.comes held e) ∙ read)) h.is
 load_held lib cov tells before n (Err stop) h held e c k read = tt
 
-pub load_are : (lib cov : List ℕ) (tells : Option Files) (before n : ℕ) (result : Result (Vec File Global) LoadStop) → Loaded lib cov tells before result n
-    → IfOk result (λ (v : Vec File Global). AreOfCoverage lib cov v.items)
-load_are lib cov tells before n (Ok v) h = (h.value.coverage, files_so lib cov h.value h.value v.items refl h.is)
+pub load_are : (lib cov : List ℕ) (tells : Option Files) (before n : ℕ) (result : Result (List File) LoadStop) → Loaded lib cov tells before result n
+    → IfOk result (λ (v : List File). AreOfCoverage lib cov v)
+load_are lib cov tells before n (Ok v) h = (h.value.coverage, files_so lib cov h.value h.value v refl h.is)
 load_are lib cov tells before n (Err stop) h = tt

@@ -1,5 +1,5 @@
 -- Files are of one table alone, and a table that is read is that of its files.
-use Rattle.std.proofs.Common.{[], Vec, Global, ◌≡◌, ◌∙◌, ◌⊎◌, inl, inr, ℕ, Bool, true, false, not, ◌==◌, List, ◌∷◌, ◌++◌, length, Option, None, Some, Ok, refl, sym, ap, subst}
+use Rattle.std.proofs.Common.{[], ◌≡◌, ◌∙◌, ◌⊎◌, inl, inr, ℕ, Bool, true, false, not, ◌==◌, List, ◌∷◌, ◌++◌, length, Option, None, Some, Ok, refl, sym, ap, subst}
 use Rattle.std.specs.Prelude.{if◌then◌else◌, is_some}
 use Rattle.vpf_source.specs.Files.{Files}
 use Rattle.vpf_source.specs.declared.file.File.{File}
@@ -162,18 +162,18 @@ not_told held e = cc
 one_held : (a b : Files) → Some a ≡ Some b → a ≡ b
 one_held a b e = cc
 
-table_here : SpelledIsOpened → OpenedIsRead → (told : Option Files) (name : List ℕ) (m n : ℕ) (old new : List File) (added : Vec File Global)
-    → ((held : Files) → told ≡ Some held → ReadsValue (λ (v : Vec File Global) (t : LoadedTable). t.files ≡ v.items) added n (read_table held name m))
-    → (grid : Grid) × AreFilesOf name grid added.items → new ≡ old ++ added.items
+table_here : SpelledIsOpened → OpenedIsRead → (told : Option Files) (name : List ℕ) (m n : ℕ) (old new : List File) (added : List File)
+    → ((held : Files) → told ≡ Some held → ReadsValue (λ (v : List File) (t : LoadedTable). t.files ≡ v) added n (read_table held name m))
+    → (grid : Grid) × AreFilesOf name grid added → new ≡ old ++ added
     → Comes told (λ held. read_table held name m) (λ t. AddsTable name old new t) n
 table_here spelled again None name m n old new added reads are behind = record {
-  value = table_from are.0 added.items;
+  value = table_from are.0 added;
   is = record { behind = behind; are = are.1 };
   comes = λ held e. absurd (not_told held e);
 }
 table_here spelled again (Some files) name m n old new added reads are behind =
     let r = reads files refl in
-    let same : added.items ≡ r.value.files = sym r.is in
+    let same : added ≡ r.value.files = sym r.is in
     let put : new ≡ old ++ r.value.files = behind ∙ ap (λ x. old ++ x) same in
     record {
       value = r.value;
@@ -184,10 +184,10 @@ table_here spelled again (Some files) name m n old new added reads are behind =
       comes = λ held e. subst (λ (x : Files). read_table x name m ≡ (Ok r.value, n)) (one_held files held e) r.comes;
     }
 
-pub table_adds : SpelledIsOpened → OpenedIsRead → (told : Option Files) (here name : List ℕ) (m n : ℕ) (old new : List File) (added : Vec File Global)
+pub table_adds : SpelledIsOpened → OpenedIsRead → (told : Option Files) (here name : List ℕ) (m n : ℕ) (old new : List File) (added : List File)
     → here ≡ name
-    → ((held : Files) → told ≡ Some held → ReadsValue (λ (v : Vec File Global) (t : LoadedTable). t.files ≡ v.items) added n (read_table held here m))
-    → (grid : Grid) × AreFilesOf here grid added.items → new ≡ old ++ added.items
+    → ((held : Files) → told ≡ Some held → ReadsValue (λ (v : List File) (t : LoadedTable). t.files ≡ v) added n (read_table held here m))
+    → (grid : Grid) × AreFilesOf here grid added → new ≡ old ++ added
     → Comes told (λ held. read_table held name m) (λ t. AddsTable name old new t) n
 table_adds spelled again told here name m n old new added named reads are behind =
     subst (λ (x : List ℕ). Comes told (λ held. read_table held x m) (λ t. AddsTable x old new t) n) named (table_here spelled again told here m n old new added reads are behind)
@@ -214,18 +214,18 @@ some_adds spelled again name (Some grid) old new added are behind = record {
   are = are;
 }
 
-option_here : SpelledIsOpened → OpenedIsRead → (told : Option Files) (name : List ℕ) (m n : ℕ) (old new : List File) (added : Vec File Global)
-    → ((held : Files) → told ≡ Some held → ReadsValue (λ (v : Vec File Global) (t : Option LoadedTable). files_in t ≡ v.items) added n (read_optional_table held name m))
-    → (grid : Option Grid) × AreFilesOfOption name grid added.items → new ≡ old ++ added.items
-    → Comes told (λ held. read_optional_table held name m) (λ t. AddsOption name old new (not (length added.items == 0)) t) n
+option_here : SpelledIsOpened → OpenedIsRead → (told : Option Files) (name : List ℕ) (m n : ℕ) (old new : List File) (added : List File)
+    → ((held : Files) → told ≡ Some held → ReadsValue (λ (v : List File) (t : Option LoadedTable). files_in t ≡ v) added n (read_optional_table held name m))
+    → (grid : Option Grid) × AreFilesOfOption name grid added → new ≡ old ++ added
+    → Comes told (λ held. read_optional_table held name m) (λ t. AddsOption name old new (not (length added == 0)) t) n
 option_here spelled again None name m n old new added reads are behind = record {
-  value = some_of are.0 added.items;
-  is = some_adds spelled again name are.0 old new added.items are.1 behind;
+  value = some_of are.0 added;
+  is = some_adds spelled again name are.0 old new added are.1 behind;
   comes = λ held e. absurd (not_told held e);
 }
 option_here spelled again (Some files) name m n old new added reads are behind =
     let r = reads files refl in
-    let same : added.items ≡ files_in r.value = sym r.is in
+    let same : added ≡ files_in r.value = sym r.is in
     let put : new ≡ old ++ files_in r.value = behind ∙ ap (λ x. old ++ x) same in
     record {
       value = r.value;
@@ -237,12 +237,12 @@ option_here spelled again (Some files) name m n old new added reads are behind =
       comes = λ held e. subst (λ (x : Files). read_optional_table x name m ≡ (Ok r.value, n)) (one_held files held e) r.comes;
     }
 
-pub option_adds : SpelledIsOpened → OpenedIsRead → (told : Option Files) (here name : List ℕ) (m n : ℕ) (old new : List File) (added : Vec File Global) (there : Bool)
-    → here ≡ name → there ≡ not (length added.items == 0)
-    → ((held : Files) → told ≡ Some held → ReadsValue (λ (v : Vec File Global) (t : Option LoadedTable). files_in t ≡ v.items) added n (read_optional_table held here m))
-    → (grid : Option Grid) × AreFilesOfOption here grid added.items → new ≡ old ++ added.items
+pub option_adds : SpelledIsOpened → OpenedIsRead → (told : Option Files) (here name : List ℕ) (m n : ℕ) (old new : List File) (added : List File) (there : Bool)
+    → here ≡ name → there ≡ not (length added == 0)
+    → ((held : Files) → told ≡ Some held → ReadsValue (λ (v : List File) (t : Option LoadedTable). files_in t ≡ v) added n (read_optional_table held here m))
+    → (grid : Option Grid) × AreFilesOfOption here grid added → new ≡ old ++ added
     → Comes told (λ held. read_optional_table held name m) (λ t. AddsOption name old new there t) n
 option_adds spelled again told here name m n old new added there named tells reads are behind =
     subst (λ (b : Bool). Comes told (λ held. read_optional_table held name m) (λ t. AddsOption name old new b t) n) (sym tells)
-    (subst (λ (x : List ℕ). Comes told (λ held. read_optional_table held x m) (λ t. AddsOption x old new (not (length added.items == 0)) t) n) named
+    (subst (λ (x : List ℕ). Comes told (λ held. read_optional_table held x m) (λ t. AddsOption x old new (not (length added == 0)) t) n) named
     (option_here spelled again told here m n old new added reads are behind))

@@ -1,5 +1,5 @@
 -- What reading a coverage comes to, tiled or not.
-use Rattle.std.proofs.Common.{Vec, Global, ◌≡◌, ◌∙◌, inl, inr, ℕ, ◌+◌, Bool, true, false, List, [], ◌∷◌, ◌++◌, length, Option, Some, None, Ok, Err, refl, sym, ap, subst}
+use Rattle.std.proofs.Common.{◌≡◌, ◌∙◌, inl, inr, ℕ, ◌+◌, Bool, true, false, List, [], ◌∷◌, ◌++◌, length, Option, Some, None, Ok, Err, refl, sym, ap, subst}
 use Rattle.std.specs.Prelude.{Result, is_some}
 use Rattle.std.specs.List.{list_any}
 use Rattle.std.proofs.lemmas.List.{append-nil}
@@ -123,23 +123,23 @@ no_own old mid lib cov there (Some tile) so a = let e : false ≡ true = sym so 
 tiled_is : (lib cov : List ℕ) (files : List File) (c : LoadedCoverage) → LoadsTiled lib cov files c → LoadsCoverage lib cov files c
 tiled_is lib cov files c h = record { all = h.all; are = inr h.are }
 
-abbrev CoverageLoads : (told : Option Files) (lib cov : List ℕ) (n0 n2 : ℕ) → Result (Vec File Global) LoadStop → Type 0
-CoverageLoads told lib cov n0 n2 result = LoadsAs told (λ held. read_coverage held lib cov n0) (λ (v : Vec File Global) c. LoadsCoverage lib cov v.items c) result n2
+abbrev CoverageLoads : (told : Option Files) (lib cov : List ℕ) (n0 n2 : ℕ) → Result (List File) LoadStop → Type 0
+CoverageLoads told lib cov n0 n2 result = LoadsAs told (λ held. read_coverage held lib cov n0) (λ (v : List File) c. LoadsCoverage lib cov v c) result n2
 
-abbrev TiledLoads : (told : Option Files) (lib cov : List ℕ) (n1 n2 : ℕ) → Result (Vec File Global) LoadStop → Type 0
-TiledLoads told lib cov n1 n2 result = LoadsAs told (λ held. read_tiled held lib cov n1) (λ (v : Vec File Global) c. LoadsTiled lib cov v.items c) result n2
+abbrev TiledLoads : (told : Option Files) (lib cov : List ℕ) (n1 n2 : ℕ) → Result (List File) LoadStop → Type 0
+TiledLoads told lib cov n1 n2 result = LoadsAs told (λ held. read_tiled held lib cov n1) (λ (v : List File) c. LoadsTiled lib cov v c) result n2
 
-as_tiled : (told now : Option Files) (lib cov : List ℕ) (n0 n1 n2 : ℕ) (result : Result (Vec File Global) LoadStop) → now ≡ told
+as_tiled : (told now : Option Files) (lib cov : List ℕ) (n0 n1 n2 : ℕ) (result : Result (List File) LoadStop) → now ≡ told
     → ((held : Files) → told ≡ Some held → read_coverage held lib cov n0 ≡ read_tiled held lib cov n1)
     → TiledLoads now lib cov n1 n2 result → CoverageLoads told lib cov n0 n2 result
 as_tiled told now lib cov n0 n1 n2 (Ok v) same alike h = record {
   value = h.value;
-  is = tiled_is lib cov v.items h.value h.is;
+  is = tiled_is lib cov v h.value h.is;
   comes = λ held e. alike held e ∙ h.comes held (same ∙ e);
 }
 as_tiled told now lib cov n0 n1 n2 (Err stop) same alike h = λ held e. rw (alike held e) (h held (same ∙ e))
 
-pub tiled_loads : (told now : Option Files) (lib cov : List ℕ) (n0 n1 n2 : ℕ) (old mid : List File) (there : Bool) (result : Result (Vec File Global) LoadStop) → now ≡ told
+pub tiled_loads : (told now : Option Files) (lib cov : List ℕ) (n0 n1 n2 : ℕ) (old mid : List File) (there : Bool) (result : Result (List File) LoadStop) → now ≡ told
     → there ≡ false → Comes told (λ held. read_tile held (within lib cov) n0) (λ tile. AddsTile (within lib cov) old mid there tile) n1
     → TiledLoads now lib cov n1 n2 result → CoverageLoads told lib cov n0 n2 result
 tiled_loads told now lib cov n0 n1 n2 old mid there result same so a h =

@@ -7,8 +7,10 @@ ghost use Rattle.vpf_source.specs.Files.{Files};
 ghost use Rattle.vpf_library_files.specs.Loading.Holding.{AreCoverageFiles, AreOfCoverage};
 ghost use Rattle.vpf_library_files.specs.Loading.Loading.{LoadedCoverage, most_loaded, read_coverage, read_tiled, loaded_read, stop_seen, within, CountsAs};
 ghost use Rattle.vpf_library_files.specs.Loading.Loads.{LoadsAs, LoadsCoverage, LoadsTiled};
+ghost use Rattle.vpf_library_files.specs.Inner.Loading.Only.{OnlyLoads};
 
 mod files;
+mod loaded;
 mod names;
 mod tables;
 mod tileref;
@@ -17,10 +19,11 @@ mod tiles;
 use crate::tileref::TilePaths;
 use crate::tileref::laws::stops_decide;
 pub use files::optional_file;
+pub use loaded::LoadedTables;
 pub use names::within;
 use std::alloc::{AllocError, Global};
 pub use tables::{optional_table, required_table};
-pub use tileref::{load_tileref, table_in};
+pub use tileref::load_tileref;
 pub use tiles::load_folder;
 use tiles::load_tiles;
 use vpf_findings::OwnFinding;
@@ -65,57 +68,72 @@ fn first_edges(alloc: Global, folder: &str, paths: &TilePaths) -> Result<Name, A
     Ok(Name::new(within(alloc, tile.as_str(), "edg")?))
 }
 
-/// The files of a tiled coverage, by the folders of its library and its own.
+/// The tables of a tiled coverage, by the folders of its library and its own.
 fn load_tiled<T: Tree>(
     alloc: Global,
     tree: &mut T,
     lib: &str,
     folder: &str,
     loaded: &mut u64,
-) -> Result<Vec<File>, LoadStop>
+) -> Result<LoadedTables, LoadStop>
     requires { loaded.old ≤ most_loaded }
     ensures reads { (cov : List ℕ) → folder.now ≡ within lib.now cov
-        → LoadsAs (T.files tree.old) (λ held. read_tiled held lib.now cov loaded.old) (λ v c. LoadsTiled lib.now cov v.items c) result loaded.new }
-    ensures rising { loaded.old ≤ loaded.new }
-    ensures most { loaded.new ≤ most_loaded }
-    ensures fault { IsErrOf result LoadStop.Fault → Rose (T.faults tree.old) (T.faults tree.new) }
-    ensures stood { ¬ IsErrOf result LoadStop.Fault → Stood (T.faults tree.old) (T.faults tree.new) }
-    ensures later { T.faults tree.old ≤ T.faults tree.new }
-    ensures files { T.files tree.new ≡ T.files tree.old }
+        → LoadsAs (T.files tree.old) (λ held. read_tiled held lib.now cov loaded.old) (λ v c. LoadsTiled lib.now cov v c) result loaded.new }
+    ensures only { OnlyLoads T.files T.faults tree.old tree.new loaded.old loaded.new (IsErrOf result LoadStop.Fault) }
 {
     stops_decide();
-    let mut files = Vec::new(alloc);
-    let paths = load_tileref(alloc, tree, lib, loaded, &mut files)?;
-    if !load_tiles(alloc, tree, folder, &paths, loaded, &mut files)? {
+    let mut tables = LoadedTables::new(alloc);
+    let paths = load_tileref(alloc, tree, lib, loaded, &mut tables)?;
+    if !load_tiles(alloc, tree, folder, &paths, loaded, &mut tables)? {
         return Err(LoadStop::Missing(first_edges(alloc, folder, &paths)?));
     }
-    Ok(files)
+    Ok(tables)
 }
 
-/// The files of a coverage, tiled or not.
-fn load_files<T: Tree>(
+/// The tables of a coverage, tiled or not.
+fn load_tables<T: Tree>(
     alloc: Global,
     tree: &mut T,
     lib: &str,
     cov: &str,
     loaded: &mut u64,
-) -> Result<Vec<File>, LoadStop>
+) -> Result<LoadedTables, LoadStop>
     requires { loaded.old ≤ most_loaded }
     ensures reads { LoadsAs (T.files tree.old) (λ held. read_coverage held lib.now cov.now loaded.old)
-        (λ v c. LoadsCoverage lib.now cov.now v.items c) result loaded.new }
-    ensures rising { loaded.old ≤ loaded.new }
-    ensures most { loaded.new ≤ most_loaded }
-    ensures fault { IsErrOf result LoadStop.Fault → Rose (T.faults tree.old) (T.faults tree.new) }
-    ensures stood { ¬ IsErrOf result LoadStop.Fault → Stood (T.faults tree.old) (T.faults tree.new) }
-    ensures later { T.faults tree.old ≤ T.faults tree.new }
-    ensures files { T.files tree.new ≡ T.files tree.old }
+        (λ v c. LoadsCoverage lib.now cov.now v c) result loaded.new }
+    ensures only { OnlyLoads T.files T.faults tree.old tree.new loaded.old loaded.new (IsErrOf result LoadStop.Fault) }
 {
-    let mut files = Vec::new(alloc);
-    if load_folder(alloc, tree, lib, cov, loaded, &mut files)? {
-        return Ok(files);
+    let mut tables = LoadedTables::new(alloc);
+    if load_folder(alloc, tree, lib, cov, loaded, &mut tables)? {
+        return Ok(tables);
     }
     let folder = within(alloc, lib, cov)?;
     load_tiled(alloc, tree, lib, folder.as_str(), loaded)
+}
+
+/// The tables of a coverage of a library, in reading order, as `load_coverage` gives their files, with what counting the rows of each found: so they are
+/// opened without counting them again. The stops are those of `load_coverage`, and `loaded` counts as it does there.
+pub fn load_coverage_tables<T: Tree>(
+    alloc: Global,
+    tree: &mut T,
+    lib: &str,
+    cov: &str,
+    loaded: &mut u64,
+) -> Result<LoadedTables, LoadStop>
+    requires { loaded.old ≤ most_loaded }
+    // What is loaded, or what stops it, where the tree tells its files.
+    ensures told { (files : Files) → T.files tree.old ≡ Some files
+        → Meets (λ v. v) stop_seen result (loaded_read (read_coverage files lib.now cov.now loaded.old)) }
+    // The bytes that were read are counted.
+    ensures counted { (files : Files) → T.files tree.old ≡ Some files → CountsAs result (read_coverage files lib.now cov.now loaded.old) loaded.new }
+    // The files are those of the coverage that is read.
+    ensures held { (files : Files) → T.files tree.old ≡ Some files → (c : LoadedCoverage) (n : ℕ) → read_coverage files lib.now cov.now loaded.old ≡ (Ok c, n)
+        → IfOk result (λ v. AreCoverageFiles lib.now cov.now c.coverage v) }
+    // These hold over every tree.
+    ensures are { IfOk result (λ tables. AreOfCoverage lib.now cov.now tables) }
+    ensures only { OnlyLoads T.files T.faults tree.old tree.new loaded.old loaded.new (IsErrOf result LoadStop.Fault) }
+{
+    load_tables(alloc, tree, lib, cov, loaded)
 }
 
 /// The files of a coverage of a library, in reading order.
@@ -156,5 +174,8 @@ pub fn load_coverage<T: Tree>(
     ensures later { T.faults tree.old ≤ T.faults tree.new }
     ensures files { T.files tree.new ≡ T.files tree.old }
 {
-    load_files(alloc, tree, lib, cov, loaded)
+    match load_coverage_tables(alloc, tree, lib, cov, loaded) {
+        Ok(tables) => Ok(tables.into_files()),
+        Err(stop) => Err(stop),
+    }
 }

@@ -20,19 +20,19 @@ use Rattle.vpf_wing.specs.Links.{Beyond}
 use Rattle.vpf_follow.specs.Inner.TileLaws.{tile-below}
 use Rattle.vpf_tiling_laws.specs.Gluing.Glued.{face_number}
 use Rattle.vpf_tiling_laws.specs.Gluing.Whole.{WholeEntity, WholeFace, face_here, whole_entities, whole_faces, whole_of}
-use Rattle.vpf_renumbering.specs.Inner.GluedFaces.Faces.{AreCounted, faces_before, nowhere}
+use Rattle.vpf_renumbering.specs.Inner.GluedFaces.Faces.{AreFaceCounts, faces_before, nowhere}
 use Rattle.vpf_renumbering.proofs.glued_faces.NumberLemmas.{before_climbs, before_end, before_next, face_at_place, none_before, number_inside, number_is, own_many, range_split}
 
-pub counts_long : (c : CoverageTables) (xs : List ℕ) → AreCounted c xs → length xs ≡ last_tile c + 2
+pub counts_long : (c : CoverageTables) (xs : List ℕ) → AreFaceCounts c xs → length xs ≡ last_tile c + 2
 counts_long c xs a = ap (λ (ys : List ℕ). length ys) a.counted ∙ length-map-range_with_len (faces_before (library_of c)) 0 (last_tile c + 2)
 
-pub count_at : (c : CoverageTables) (xs : List ℕ) → AreCounted c xs → (t d : ℕ) → t ≤ last_tile c + 1 → get_or xs t d ≡ faces_before (library_of c) t
+pub count_at : (c : CoverageTables) (xs : List ℕ) → AreFaceCounts c xs → (t d : ℕ) → t ≤ last_tile c + 1 → get_or xs t d ≡ faces_before (library_of c) t
 count_at c xs a t d h =
     ap (λ (ys : List ℕ). get_or ys t d) a.counted
     ∙ get_or-map-range_with_len (faces_before (library_of c)) 0 (last_tile c + 2) t t d (omega arith) (let z : 0 + t ≡ t = omega arith in z)
 
 -- the last is of all faces
-pub count_end : (c : CoverageTables) (xs : List ℕ) → AreCounted c xs → (d : ℕ) → get_or xs (length xs - 1) d ≡ length (whole_of (library_of c)).faces
+pub count_end : (c : CoverageTables) (xs : List ℕ) → AreFaceCounts c xs → (d : ℕ) → get_or xs (length xs - 1) d ≡ length (whole_of (library_of c)).faces
 count_end c xs a d =
     let long : length xs ≡ last_tile c + 2 = counts_long c xs a in
     let end : length xs - 1 ≡ last_tile c + 1 = omega arith in
@@ -55,7 +55,7 @@ pub record IsFaceNumber (c : CoverageTables) (t f n : ℕ) : Type 0 where
   pub row : IsRowOf (length (whole_of (library_of c)).faces + 1) n
   pub few : n < 2 ^ 25
 
-pub number_at : (c : CoverageTables) (xs : List ℕ) → AreCounted c xs → (t f x : ℕ) → IsRowOf (face_count (library_of c) t) f → f ≢ 1 → x ≡ get_or xs t x
+pub number_at : (c : CoverageTables) (xs : List ℕ) → AreFaceCounts c xs → (t f x : ℕ) → IsRowOf (face_count (library_of c) t) f → f ≢ 1 → x ≡ get_or xs t x
     → IsFaceNumber c t f (x + f)
 number_at c xs a t f x r other is =
     let L : Library = library_of c in
@@ -72,7 +72,7 @@ number_at c xs a t f x r other is =
       few = omega arith;
     }
 
-pub universe_number : (c : CoverageTables) (xs : List ℕ) → AreCounted c xs → (t f : ℕ) → f ≡ 1 → IsFaceNumber c t f 1
+pub universe_number : (c : CoverageTables) (xs : List ℕ) → AreFaceCounts c xs → (t f : ℕ) → f ≡ 1 → IsFaceNumber c t f 1
 universe_number c xs a t f e = record {
   is = ap (λ g. face_number (whole_of (library_of c)) (face_here t g)) (sym e);
   row = (omega arith, omega arith);
@@ -81,7 +81,7 @@ universe_number c xs a t f e = record {
 
 -- ---- the face at a place
 
-pub counts_climb : (c : CoverageTables) (xs : List ℕ) → AreCounted c xs → (place : ℕ) → IsPartitionedBy (λ y. leb y place) xs
+pub counts_climb : (c : CoverageTables) (xs : List ℕ) → AreFaceCounts c xs → (place : ℕ) → IsPartitionedBy (λ y. leb y place) xs
 counts_climb c xs a place = IsPartitionedBy-leb (λ y. y) xs place (λ i j d le lt. (
     let long : length xs ≡ last_tile c + 2 = counts_long c xs a in
     let x : get_or xs i d ≡ faces_before (library_of c) i = count_at c xs a i d (omega arith) in
@@ -97,7 +97,7 @@ pub record IsPoint (c : CoverageTables) (point : ℕ) : Type 0 where
 above : (a b : ℕ) → leb a b ≡ false → b < a
 above a b f = elim (cases_lt b a) [ inl lt ↦ lt | inr le ↦ absurd (never_both (leb a b) (le-leb a b le) f) ]
 
-pub point_at : (c : CoverageTables) (xs : List ℕ) → AreCounted c xs → (place point : ℕ) → place < length (whole_of (library_of c)).faces
+pub point_at : (c : CoverageTables) (xs : List ℕ) → AreFaceCounts c xs → (place point : ℕ) → place < length (whole_of (library_of c)).faces
     → IsPartitionPoint (λ y. leb y place ≡ true) (λ y. leb y place ≡ false) xs point → IsPoint c point
 point_at c xs a place point lt h = record { some = some point h; inside = inside }
   where
@@ -127,7 +127,7 @@ pub record IsFaceAt (c : CoverageTables) (place t f : ℕ) : Type 0 where
   pub row : IsRowOf (face_count (library_of c) t) f
   pub other : 2 ≤ f
 
-pub face_below : (c : CoverageTables) (xs : List ℕ) → AreCounted c xs → (place point x : ℕ) → IsPoint c point
+pub face_below : (c : CoverageTables) (xs : List ℕ) → AreFaceCounts c xs → (place point x : ℕ) → IsPoint c point
     → IsPartitionPoint (λ y. leb y place ≡ true) (λ y. leb y place ≡ false) xs point → x ≡ get_or xs (point - 1) x → x ≤ place
 face_below c xs a place point x p h is =
     let some = p.some in
@@ -136,7 +136,7 @@ face_below c xs a place point x p h is =
     let below : get_or xs (point - 1) x ≤ place = leb-true (get_or xs (point - 1) x) place (h.0 (point - 1) x (omega arith) (omega arith)) in
     omega arith
 
-pub face_found : (c : CoverageTables) (xs : List ℕ) → AreCounted c xs → (place point x : ℕ) → IsPoint c point
+pub face_found : (c : CoverageTables) (xs : List ℕ) → AreFaceCounts c xs → (place point x : ℕ) → IsPoint c point
     → IsPartitionPoint (λ y. leb y place ≡ true) (λ y. leb y place ≡ false) xs point → x ≡ get_or xs (point - 1) x → IsFaceAt c place (point - 1) (place - x + 2)
 face_found c xs a place point x p h is =
     let L : Library = library_of c in

@@ -39,13 +39,13 @@ pub struct GluedFaces<'w, 'c, 'a> {
 
 impl<'w, 'c, 'a> Model for GluedFaces<'w, 'c, 'a> {
     ghost use Rattle.vpf_prims.specs.Coverages.{CoverageTables};
-    ghost use Rattle.vpf_renumbering.specs.Inner.GluedFaces.Faces.{AreCounted};
+    ghost use Rattle.vpf_renumbering.specs.Inner.GluedFaces.Faces.{AreFaceCounts};
 
     ghost Value = { CoverageTables };
 
     ghost view = { λ f. f.checked.now };
 
-    ghost invariant = { λ f. AreCounted f.checked.now f.counts.items };
+    ghost invariant = { λ f. AreFaceCounts f.checked.now f.counts.items };
 }
 
 impl<'w, 'c, 'a> GluedFaces<'w, 'c, 'a> {

@@ -1,5 +1,5 @@
 -- What reading a plan comes to.
-use Rattle.std.proofs.Common.{Vec, Global, ◌≡◌, ◌∙◌, ℕ, List, Option, None, Some, Ok, Err, refl, sym, ap, subst}
+use Rattle.std.proofs.Common.{◌≡◌, ◌∙◌, ℕ, List, Option, None, Some, Ok, Err, refl, sym, ap, subst}
 use Rattle.std.specs.Prelude.{IfOk, IfSome, Result}
 use Rattle.vpf_base.specs.Results.{Told}
 use Rattle.vpf_source.specs.Files.{Files}
@@ -36,20 +36,20 @@ its_files : SpelledOpens → OpensRead → (held : Files) (name : List ℕ) (m n
     → t.files ≡ files → (grid : Grid) × AreFilesOf name grid files → AreFilesOf name t.grid files
 its_files spelled again held name m n t files e whole are = table_is spelled again held name m n t are.0 files e whole are.1
 
-abbrev TableRead : (held : Files) (name : List ℕ) (m n : ℕ) (files : Vec File Global) → Type 0
-TableRead held name m n files = ReadsValue (λ (v : Vec File Global) (t : LoadedTable). t.files ≡ v.items) files n (read_table held name m)
+abbrev TableRead : (held : Files) (name : List ℕ) (m n : ℕ) (files : List File) → Type 0
+TableRead held name m n files = ReadsValue (λ (v : List File) (t : LoadedTable). t.files ≡ v) files n (read_table held name m)
 
 abbrev AreSome : (name : List ℕ) → List File → Type 0
 AreSome name files = (grid : Grid) × AreFilesOf name grid files
 
 -- the table that was read, in the slice that was looked at
-in_slice : SpelledOpens → OpensRead → (held : Files) (name : List ℕ) (m n : ℕ) (files : Vec File Global) (slice : List File) (r : TableRead held name m n files)
-    → slice ≡ files.items → AreSome name files.items → AreFilesOf name r.value.grid slice
+in_slice : SpelledOpens → OpensRead → (held : Files) (name : List ℕ) (m n : ℕ) (files : List File) (slice : List File) (r : TableRead held name m n files)
+    → slice ≡ files → AreSome name files → AreFilesOf name r.value.grid slice
 in_slice spelled again held name m n files slice r same are =
-    subst (λ (x : List File). AreFilesOf name r.value.grid x) (sym same) (its_files spelled again held name m n r.value files.items r.comes r.is are)
+    subst (λ (x : List File). AreFilesOf name r.value.grid x) (sym same) (its_files spelled again held name m n r.value files r.comes r.is are)
 
-pub plan_halts : SpelledOpens → OpensRead → (held : Files) (name : List ℕ) (m n : ℕ) (files : Vec File Global) (slice : List File) (stop : LoadStop) → slice ≡ files.items
-    → TableRead held name m n files → AreSome name files.items
+pub plan_halts : SpelledOpens → OpensRead → (held : Files) (name : List ℕ) (m n : ℕ) (files : List File) (slice : List File) (stop : LoadStop) → slice ≡ files
+    → TableRead held name m n files → AreSome name files
     → ((table : LoadedTable) → AreFilesOf name table.grid slice → Told (stop_seen stop) (unless_found name (plan_finding table.grid) table))
     → ReadsStop stop n (read_plan held name m)
 plan_halts spelled again held name m n files slice stop same r are finds =
@@ -59,15 +59,15 @@ plan_halts spelled again held name m n files slice stop same r are finds =
 abbrev NoneFound : (name : List ℕ) → List File → Type 0
 NoneFound name slice = (table : LoadedTable) → AreFilesOf name table.grid slice → unless_found name (plan_finding table.grid) table ≡ Ok table
 
-plan_read : SpelledOpens → OpensRead → (held : Files) (name : List ℕ) (m n : ℕ) (files : Vec File Global) (slice : List File) (r : TableRead held name m n files)
-    → slice ≡ files.items → AreSome name files.items → NoneFound name slice → read_plan held name m ≡ (Ok r.value, n)
+plan_read : SpelledOpens → OpensRead → (held : Files) (name : List ℕ) (m n : ℕ) (files : List File) (slice : List File) (r : TableRead held name m n files)
+    → slice ≡ files → AreSome name files → NoneFound name slice → read_plan held name m ≡ (Ok r.value, n)
 plan_read spelled again held name m n files slice r same are finds =
     let none = finds r.value (in_slice spelled again held name m n files slice r same are) in
     rw (r.comes, none) refl
 
-pub plan_comes : SpelledOpens → OpensRead → (held : Files) (name : List ℕ) (m n : ℕ) (files : Vec File Global) (slice : List File) → slice ≡ files.items
-    → TableRead held name m n files → AreSome name files.items → NoneFound name slice
-    → ReadsValue (λ (v : Vec File Global) (t : LoadedTable). t.files ≡ v.items) files n (read_plan held name m)
+pub plan_comes : SpelledOpens → OpensRead → (held : Files) (name : List ℕ) (m n : ℕ) (files : List File) (slice : List File) → slice ≡ files
+    → TableRead held name m n files → AreSome name files → NoneFound name slice
+    → ReadsValue (λ (v : List File) (t : LoadedTable). t.files ≡ v) files n (read_plan held name m)
 plan_comes spelled again held name m n files slice same r are finds =
     record { value = r.value; comes = plan_read spelled again held name m n files slice r same are finds; is = r.is }
 
@@ -77,15 +77,15 @@ plan_are decide name files slice same are finds =
     let here = subst (λ (x : List File). AreFilesOf name are.0 x) (sym same) are.1 in
     (are.0, record { are = are.1; plan = (decide are.0).0 (nothing_found name (plan_finding are.0) t (finds t here)) })
 
-pub plan_held : SpelledOpens → OpensRead → PlansDecide → (held : Files) (name : List ℕ) (m n k : ℕ) (files : Vec File Global) (slice : List File) (table : LoadedTable)
-    → slice ≡ files.items → TableRead held name m n files → AreSome name files.items → NoneFound name slice → read_plan held name m ≡ (Ok table, k)
-    → ArePlanFiles name table.grid files.items
+pub plan_held : SpelledOpens → OpensRead → PlansDecide → (held : Files) (name : List ℕ) (m n k : ℕ) (files : List File) (slice : List File) (table : LoadedTable)
+    → slice ≡ files → TableRead held name m n files → AreSome name files → NoneFound name slice → read_plan held name m ≡ (Ok table, k)
+    → ArePlanFiles name table.grid files
 plan_held spelled again decide held name m n k files slice table same r are finds e =
     let one : r.value ≡ table = came_same n k r.value table (sym (plan_read spelled again held name m n files slice r same are finds) ∙ e) in
-    let its = its_files spelled again held name m n r.value files.items r.comes r.is are in
+    let its = its_files spelled again held name m n r.value files r.comes r.is are in
     let none = nothing_found name (plan_finding r.value.grid) r.value (finds r.value (in_slice spelled again held name m n files slice r same are)) in
-    let plan : ArePlanFiles name r.value.grid files.items = record { are = its; plan = (decide r.value.grid).0 none } in
-    subst (λ (x : LoadedTable). ArePlanFiles name x.grid files.items) one plan
+    let plan : ArePlanFiles name r.value.grid files = record { are = its; plan = (decide r.value.grid).0 none } in
+    subst (λ (x : LoadedTable). ArePlanFiles name x.grid files) one plan
 
 -- ---- what is found in the columns of a table
 

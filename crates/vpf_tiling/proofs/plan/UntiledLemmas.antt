@@ -1,5 +1,5 @@
 -- What reading an untiled coverage comes to.
-use Rattle.std.proofs.Common.{[], Vec, Global, ◌≡◌, ◌∙◌, inl, ℕ, Bool, true, false, List, Option, None, Some, Ok, Err, refl, sym, ap, subst}
+use Rattle.std.proofs.Common.{[], ◌≡◌, ◌∙◌, inl, ℕ, Bool, true, false, List, Option, None, Some, Ok, Err, refl, sym, ap, subst}
 use Rattle.std.specs.Prelude.{IfOk, IfSome, Result, codes}
 use Rattle.std.proofs.lemmas.List.{append-nil}
 use Rattle.vpf_base.specs.Results.{Meets, Told}
@@ -57,19 +57,19 @@ folder_missing told lib cov name n0 n1 old new there so named h held e = rw name
 
 -- ---- what was loaded, as the clauses say it
 
-abbrev UntiledLoads : (told : Option Files) (lib cov : List ℕ) (n0 n1 : ℕ) → Result (Vec File Global) LoadStop → Type 0
-UntiledLoads told lib cov n0 n1 result = LoadsAs told (λ held. read_untiled held lib cov n0) (λ (v : Vec File Global) c. LoadsUntiled lib cov v.items c) result n1
+abbrev UntiledLoads : (told : Option Files) (lib cov : List ℕ) (n0 n1 : ℕ) → Result (List File) LoadStop → Type 0
+UntiledLoads told lib cov n0 n1 result = LoadsAs told (λ held. read_untiled held lib cov n0) (λ (v : List File) c. LoadsUntiled lib cov v c) result n1
 
 told_so : (read : Read LoadedCoverage) (n : ℕ) (seen : Option LoadStop) → IfSome seen (λ stop. read ≡ (Err stop, n)) → Told seen (loaded_read read)
 told_so read n None h = tt
 told_so read n (Some stop) h = rw h refl
 
-pub untiled_told : (told : Option Files) (lib cov : List ℕ) (n0 n1 : ℕ) (result : Result (Vec File Global) LoadStop) → UntiledLoads told lib cov n0 n1 result
-    → (held : Files) → told ≡ Some held → Meets (λ (v : Vec File Global). v.items) stop_seen result (loaded_read (read_untiled held lib cov n0))
+pub untiled_told : (told : Option Files) (lib cov : List ℕ) (n0 n1 : ℕ) (result : Result (List File) LoadStop) → UntiledLoads told lib cov n0 n1 result
+    → (held : Files) → told ≡ Some held → Meets (λ (v : List File). v) stop_seen result (loaded_read (read_untiled held lib cov n0))
 untiled_told told lib cov n0 n1 (Ok v) h held e = rw (h.comes held e) (ap Ok (sym h.is.all))
 untiled_told told lib cov n0 n1 (Err stop) h held e = told_so (read_untiled held lib cov n0) n1 (stop_seen stop) (h held e)
 
-counted_so : (read : Read LoadedCoverage) (n : ℕ) (stop : LoadStop) → ReadsStop stop n read → CountsAs {V = Vec File Global} (Err stop) read n
+counted_so : (read : Read LoadedCoverage) (n : ℕ) (stop : LoadStop) → ReadsStop stop n read → CountsAs {V = List File} (Err stop) read n
 counted_so read n stops.Fault h = tt
 counted_so read n (stops.Missing name) h = rw h refl
 counted_so read n (stops.Place name place) h = rw h refl
@@ -78,7 +78,7 @@ counted_so read n (stops.Finding name found) h = rw h refl
 counted_so read n (stops.Varies name) h = rw h refl
 counted_so read n stops.NoMemory h = tt
 
-pub untiled_counted : (told : Option Files) (lib cov : List ℕ) (n0 n1 : ℕ) (result : Result (Vec File Global) LoadStop) → UntiledLoads told lib cov n0 n1 result
+pub untiled_counted : (told : Option Files) (lib cov : List ℕ) (n0 n1 : ℕ) (result : Result (List File) LoadStop) → UntiledLoads told lib cov n0 n1 result
     → (held : Files) → told ≡ Some held → CountsAs result (read_untiled held lib cov n0) n1
 untiled_counted told lib cov n0 n1 (Ok v) h held e = rw (h.comes held e) refl
 untiled_counted told lib cov n0 n1 (Err stop) h held e = counted_so (read_untiled held lib cov n0) n1 stop (h held e)
@@ -86,18 +86,18 @@ untiled_counted told lib cov n0 n1 (Err stop) h held e = counted_so (read_untile
 files_are : (lib cov : List ℕ) (files : List File) (x c : LoadedCoverage) → x ≡ c → LoadsUntiled lib cov files x → AreUntiledFiles lib cov c.coverage files
 files_are lib cov files x c e h = rw (h.all, sym e) h.are
 
-pub untiled_held : (told : Option Files) (lib cov : List ℕ) (n0 n1 : ℕ) (result : Result (Vec File Global) LoadStop) → UntiledLoads told lib cov n0 n1 result
+pub untiled_held : (told : Option Files) (lib cov : List ℕ) (n0 n1 : ℕ) (result : Result (List File) LoadStop) → UntiledLoads told lib cov n0 n1 result
     → (held : Files) → told ≡ Some held → (c : LoadedCoverage) (n : ℕ) → read_untiled held lib cov n0 ≡ (Ok c, n)
-    → IfOk result (λ (v : Vec File Global). AreUntiledFiles lib cov c.coverage v.items)
-untiled_held told lib cov n0 n1 (Ok v) h held e c n read = files_are lib cov v.items h.value c (came_same n1 n h.value c (sym (h.comes held e) ∙ read)) h.is
+    → IfOk result (λ (v : List File). AreUntiledFiles lib cov c.coverage v)
+untiled_held told lib cov n0 n1 (Ok v) h held e c n read = files_are lib cov v h.value c (came_same n1 n h.value c (sym (h.comes held e) ∙ read)) h.is
 untiled_held told lib cov n0 n1 (Err stop) h held e c n read = tt
 
-pub untiled_are : (told : Option Files) (lib cov : List ℕ) (n0 n1 : ℕ) (result : Result (Vec File Global) LoadStop) → UntiledLoads told lib cov n0 n1 result
-    → IfOk result (λ (v : Vec File Global). AreOfUntiled lib cov v.items)
-untiled_are told lib cov n0 n1 (Ok v) h = (h.value.coverage, files_are lib cov v.items h.value h.value refl h.is)
+pub untiled_are : (told : Option Files) (lib cov : List ℕ) (n0 n1 : ℕ) (result : Result (List File) LoadStop) → UntiledLoads told lib cov n0 n1 result
+    → IfOk result (λ (v : List File). AreOfUntiled lib cov v)
+untiled_are told lib cov n0 n1 (Ok v) h = (h.value.coverage, files_are lib cov v h.value h.value refl h.is)
 untiled_are told lib cov n0 n1 (Err stop) h = tt
 
-pub untiled_coverage_are : (told : Option Files) (lib cov : List ℕ) (n0 n1 : ℕ) (result : Result (Vec File Global) LoadStop) → UntiledLoads told lib cov n0 n1 result
-    → IfOk result (λ (v : Vec File Global). AreOfCoverage lib cov v.items)
-untiled_coverage_are told lib cov n0 n1 (Ok v) h = (h.value.coverage, inl (files_are lib cov v.items h.value h.value refl h.is))
+pub untiled_coverage_are : (told : Option Files) (lib cov : List ℕ) (n0 n1 : ℕ) (result : Result (List File) LoadStop) → UntiledLoads told lib cov n0 n1 result
+    → IfOk result (λ (v : List File). AreOfCoverage lib cov v)
+untiled_coverage_are told lib cov n0 n1 (Ok v) h = (h.value.coverage, inl (files_are lib cov v h.value h.value refl h.is))
 untiled_coverage_are told lib cov n0 n1 (Err stop) h = tt

@@ -18,8 +18,8 @@ use crate::plan::columns::PlanColumns;
 use crate::plan::laws::plans_decide;
 use std::alloc::{AllocError, Global};
 use vpf_findings::{Finding, OwnFinding};
-use vpf_library_files::loading::{LoadStop, required_table, table_in};
-use vpf_source::{File, Name, Tree};
+use vpf_library_files::loading::{LoadStop, LoadedTables, required_table};
+use vpf_source::{Name, Tree};
 use vpf_table::TableView;
 use vpf_table::laws::{opened_is_read, spelled_is_opened};
 
@@ -32,21 +32,21 @@ fn stop_of(alloc: Global, name: &str, finding: &Finding<'_>) -> Result<LoadStop,
     Ok(LoadStop::Finding(name, own))
 }
 
-/// Looks at the columns of the plan in these files.
-fn check_columns(alloc: Global, name: &str, files: &[File]) -> Result<(), LoadStop>
-    requires { (grid : Grid) × AreFilesOf name.now grid files.now }
-    ensures finds { (table : LoadedTable) → AreFilesOf name.now table.grid files.now
+/// Looks at the columns of a plan.
+fn check_columns(alloc: Global, name: &str, plan: &LoadedTables) -> Result<(), LoadStop>
+    requires { (grid : Grid) × AreFilesOf name.now grid plan.now }
+    ensures finds { (table : LoadedTable) → AreFilesOf name.now table.grid plan.now
         → Meets (λ _. table) stop_seen result (unless_found name.now (plan_finding table.grid) table) }
     ensures no_fault { ¬ IsErrOf result LoadStop.Fault }
 {
-    let table = table_in(alloc, files)?;
+    let table = plan.only(alloc)?;
     match PlanColumns::place(table.header()) {
         Ok(_) => Ok(()),
         Err(finding) => Err(stop_of(alloc, name, &finding)?),
     }
 }
 
-/// The files of the plan of this name, which has to be there: its own, and its variable-length index where its rows vary.
+/// The plan of this name, which has to be there: its own file, and its variable-length index where its rows vary.
 ///
 /// Its columns are looked at when it is read: one that is absent, or that holds no numbers, stops the load, as `Finding`. Its ids and the
 /// numbers of tiles aren't. The other stops are those of `load_coverage`, and `loaded` counts as it does there.
@@ -55,16 +55,16 @@ pub fn load_plan<T: Tree>(
     tree: &mut T,
     name: &str,
     loaded: &mut u64,
-) -> Result<Vec<File>, LoadStop>
+) -> Result<LoadedTables, LoadStop>
     requires { loaded.old ≤ most_loaded }
     // What is loaded, or what stops it, and the bytes that were read, where the tree tells its files.
     ensures told { (files : Files) → T.files tree.old ≡ Some files
-        → ReadsAs (λ v table. table.files ≡ v.items) result loaded.new (read_plan files name.now loaded.old) }
+        → ReadsAs (λ v table. table.files ≡ v) result loaded.new (read_plan files name.now loaded.old) }
     // The files are those of the plan that is read.
     ensures held { (files : Files) → T.files tree.old ≡ Some files → (table : LoadedTable) (n : ℕ) → read_plan files name.now loaded.old ≡ (Ok table, n)
-        → IfOk result (λ v. ArePlanFiles name.now table.grid v.items) }
+        → IfOk result (λ v. ArePlanFiles name.now table.grid v) }
     // These hold over every tree.
-    ensures are { IfOk result (λ files. AreOfPlan name.now files.items) }
+    ensures are { IfOk result (λ plan. AreOfPlan name.now plan) }
     ensures rising { loaded.old ≤ loaded.new }
     ensures most { loaded.new ≤ most_loaded }
     ensures fault { IsErrOf result LoadStop.Fault → Rose (T.faults tree.old) (T.faults tree.new) }
@@ -75,16 +75,16 @@ pub fn load_plan<T: Tree>(
     spelled_is_opened();
     opened_is_read();
     plans_decide();
-    let files = required_table(alloc, tree, name, loaded)?;
-    check_columns(alloc, name, &files)?;
-    Ok(files)
+    let plan = required_table(alloc, tree, name, loaded)?;
+    check_columns(alloc, name, &plan)?;
+    Ok(plan)
 }
 
-/// The plan in the files that `load_plan` gives.
-pub fn open_plan<'a>(alloc: Global, files: &'a [File]) -> Result<TableView<'a>, AllocError>
-    requires { (name : List ℕ) × AreOfPlan name files.now }
-    ensures table { (name : List ℕ) (grid : Grid) → AreFilesOf name grid files.now → IfOk result (λ table. table ≡ grid) }
+/// The plan that `load_plan` gives.
+pub fn open_plan<'a>(alloc: Global, plan: &'a LoadedTables) -> Result<TableView<'a>, AllocError>
+    requires { (name : List ℕ) × AreOfPlan name plan.now }
+    ensures table { (name : List ℕ) (grid : Grid) → AreFilesOf name grid plan.now → IfOk result (λ table. table ≡ grid) }
     ensures plan { IfOk result IsPlanTable }
 {
-    table_in(alloc, files)
+    plan.only(alloc)
 }

@@ -1,23 +1,10 @@
-use Rattle.std.proofs.Common.{◌≡◌, Err, Ok, sym, subst, ◌∙◌}
-use Rattle.std.proofs.lemmas.Result.{err_from_is_err_and}
-use Rattle.vpf_findings.specs.Firsts.{Tells}
-use Rattle.vpf_prims.specs.Coverages.{CoverageTables}
-use Rattle.vpf_numbers.specs.TableLines.{coverage_numbers}
-use Rattle.vpf_coverage.specs.Inner.Opened.{HasCountedTiles}
-use Rattle.vpf_coverage.proofs.FileLemmas.{is_counted}
 use Rattle.vpf_coverage.proofs.coverage.open_coverage.Goals as goal
 
-pub checked-requires-clause-placed : goal.checked-requires-clause-placed
-checked-requires-clause-placed c = record { alike = c.in_ok-opened.ensures.alike; few = c.in_ok-opened.ensures.few }
-
-pub checked-requires-clause-counted : goal.checked-requires-clause-counted
-checked-requires-clause-counted c =
-    let some = c.requires in
-    subst HasCountedTiles (sym (c.in_ok-opened.ensures.opened some.0 some.1))
-    (is_counted c.files_are_libraries.ensures.library c.args.lib.now c.args.cov.now some.0 c.args.files.now some.1)
+pub open_unopened-requires : goal.open_unopened-requires
+open_unopened-requires c = (c.requires.0, rw c.of.ensures c.requires.1)
 
 pub returns-clause-first : goal.returns-clause-first
-returns-clause-first c whole are = rw (← c.in_ok-opened.ensures.opened whole are) c.checked.ensures.first
+returns-clause-first c whole are = c.open_unopened.ensures.first whole (rw c.of.ensures are)
 
 pub returns-clause-opened : goal.returns-clause-opened
-returns-clause-opened c whole are = rw (← c.in_ok-opened.ensures.opened whole are) c.checked.ensures.coverage
+returns-clause-opened c whole are = c.open_unopened.ensures.opened whole (rw c.of.ensures are)

@@ -14,8 +14,8 @@ pub returns-in-Ok : goal.returns-in-Ok
 returns-in-Ok c read are =
     let request = c.args.request.now in
     let folder = within request.lib request.cov in
-    let of : AreCoverageFiles c.as_str.result.now c.as_str-2.result.now read.coverage.coverage c.deref.result.now =
-    rw (c.as_str.ensures, c.as_str-2.ensures, c.deref.ensures.value) are.coverage in
+    let of : AreCoverageFiles c.as_str.result.now c.as_str-2.result.now read.coverage.coverage c.args.files.now.coverage =
+    rw (c.as_str.ensures, c.as_str-2.ensures) are.coverage in
     let same = ap (λ (x : CoverageTables). schema_answer folder request x read.schema (tables_finding folder read.schema.tables)) (c.in-Ok.ensures.opened read.coverage.coverage of) in
     if_ok_more (λ (reply : Answer). reply ≡ schema_answer folder request c.in-Ok.coverage read.schema (tables_finding folder read.schema.tables))
     (λ (reply : Answer). reply ≡ coverage_answer request read (coverage_numbers read.coverage.coverage)) c.opened.result

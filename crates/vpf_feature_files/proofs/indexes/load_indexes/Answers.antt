@@ -43,10 +43,10 @@ loop-c-preserved g c =
     let comes = in_order now folder order c.order.result column n m file c.order.ensures c.in_ok-index.ensures.reads in
     record {
       read = rw c.in_ok-keep.ensures (one_more told now folder order columns (drop (c.loop-c.c + 1) columns) column n0 n m files file i.same left comes);
-      rising = omega (arith, i.rising, c.load_index.ensures.rising);
-      most = c.load_index.ensures.most;
-      stood = c.in_ok-index.ensures.stood (λ e. no_ok c.in_ok-index.index stops.Fault e) ∙ i.stood;
-      same = c.load_index.ensures.files ∙ i.same;
+      rising = omega (arith, i.rising, c.load_index.ensures.only.rising);
+      most = c.load_index.ensures.only.most;
+      stood = c.in_ok-index.ensures.only.stood (λ e. no_ok c.in_ok-index.index stops.Fault e) ∙ i.stood;
+      same = c.load_index.ensures.only.files ∙ i.same;
     }
 
 pub returns-clause-reads : goal.returns-clause-reads

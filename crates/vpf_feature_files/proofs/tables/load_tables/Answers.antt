@@ -29,10 +29,10 @@ loop-item-preserved g c =
     record {
       read = next_table told (g.T.Tree.files c.loop-item.tree) folder (map item_text items) (map item_text (drop (c.loop-item.item-index + 1) items)) _
           c.args.loaded.now c.loop-item.loaded c.add_table.new.loaded files c.add_table.new.tables.items i.same left c.in_ok-add_table.ensures.reads;
-      rising = omega (arith, i.rising, c.add_table.ensures.rising);
-      most = c.add_table.ensures.most;
-      stood = c.in_ok-add_table.ensures.stood (λ e. no_ok c.in_ok-add_table.field-0 stops.Fault e) ∙ i.stood;
-      same = c.add_table.ensures.files ∙ i.same;
+      rising = omega (arith, i.rising, c.add_table.ensures.only.rising);
+      most = c.add_table.ensures.only.most;
+      stood = c.in_ok-add_table.ensures.only.stood (λ e. no_ok c.in_ok-add_table.field-0 stops.Fault e) ∙ i.stood;
+      same = c.add_table.ensures.only.files ∙ i.same;
     }
 
 pub returns-clause-reads : goal.returns-clause-reads

@@ -5,7 +5,7 @@ use Rattle.vpf_featured.proofs.checking.open_agreeing.Goals as goal
 pub returns-in-Ok-clause-first : goal.returns-in-Ok-clause-first
 returns-in-Ok-clause-first c read are =
     tells_behind _ c.with_topology.result _ _ (c.in-Ok.ensures.first read are)
-    (topology_same _ c.with_topology.result _ read.coverage.files _ read.coverage.coverage (c.deref.ensures.value ∙ are.listed) (c.in-Ok.ensures.coverage read are)
+    (topology_same _ c.with_topology.result _ read.coverage.files _ read.coverage.coverage (c.files.ensures ∙ are.listed) (c.in-Ok.ensures.coverage read are)
     c.with_topology.ensures.first)
 
 pub returns-in-Ok-clause-coverage : goal.returns-in-Ok-clause-coverage

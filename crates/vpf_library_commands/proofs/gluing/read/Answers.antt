@@ -20,12 +20,12 @@ returns-in-Ok c read are tiled =
     let there : AreFeaturedFiles c.as_str-lib.result.now c.as_str-cov.result.now c.args.files.now read = rw (c.as_str-lib.ensures, c.as_str-cov.ensures) are in
     let none = rw (c.as_str-lib.ensures, c.as_str-cov.ensures) at (c.in-Ok.ensures.first read there) in
     let found = found_featured folder read.coverage.files coverage read none refl refl in
-    let files : AreTiledFiles request.lib request.cov coverage c.deref.result.now =
-    rw c.deref.ensures.value (tiled_files request.lib request.cov coverage c.args.files.now.coverage.items are.coverage tiled) in
+    let files : AreTiledFiles request.lib request.cov coverage c.files.result.now =
+    rw c.files.ensures (tiled_files request.lib request.cov coverage c.args.files.now.coverage are.coverage tiled) in
     if_ok_more (λ (reply : Answer). reply ≡ gluing_answer request read (placed_finding read.coverage.files (topology_finding coverage)))
     (λ (reply : Answer). reply ≡ gluing_answer request read (featured_finding folder read)) c.checked.result
     (λ reply is. is ∙ ap (gluing_answer request read) found)
-    (c.checked.ensures read files (sym (c.deref.ensures.value ∙ are.listed)) (c.in-Ok.ensures.coverage read there) (c.in-Ok.ensures.schema read there))
+    (c.checked.ensures read files (sym (c.files.ensures ∙ are.listed)) (c.in-Ok.ensures.coverage read there) (c.in-Ok.ensures.schema read there))
 
 pub returns-in-Ok-2 : goal.returns-in-Ok-2
 returns-in-Ok-2 c read are tiled =

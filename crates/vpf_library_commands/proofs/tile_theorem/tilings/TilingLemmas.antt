@@ -47,7 +47,7 @@ use Rattle.vpf_library_commands.specs.Check.{read_finding}
 use Rattle.vpf_library_commands.specs.Trace.{HasTraceAnswer, IsReadTrace, IsTraceAnswer, IsTracedAnswer, TraceDecides}
 use Rattle.vpf_library_commands.specs.Tile.{TileParts}
 use Rattle.vpf_library_commands.specs.TileTheorem.Tilings.Cutting.{IsCutFrom, cut_features, cut_files, cut_plan, cut_tables, files_in_made}
-use Rattle.vpf_library_commands.specs.TileTheorem.Tilings.Tilings.{HasNames, HoldsTiled, HoldsTiling, LacksTheRest, StandsAlone, made_request, with_rebuilt}
+use Rattle.vpf_library_commands.specs.TileTheorem.Tilings.Tilings.{AnswersTiling, HasNames, HoldsTiled, HoldsTiling, LacksTheRest, StandsAlone, made_request, with_rebuilt}
 use Rattle.vpf_library_commands.proofs.tile_theorem.tilings.MadeLemmas.{exactly, few_within}
 use Rattle.vpf_library_commands.proofs.tile_theorem.tilings.ReadLemmas.{grid_few, grid_writable}
 use Rattle.vpf_library_commands.specs.Inner.TileTheorem.Tilings.ReadLaws.{AreReadGrids, OpenedIsRead}
@@ -215,28 +215,38 @@ tilings_held k files after request parts T all names cut alone made lacks =
       library = held.tiles.says;
     }
 
--- and its boundary cycles are those of the coverage, renamed
-pub tilings_agree : Known → (files after : Files) (request : MakeRequest) (parts : TileParts) (T : TileTables) → HoldsBytes files → HoldsBytes after
+-- and its boundary cycles are those of the coverage, renamed; so `check` and `trace` answer
+pub tilings_answered : Known → (files after : Files) (request : MakeRequest) (parts : TileParts) (T : TileTables) → HoldsBytes files → HoldsBytes after
     → HasNames request
     → IsCutFrom files request parts T → StandsAlone files request.out (cut_files request parts T)
     → with_all (cut_files request parts T) (Some files) ≡ Some after → LacksTheRest after request.out request.cov parts.schema
-    → HoldsTiling after (made_request request) (primitives_of T.tables) (cut_plan parts T) (length parts.tileref.grid.rows) parts.schema
-tilings_agree k files after request parts T all bytes names cut alone made lacks =
+    → AnswersTiling after (made_request request) (primitives_of T.tables) (cut_plan parts T) (length parts.tileref.grid.rows) parts.schema
+tilings_answered k files after request parts T all bytes names cut alone made lacks =
     let held = held_with k files after request parts T all names cut alone made lacks in
     let read : FeaturedCoverage = with_rebuilt held.tiles.loaded parts.schema in
     let agrees : IsAgreeing after (made_request request) read =
     agreeing (tiling_of T.tables parts.plan.grid parts.tileref.grid) after request parts.schema held in
     let trace = traced k after (made_request request) read bytes agrees in
     record {
-      may_be = tileable k files request parts T all names cut;
-      loaded = held.tiles.loaded;
-      agrees = agrees;
-      library = held.tiles.says;
+      holds = record {
+        may_be = tileable k files request parts T all names cut;
+        loaded = held.tiles.loaded;
+        agrees = agrees;
+        library = held.tiles.says;
+        cycles = trace.cycles;
+        are = (held.cycles (numbers_of trace.cycles)).0 trace.are;
+      };
       checked = k.counts after (made_request request) read agrees;
-      cycles = trace.cycles;
-      are = (held.cycles (numbers_of trace.cycles)).0 trace.are;
       traced = trace.said;
     }
+
+pub tilings_agree : Known → (files after : Files) (request : MakeRequest) (parts : TileParts) (T : TileTables) → HoldsBytes files → HoldsBytes after
+    → HasNames request
+    → IsCutFrom files request parts T → StandsAlone files request.out (cut_files request parts T)
+    → with_all (cut_files request parts T) (Some files) ≡ Some after → LacksTheRest after request.out request.cov parts.schema
+    → HoldsTiling after (made_request request) (primitives_of T.tables) (cut_plan parts T) (length parts.tileref.grid.rows) parts.schema
+tilings_agree k files after request parts T all bytes names cut alone made lacks =
+    (tilings_answered k files after request parts T all bytes names cut alone made lacks).holds
 
 -- ---- a coverage without features
 

@@ -6,7 +6,6 @@ use Rattle.vpf_library_files.specs.Loading.Loads.{ReadsStop, ReadsValue}
 use Rattle.vpf_feature_files.specs.Inner.Held.{AreOfSchema, AreSchemaFiles}
 use Rattle.vpf_feature_files.specs.Reading.{read_schema}
 use Rattle.vpf_library_commands.proofs.TileLoads.{both_are, both_read, coverage_stops, features_stop, untiled_comes, untiled_ends}
-use Rattle.vpf_featured.specs.Inner.LoadLaws.{no_fault}
 use Rattle.vpf_library_commands.proofs.tiling.load_untiled_featured.Goals as goal
 
 pub returns-in_err-coverage-clause-told : goal.returns-in_err-coverage-clause-told
@@ -23,15 +22,10 @@ returns-in_err-features-clause-told g c =
     let came = untiled_comes c.args.lib.now c.args.cov.now c.in_ok-coverage.coverage (read_untiled held c.args.lib.now c.args.cov.now c.args.loaded.now) c.load_untiled.new.loaded
     (c.in_ok-coverage.ensures.told held e) (c.in_ok-coverage.ensures.counted held e) (c.in_ok-coverage.ensures.held held e) in
     let named : c.as_str.result.now ≡ within c.args.lib.now c.args.cov.now = c.as_str.ensures.value ∙ c.in_ok-folder.ensures in
-    features_stop held c.args.lib.now c.args.cov.now c.in_ok-coverage.coverage.items c.args.loaded.now c.load_untiled.new.loaded c.load_features.new.loaded
+    features_stop held c.args.lib.now c.args.cov.now c.in_ok-coverage.coverage c.args.loaded.now c.load_untiled.new.loaded c.load_features.new.loaded
     c.in_err-features.field-0.0 came
     (subst (λ (folder : List ℕ). ReadsStop c.in_err-features.field-0.0 c.load_features.new.loaded (read_schema held folder c.load_untiled.new.loaded)) named
-    (c.in_err-features.ensures.told held (c.load_untiled.ensures.files ∙ e))))
-
-pub returns-in_err-features-clause-stood : goal.returns-in_err-features-clause-stood
-returns-in_err-features-clause-stood g c =
-    let p = err_from_is_err_and c.from_residual-in_err-features.result c.from_residual-in_err-features.ensures.1 in
-    rw (p.1, p.2) (λ h. c.in_err-features.ensures.stood (no_fault c.in_err-features.field-0.0 h) ∙ c.in_ok-coverage.ensures.stood (λ no. absurd cc))
+    (c.in_err-features.ensures.told held (c.load_untiled.ensures.only.files ∙ e))))
 
 pub returns-clause-told : goal.returns-clause-told
 returns-clause-told g c held e =
@@ -41,7 +35,7 @@ returns-clause-told g c held e =
     both_read held c.args.lib.now c.args.cov.now (record { coverage = c.in_ok-coverage.coverage; features = c.in_ok-features.features })
     c.args.loaded.now c.load_untiled.new.loaded c.load_features.new.loaded came
     (subst (λ (folder : List ℕ). ReadsValue (λ v S. AreSchemaFiles folder S v) c.in_ok-features.features c.load_features.new.loaded (read_schema held folder c.load_untiled.new.loaded))
-    named (c.in_ok-features.ensures.told held (c.load_untiled.ensures.files ∙ e)))
+    named (c.in_ok-features.ensures.told held (c.load_untiled.ensures.only.files ∙ e)))
 
 pub returns-clause-are : goal.returns-clause-are
 returns-clause-are g c =

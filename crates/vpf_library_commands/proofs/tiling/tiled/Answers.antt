@@ -14,23 +14,23 @@ use Rattle.vpf_library_commands.proofs.tiling.tiled.Goals as goal
 pub tile-made-requires-clause-tileref : goal.tile-made-requires-clause-tileref
 tile-made-requires-clause-tileref c =
     let p = c.requires.parts in
-    let same = c.in_ok-tileref.ensures (tileref_name c.args.request.now.lib) p.0.tileref.grid (rw c.deref-2.ensures.value p.1.tileref) in
+    let same = c.in_ok-tileref.ensures (tileref_name c.args.request.now.lib) p.0.tileref.grid p.1.tileref in
     subst IsTileref (sym same) ((c.stops_decide.ensures p.0.tileref.grid).0 p.1.goes_on).0
 
 pub tile-made-requires-clause-bounded : goal.tile-made-requires-clause-bounded
 tile-made-requires-clause-bounded c =
     let p = c.requires.parts in
-    let same = c.in_ok-tileref.ensures (tileref_name c.args.request.now.lib) p.0.tileref.grid (rw c.deref-2.ensures.value p.1.tileref) in
+    let same = c.in_ok-tileref.ensures (tileref_name c.args.request.now.lib) p.0.tileref.grid p.1.tileref in
     subst IsBounded (sym same) ((c.stops_decide.ensures p.0.tileref.grid).0 p.1.goes_on).1
 
 pub returns : goal.returns
 returns c parts are same =
     let request = c.args.request.now in
     let S = c.args.schema.now in
-    let T = untiled_tables request.lib request.cov parts.coverage.coverage c.args.files.now.featured.coverage.items are.featured.untiled in
+    let T = untiled_tables request.lib request.cov parts.coverage.coverage c.args.files.now.featured.coverage are.featured.untiled in
     let there = ap (λ (x : CoverageTables). tile_at x 0) same ∙ T.1 in
-    let plan_is : c.in_ok-plan.plan ≡ parts.plan.grid = c.in_ok-plan.ensures.table (plan_name request.lib request.cov) parts.plan.grid (rw c.deref.ensures.value are.plan.are) in
-    let tileref_is : c.in_ok-tileref.tileref ≡ parts.tileref.grid = c.in_ok-tileref.ensures (tileref_name request.lib) parts.tileref.grid (rw c.deref-2.ensures.value are.tileref) in
+    let plan_is : c.in_ok-plan.plan ≡ parts.plan.grid = c.in_ok-plan.ensures.table (plan_name request.lib request.cov) parts.plan.grid are.plan.are in
+    let tileref_is : c.in_ok-tileref.tileref ≡ parts.tileref.grid = c.in_ok-tileref.ensures (tileref_name request.lib) parts.tileref.grid are.tileref in
     let ought = tiled request.cov T.0.tables parts.plan.grid parts.tileref.grid in
     let told : Meets (λ v. v.items) tile_error_seen c.tile-made.result ought =
     subst (Meets (λ v. v.items) tile_error_seen c.tile-made.result)

@@ -15,15 +15,15 @@ returns-in_err-checked-clause-first c read are =
     rw (
       p.1,
       p.2,
-      ← found_featured (within request.lib request.cov) c.deref.result.now c.in_ok-coverage.coverage read (c.in_ok-coverage.ensures.first read are)
-          (c.in_ok-coverage.ensures.opened read are) (c.deref.ensures.value ∙ are.listed),
+      ← found_featured (within request.lib request.cov) c.files.result.now c.in_ok-coverage.coverage read (c.in_ok-coverage.ensures.first read are)
+          (c.in_ok-coverage.ensures.opened read are) (c.files.ensures ∙ are.listed),
     ) c.in_err-checked.ensures.first
 
 pub returns-clause-first : goal.returns-clause-first
 returns-clause-first c read are =
     let request = c.args.request.now in
-    sym (found_featured (within request.lib request.cov) c.deref.result.now c.in_ok-coverage.coverage read (c.in_ok-coverage.ensures.first read are)
-    (c.in_ok-coverage.ensures.opened read are) (c.deref.ensures.value ∙ are.listed)) ∙ c.in_ok-checked.ensures.first
+    sym (found_featured (within request.lib request.cov) c.files.result.now c.in_ok-coverage.coverage read (c.in_ok-coverage.ensures.first read are)
+    (c.in_ok-coverage.ensures.opened read are) (c.files.ensures ∙ are.listed)) ∙ c.in_ok-checked.ensures.first
 
 pub returns-clause-cycles : goal.returns-clause-cycles
 returns-clause-cycles c read are =

@@ -60,15 +60,20 @@ pub record HoldsTiled (held : Files) (request : CheckRequest) (c : Primitives) (
   pub agrees : IsAgreeing held request (with_rebuilt loaded S)
   pub library : library_of loaded.coverage ≡ tiled_library c plan tiles
 
--- A tree holds the tiled library of a coverage with these features, which may be tiled by a plan into so many tiles: `check` accepts it, since its
--- tables, references, cycles and features agree, it says what that library does, and `trace` lists exactly the boundary cycles of the coverage without its
+-- A tree holds the tiled library of a coverage with these features, which may be tiled by a plan into so many tiles: its tables, references, cycles and
+-- features agree, it says what that library does, and its boundary cycles, lines between tiles passed over, are exactly those of the coverage without its
 -- lines between tiles, each dart called by its name.
 pub record HoldsTiling (held : Files) (request : CheckRequest) (c : Primitives) (plan : ℕ → ℕ) (tiles : ℕ) (S : Schema) : Type 0 where
   pub may_be : IsTileable c plan tiles
   pub loaded : LoadedCoverage
   pub agrees : IsAgreeing held request (with_rebuilt loaded S)
   pub library : library_of loaded.coverage ≡ tiled_library c plan tiles
-  pub checked : check_answer held request ≡ done (agrees_text loaded.coverage)
   pub cycles : List (List TileDart)
   pub are : AreNamedCycles c plan (numbers_of cycles)
-  pub traced : IsTraceAnswer held request (done (listing_text cycles))
+
+-- So `check` and `trace` are answered over that tree: the library agrees, with the numbers of primitives of all its tiles, and exactly these cycles are
+-- listed.
+pub record AnswersTiling (held : Files) (request : CheckRequest) (c : Primitives) (plan : ℕ → ℕ) (tiles : ℕ) (S : Schema) : Type 0 where
+  pub holds : HoldsTiling held request c plan tiles S
+  pub checked : check_answer held request ≡ done (agrees_text holds.loaded.coverage)
+  pub traced : IsTraceAnswer held request (done (listing_text holds.cycles))

@@ -1,6 +1,7 @@
 //! What is so of every tiled library that is made, and of the requests that words spell.
 
-ghost use Rattle.vpf_library_commands.specs.Inner.TileTheorem.Tilings.Laws.{NoneIsLacked, RequestsHaveNames, TilesAreMade, TilingsAgree, TilingsAreHeld};
+ghost use Rattle.vpf_library_commands.specs.Inner.TileTheorem.Tilings.Laws.{NoneIsLacked, RequestsHaveNames, TilesAreMade};
+ghost use Rattle.vpf_library_commands.specs.Inner.TileTheorem.Tilings.Laws.{TilingsAgree, TilingsAreAnswered, TilingsAreHeld};
 
 use crate::laws::{check_decides_agreement, trace_lists_cycles};
 use crate::tile_theorem::tiled_features::laws::made_with_features;
@@ -16,11 +17,12 @@ pub fn tiles_are_made()
 {}
 
 /// Where the files of a tiled library and of its features are made in an empty folder, no two under one name and with not too many bytes in all, and what the
-/// features lacked isn't there, the tree holds that library with its features: `check` accepts it, since its tables, references, cycles and features agree, and
-/// `trace` lists exactly the boundary cycles of the coverage without its lines between tiles, each dart called by its name in the tiles.
+/// features lacked isn't there, the tree holds that library with its features: its tables, references, cycles and features agree, and its boundary cycles are
+/// exactly those of the coverage without its lines between tiles, each dart called by its name in the tiles. `check` and `trace` answer that.
 pub fn tilings_agree()
     ensures held { TilingsAreHeld }
     ensures listed { TilingsAgree }
+    ensures answered { TilingsAreAnswered }
 {
     opened_is_read();
     read_is_spelled();

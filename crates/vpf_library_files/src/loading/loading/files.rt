@@ -2,12 +2,12 @@
 
 ghost use Rattle.std.specs.Prelude.{◌≡◌, ◌≤◌, ℕ, List, Option, option_map, IfOk, IfSome, IsErrOf, Some, vec_len};
 ghost use Rattle.vpf_base.specs.Limits.{most_bytes};
-ghost use Rattle.vpf_source.specs.Causes.{Rose, Stood};
 ghost use Rattle.vpf_source.specs.Files.{Files};
 ghost use Rattle.vpf_source.specs.Loading.{LoadGives, load_answer};
 ghost use Rattle.vpf_library_files.specs.declared.loading.loading.LoadStop.TheVariants as stops;
 ghost use Rattle.vpf_library_files.specs.Loading.Loading.{most_loaded, read_bytes, read_found, read_optional, read_required, required};
 ghost use Rattle.vpf_library_files.specs.Loading.Loads.{ReadsAs};
+ghost use Rattle.vpf_library_files.specs.Inner.Loading.Only.{OnlyLoads};
 
 use crate::loading::loading::LoadStop;
 use std::alloc::{AllocError, Global};
@@ -88,12 +88,7 @@ pub fn optional_file<T: Tree>(
     requires { loaded.old ≤ most_loaded }
     ensures told { (files : Files) → T.files tree.old ≡ Some files
         → ReadsAs (λ found file. file ≡ option_map (λ v. v.items) found) result loaded.new (read_optional files name.now loaded.old) }
-    ensures rising { loaded.old ≤ loaded.new }
-    ensures most { loaded.new ≤ most_loaded }
-    ensures fault { IsErrOf result LoadStop.Fault → Rose (T.faults tree.old) (T.faults tree.new) }
-    ensures stood { ¬ IsErrOf result LoadStop.Fault → Stood (T.faults tree.old) (T.faults tree.new) }
-    ensures later { T.faults tree.old ≤ T.faults tree.new }
-    ensures files { T.files tree.new ≡ T.files tree.old }
+    ensures only { OnlyLoads T.files T.faults tree.old tree.new loaded.old loaded.new (IsErrOf result LoadStop.Fault) }
 {
     let found = load(alloc, tree, name, MOST_FILE_BYTES);
     found_in(alloc, name, found, loaded)
@@ -120,12 +115,7 @@ pub fn required_file<T: Tree>(
     requires { loaded.old ≤ most_loaded }
     ensures told { (files : Files) → T.files tree.old ≡ Some files
         → ReadsAs (λ v file. file ≡ v.items) result loaded.new (read_required files name.now loaded.old) }
-    ensures rising { loaded.old ≤ loaded.new }
-    ensures most { loaded.new ≤ most_loaded }
-    ensures fault { IsErrOf result LoadStop.Fault → Rose (T.faults tree.old) (T.faults tree.new) }
-    ensures stood { ¬ IsErrOf result LoadStop.Fault → Stood (T.faults tree.old) (T.faults tree.new) }
-    ensures later { T.faults tree.old ≤ T.faults tree.new }
-    ensures files { T.files tree.new ≡ T.files tree.old }
+    ensures only { OnlyLoads T.files T.faults tree.old tree.new loaded.old loaded.new (IsErrOf result LoadStop.Fault) }
 {
     let found = optional_file(alloc, tree, name, loaded)?;
     required(alloc, name, found)

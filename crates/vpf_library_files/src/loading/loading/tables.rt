@@ -1,25 +1,27 @@
 //! Tables with their indexes.
 
-ghost use Rattle.std.specs.Prelude.{◌≡◌, ◌≤◌, ◌++◌, [], ◌∷◌, ℕ, List, Ok, Option, IfErr, IfOk, IsErrOf, Some, true};
+ghost use Rattle.std.specs.Prelude.{◌≡◌, ◌≤◌, [], ◌∷◌, ℕ, List, Ok, Option, IfErr, IfOk, IsErrOf, Some, true};
 ghost use Rattle.vpf_base.specs.Bytes.{IsBytes};
-ghost use Rattle.vpf_source.specs.Causes.{Rose, Stood};
 ghost use Rattle.vpf_source.specs.Files.{Files};
 ghost use Rattle.vpf_head.specs.Head.{varies_in};
 ghost use Rattle.vpf_source.specs.Names.Indexes.{index_name};
 ghost use Rattle.vpf_table.specs.Grid.{Grid};
+ghost use Rattle.vpf_table.specs.Inner.Counts.{IsCountOf};
 ghost use Rattle.vpf_table.specs.Reading.{table_of};
 ghost use Rattle.vpf_library_files.specs.Loading.Holding.{AreFilesOf, AreFilesOfOption};
 ghost use Rattle.vpf_library_files.specs.Loading.Loading.{loaded_file, files_in, most_loaded, read_optional_table, read_table};
 ghost use Rattle.vpf_library_files.specs.Loading.Loading.{read_table_in, with_own_index, with_its_index};
 ghost use Rattle.vpf_library_files.specs.Loading.Loads.{ReadsAs, RefusedSo, maybe};
+ghost use Rattle.vpf_library_files.specs.Inner.Loading.Only.{OnlyLoads};
 
 use crate::loading::loading::LoadStop;
 use crate::loading::loading::files::{optional_file, owned, required_file};
+use crate::loading::loading::loaded::LoadedTables;
 use std::alloc::{AllocError, Global};
 use vpf_source::names::index_name;
 use vpf_source::{Bytes, File, Name, Tree};
-use vpf_table::TableFile;
 use vpf_table::laws::{opened_is_read, opened_is_spelled};
+use vpf_table::{Counted, TableFile};
 use vpf_triplet::PlaceError;
 
 /// What a slice of bytes holds are bytes.
@@ -62,12 +64,7 @@ fn index_file<T: Tree>(
         result loaded.new (with_its_index files name.now table.entry.bytes table.entry.grid loaded.old) }
     ensures are { table_of table.entry.bytes ≡ Ok table.entry.grid
         → IfOk result (λ file. (grid : Grid) × AreFilesOf name.now grid (loaded_file name.now table.entry.bytes ∷ file ∷ [])) }
-    ensures rising { loaded.old ≤ loaded.new }
-    ensures most { loaded.new ≤ most_loaded }
-    ensures fault { IsErrOf result LoadStop.Fault → Rose (T.faults tree.old) (T.faults tree.new) }
-    ensures stood { ¬ IsErrOf result LoadStop.Fault → Stood (T.faults tree.old) (T.faults tree.new) }
-    ensures later { T.faults tree.old ≤ T.faults tree.new }
-    ensures files { T.files tree.new ≡ T.files tree.old }
+    ensures only { OnlyLoads T.files T.faults tree.old tree.new loaded.old loaded.new (IsErrOf result LoadStop.Fault) }
 {
     let index_of = index_name(alloc, name)?;
     let index = required_file(alloc, tree, index_of.as_str(), loaded)?;
@@ -88,33 +85,31 @@ fn table_in<'a>(alloc: Global, name: &str, bytes: &'a [u8]) -> Result<TableFile<
     }
 }
 
-/// The file of the index of the table in these bytes, where its rows vary.
+/// The file of the index of the table in these bytes, where its rows vary, and what counting its rows found.
 fn index_beside<T: Tree>(
     alloc: Global,
     tree: &mut T,
     name: &str,
     bytes: &[u8],
     loaded: &mut u64,
-) -> Result<Option<File>, LoadStop>
+) -> Result<(Option<File>, Counted), LoadStop>
     requires { loaded.old ≤ most_loaded }
     ensures told { (files : Files) → T.files tree.old ≡ Some files
-        → ReadsAs (λ index read. read.files ≡ loaded_file name.now bytes.now ∷ maybe index) result loaded.new
+        → ReadsAs (λ found read. read.files ≡ loaded_file name.now bytes.now ∷ maybe found.0) result loaded.new
         (read_table_in files name.now bytes.now loaded.old) }
-    ensures are { IfOk result (λ index. (grid : Grid) × AreFilesOf name.now grid (loaded_file name.now bytes.now ∷ maybe index)) }
-    ensures rising { loaded.old ≤ loaded.new }
-    ensures most { loaded.new ≤ most_loaded }
-    ensures fault { IsErrOf result LoadStop.Fault → Rose (T.faults tree.old) (T.faults tree.new) }
-    ensures stood { ¬ IsErrOf result LoadStop.Fault → Stood (T.faults tree.old) (T.faults tree.new) }
-    ensures later { T.faults tree.old ≤ T.faults tree.new }
-    ensures files { T.files tree.new ≡ T.files tree.old }
+    ensures are { IfOk result (λ found. (grid : Grid) × AreFilesOf name.now grid (loaded_file name.now bytes.now ∷ maybe found.0)) }
+    ensures counted { IfOk result (λ found. IsCountOf bytes.now found.1) }
+    ensures only { OnlyLoads T.files T.faults tree.old tree.new loaded.old loaded.new (IsErrOf result LoadStop.Fault) }
 {
     opened_is_spelled();
     bytes_are_bytes(bytes);
     let table = table_in(alloc, name, bytes)?;
+    let counted = table.counted();
     if !table.header().varies() {
-        return Ok(None);
+        return Ok((None, counted));
     }
-    Ok(Some(index_file(alloc, tree, name, table, loaded)?))
+    let index = index_file(alloc, tree, name, table, loaded)?;
+    Ok((Some(index), counted))
 }
 
 /// The file of a table and that of its index, where it has one.
@@ -137,30 +132,26 @@ fn listed(
     Ok(files)
 }
 
-/// The files of the table in these bytes: its own, and its index where its rows vary.
-fn files_of_table<T: Tree>(
+/// The table in these bytes: its own file, and its index where its rows vary.
+fn loaded_table<T: Tree>(
     alloc: Global,
     tree: &mut T,
     name: &str,
     bytes: Vec<u8>,
     loaded: &mut u64,
-) -> Result<Vec<File>, LoadStop>
+) -> Result<LoadedTables, LoadStop>
     requires { loaded.old ≤ most_loaded }
     ensures told { (files : Files) → T.files tree.old ≡ Some files
-        → ReadsAs (λ v read. read.files ≡ v.items) result loaded.new (read_table_in files name.now bytes.items loaded.old) }
-    ensures are { IfOk result (λ files. (grid : Grid) × AreFilesOf name.now grid files.items) }
-    ensures rising { loaded.old ≤ loaded.new }
-    ensures most { loaded.new ≤ most_loaded }
-    ensures fault { IsErrOf result LoadStop.Fault → Rose (T.faults tree.old) (T.faults tree.new) }
-    ensures stood { ¬ IsErrOf result LoadStop.Fault → Stood (T.faults tree.old) (T.faults tree.new) }
-    ensures later { T.faults tree.old ≤ T.faults tree.new }
-    ensures files { T.files tree.new ≡ T.files tree.old }
+        → ReadsAs (λ v read. read.files ≡ v) result loaded.new (read_table_in files name.now bytes.items loaded.old) }
+    ensures are { IfOk result (λ files. (grid : Grid) × AreFilesOf name.now grid files) }
+    ensures only { OnlyLoads T.files T.faults tree.old tree.new loaded.old loaded.new (IsErrOf result LoadStop.Fault) }
 {
-    let index = index_beside(alloc, tree, name, &bytes, loaded)?;
-    Ok(listed(alloc, name, bytes, index)?)
+    let (index, counted) = index_beside(alloc, tree, name, &bytes, loaded)?;
+    let files = listed(alloc, name, bytes, index)?;
+    Ok(LoadedTables::of(alloc, files, counted)?)
 }
 
-/// The files of the table of this name, which has to be there: its own, and its variable-length index where its rows vary.
+/// The table of this name, which has to be there: its own file, and its variable-length index where its rows vary.
 ///
 /// The stops are those of `load_coverage`, but for those of the table of tiles.
 pub fn required_table<T: Tree>(
@@ -168,23 +159,18 @@ pub fn required_table<T: Tree>(
     tree: &mut T,
     name: &str,
     loaded: &mut u64,
-) -> Result<Vec<File>, LoadStop>
+) -> Result<LoadedTables, LoadStop>
     requires { loaded.old ≤ most_loaded }
     ensures told { (files : Files) → T.files tree.old ≡ Some files
-        → ReadsAs (λ v read. read.files ≡ v.items) result loaded.new (read_table files name.now loaded.old) }
-    ensures are { IfOk result (λ files. (grid : Grid) × AreFilesOf name.now grid files.items) }
-    ensures rising { loaded.old ≤ loaded.new }
-    ensures most { loaded.new ≤ most_loaded }
-    ensures fault { IsErrOf result LoadStop.Fault → Rose (T.faults tree.old) (T.faults tree.new) }
-    ensures stood { ¬ IsErrOf result LoadStop.Fault → Stood (T.faults tree.old) (T.faults tree.new) }
-    ensures later { T.faults tree.old ≤ T.faults tree.new }
-    ensures files { T.files tree.new ≡ T.files tree.old }
+        → ReadsAs (λ v read. read.files ≡ v) result loaded.new (read_table files name.now loaded.old) }
+    ensures are { IfOk result (λ files. (grid : Grid) × AreFilesOf name.now grid files) }
+    ensures only { OnlyLoads T.files T.faults tree.old tree.new loaded.old loaded.new (IsErrOf result LoadStop.Fault) }
 {
     let bytes = required_file(alloc, tree, name, loaded)?;
-    files_of_table(alloc, tree, name, bytes, loaded)
+    loaded_table(alloc, tree, name, bytes, loaded)
 }
 
-/// The files of the table of this name, or none where it is absent.
+/// The table of this name, or none where it is absent.
 ///
 /// The stops are those of `load_coverage`, but for those of the table of tiles.
 pub fn optional_table<T: Tree>(
@@ -192,20 +178,15 @@ pub fn optional_table<T: Tree>(
     tree: &mut T,
     name: &str,
     loaded: &mut u64,
-) -> Result<Vec<File>, LoadStop>
+) -> Result<LoadedTables, LoadStop>
     requires { loaded.old ≤ most_loaded }
     ensures told { (files : Files) → T.files tree.old ≡ Some files
-        → ReadsAs (λ v read. files_in read ≡ v.items) result loaded.new (read_optional_table files name.now loaded.old) }
-    ensures are { IfOk result (λ files. (grid : Option Grid) × AreFilesOfOption name.now grid files.items) }
-    ensures rising { loaded.old ≤ loaded.new }
-    ensures most { loaded.new ≤ most_loaded }
-    ensures fault { IsErrOf result LoadStop.Fault → Rose (T.faults tree.old) (T.faults tree.new) }
-    ensures stood { ¬ IsErrOf result LoadStop.Fault → Stood (T.faults tree.old) (T.faults tree.new) }
-    ensures later { T.faults tree.old ≤ T.faults tree.new }
-    ensures files { T.files tree.new ≡ T.files tree.old }
+        → ReadsAs (λ v read. files_in read ≡ v) result loaded.new (read_optional_table files name.now loaded.old) }
+    ensures are { IfOk result (λ files. (grid : Option Grid) × AreFilesOfOption name.now grid files) }
+    ensures only { OnlyLoads T.files T.faults tree.old tree.new loaded.old loaded.new (IsErrOf result LoadStop.Fault) }
 {
     match optional_file(alloc, tree, name, loaded)? {
-        Some(bytes) => files_of_table(alloc, tree, name, bytes, loaded),
-        None => Ok(Vec::new(alloc)),
+        Some(bytes) => loaded_table(alloc, tree, name, bytes, loaded),
+        None => Ok(LoadedTables::new(alloc)),
     }
 }

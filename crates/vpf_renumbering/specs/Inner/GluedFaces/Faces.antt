@@ -34,7 +34,7 @@ pub record HasFewFaces (L : Library) : Type 0 where
   pub rings : length (flat_map (λ f. f.rings) (whole_of L).faces) ≤ 2 * length (plus_darts (whole_of L))
 
 -- for each tile, and for one after the last, the faces before it are counted; so few edges have few faces
-pub record AreCounted (c : CoverageTables) (counts : List ℕ) : Type 0 where
+pub record AreFaceCounts (c : CoverageTables) (counts : List ℕ) : Type 0 where
   pub edges : length (plus_darts (whole_of (library_of c))) ≤ most_rows
   pub faces : length (whole_of (library_of c)).faces ≤ 2 * most_rows
   pub counted : counts ≡ map (faces_before (library_of c)) (range_with_len 0 (last_tile c + 2))

@@ -5,7 +5,7 @@ use Rattle.vpf_run.proofs.DrilledAnswers.{run_drills}
 use Rattle.vpf_run.proofs.CheckedAnswers.{run_agrees, run_traces}
 use Rattle.vpf_run.proofs.Grammared.{words_said}
 use Rattle.vpf_run.proofs.ServedAnswers.{index_serves}
-use Rattle.vpf_run.proofs.TiledAnswers.{run_tiles}
+use Rattle.vpf_run.proofs.TiledAnswers.{run_answers, run_tiles}
 use Rattle.vpf_run.proofs.running.run.Goals as goal
 
 pub returns-clause-indexed : goal.returns-clause-indexed
@@ -48,6 +48,10 @@ returns-clause-tiled g c files request parts tables e f cut =
 pub returns-clause-rejoined : goal.returns-clause-rejoined
 returns-clause-rejoined g c before after request bytes later e told left done alone lacks =
     run_tiles c.tilings_agree.ensures.listed c.requests_have_names.ensures c.args.words.now before after request _ _ _ bytes later e told left done alone lacks c.do_words.ensures.answer
+
+pub returns-clause-answered : goal.returns-clause-answered
+returns-clause-answered g c before after request bytes later e told left done alone lacks =
+    run_answers c.tilings_agree.ensures.answered c.requests_have_names.ensures c.args.words.now before after request _ _ _ bytes later e told left done alone lacks c.do_words.ensures.answer
 
 pub returns-clause-drilled : goal.returns-clause-drilled
 returns-clause-drilled g c request e =

@@ -6,10 +6,10 @@ next_table-requires c =
     let are = c.requires.1 in (
       are.tileref,
       are.behind,
-      tileref_opens c.spelled_is_opened.ensures c.opened_is_read.ensures c.args.lib.now c.args.cov.now c.requires.0 c.args.files.now are,
+      rw c.of.ensures (tileref_opens c.spelled_is_opened.ensures c.opened_is_read.ensures c.args.lib.now c.args.cov.now c.requires.0 c.args.files.now are),
     )
 
 pub returns : goal.returns
 returns c coverage are =
     c.next_table.ensures.table are.tileref are.behind
-    (tileref_opens c.spelled_is_opened.ensures c.opened_is_read.ensures c.args.lib.now c.args.cov.now coverage c.args.files.now are)
+    (rw c.of.ensures (tileref_opens c.spelled_is_opened.ensures c.opened_is_read.ensures c.args.lib.now c.args.cov.now coverage c.args.files.now are))

@@ -14,7 +14,7 @@ open_tile-requires c =
     let l = c.loop-t in
     let tiles = c.requires.tiles.0 in
     let later : l.t + 1 ≡ suc l.t = omega arith in
-    next_opens c.args.folder.now l.at c.args.paths.now l.t (l.t + 1) l.files.now c.in-Some.path.now (placed_views l.firsts.items l.tiles.items) tiles
+    next_opens c.args.folder.now l.at c.args.paths.now l.t (l.t + 1) l.files c.in-Some.path.now (placed_views l.firsts.items l.tiles.items) tiles
     later c.in-Some.ensures (l.invariant.opened tiles c.requires.tiles.1)
 
 pub loop-t-preserved : goal.loop-t-preserved
@@ -30,7 +30,7 @@ loop-t-preserved c =
       alike = rw (firsts, tiles) (omega (arith, l.invariant.alike, length-append l.firsts.items (l.at ∷ []), length-append l.tiles.items (tile ∷ [])));
       few = rw firsts (All-push (λ (first : ℕ). first < 2147483648) l.firsts.items l.at l.invariant.few few);
       opened = λ all h.
-          rw (firsts, tiles) (one_more c.args.folder.now l.at c.files_of_folder-at.result c.args.paths.now l.t (l.t + 1) l.files.now c.open_tile.new.files.now
+          rw (firsts, tiles) (one_more c.args.folder.now l.at c.files_of_folder-at.result c.args.paths.now l.t (l.t + 1) l.files c.open_tile.new.files
           c.in-Some.path.now l.firsts.items l.tiles.items tile all
           c.in_ok-tile.ensures.tables c.in_ok-tile.ensures.rest c.files_of_folder-at.ensures.value later c.in-Some.ensures l.invariant.alike
           (l.invariant.opened all h));
@@ -39,5 +39,5 @@ loop-t-preserved c =
 pub returns-clause-opened : goal.returns-clause-opened
 returns-clause-opened c all h =
     let l = c.loop-t in
-    all_opened c.args.folder.now l.at c.args.paths.now l.t l.files.now (placed_views l.firsts.items l.tiles.items) all
+    all_opened c.args.folder.now l.at c.args.paths.now l.t l.files (placed_views l.firsts.items l.tiles.items) all
     (omega (arith, c.loop-t-test.false, c.len-t-end.ensures.value)) (l.invariant.opened all h)

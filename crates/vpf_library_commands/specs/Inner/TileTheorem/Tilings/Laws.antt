@@ -12,7 +12,7 @@ use Rattle.vpf_library_commands.specs.Make.{make_request}
 use Rattle.vpf_library_commands.specs.Tile.{TileParts, tile_answer}
 use Rattle.vpf_library_commands.specs.Reading.{no_features}
 use Rattle.vpf_library_commands.specs.TileTheorem.Tilings.Cutting.{IsCutFrom, cut_files, cut_plan}
-use Rattle.vpf_library_commands.specs.TileTheorem.Tilings.Tilings.{HasNames, HoldsTiled, HoldsTiling, LacksTheRest, StandsAlone, made_request}
+use Rattle.vpf_library_commands.specs.TileTheorem.Tilings.Tilings.{AnswersTiling, HasNames, HoldsTiled, HoldsTiling, LacksTheRest, StandsAlone, made_request}
 
 -- where what was read can be cut, the answer of `tile` is to make the files of the tiled library and of its features
 abbrev pub TilesAreMade : Type 0
@@ -27,12 +27,20 @@ TilingsAreHeld = (files after : Files) (request : MakeRequest) (parts : TilePart
     → with_all (cut_files request parts T) (Some files) ≡ Some after → LacksTheRest after request.out request.cov parts.schema
     → HoldsTiled after (made_request request) (primitives_of T.tables) (cut_plan parts T) (length parts.tileref.grid.rows) parts.schema
 
--- and where all files hold bytes, `check` accepts it, and `trace` lists the coverage's cycles
+-- and where all files hold bytes, its cycles are the coverage's
 abbrev pub TilingsAgree : Type 0
 TilingsAgree = (files after : Files) (request : MakeRequest) (parts : TileParts) (T : TileTables) → HoldsBytes files → HoldsBytes after → HasNames request
     → IsCutFrom files request parts T → StandsAlone files request.out (cut_files request parts T)
     → with_all (cut_files request parts T) (Some files) ≡ Some after → LacksTheRest after request.out request.cov parts.schema
     → HoldsTiling after (made_request request) (primitives_of T.tables) (cut_plan parts T) (length parts.tileref.grid.rows) parts.schema
+
+-- and `check` and `trace` answer that
+abbrev pub TilingsAreAnswered : Type 0
+TilingsAreAnswered = (files after : Files) (request : MakeRequest) (parts : TileParts) (T : TileTables) → HoldsBytes files → HoldsBytes after
+    → HasNames request
+    → IsCutFrom files request parts T → StandsAlone files request.out (cut_files request parts T)
+    → with_all (cut_files request parts T) (Some files) ≡ Some after → LacksTheRest after request.out request.cov parts.schema
+    → AnswersTiling after (made_request request) (primitives_of T.tables) (cut_plan parts T) (length parts.tileref.grid.rows) parts.schema
 
 -- a coverage without features lacks none of the rest
 abbrev pub NoneIsLacked : Type 0

@@ -1,14 +1,4 @@
-use Rattle.vpf_library_files.proofs.loading.LoadLemmas.{load_are, load_counted, load_held, load_told}
 use Rattle.vpf_library_files.proofs.loading.loading.load_coverage.Goals as goal
 
-pub returns-clause-told : goal.returns-clause-told
-returns-clause-told g c = load_told c.args.lib.now c.args.cov.now (g.T.Tree.files c.args.tree.now) c.args.loaded.now c.load_files.new.loaded c.load_files.result c.load_files.ensures.reads
-
-pub returns-clause-counted : goal.returns-clause-counted
-returns-clause-counted g c = load_counted c.args.lib.now c.args.cov.now (g.T.Tree.files c.args.tree.now) c.args.loaded.now c.load_files.new.loaded c.load_files.result c.load_files.ensures.reads
-
-pub returns-clause-held : goal.returns-clause-held
-returns-clause-held g c = load_held c.args.lib.now c.args.cov.now (g.T.Tree.files c.args.tree.now) c.args.loaded.now c.load_files.new.loaded c.load_files.result c.load_files.ensures.reads
-
-pub returns-clause-are : goal.returns-clause-are
-returns-clause-are g c = load_are c.args.lib.now c.args.cov.now (g.T.Tree.files c.args.tree.now) c.args.loaded.now c.load_files.new.loaded c.load_files.result c.load_files.ensures.reads
+pub returns-in-Ok-clause-held : goal.returns-in-Ok-clause-held
+returns-in-Ok-clause-held g c files e whole n read = rw c.into_files.ensures (c.in-Ok.ensures.held files e whole n read)

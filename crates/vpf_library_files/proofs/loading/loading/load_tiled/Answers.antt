@@ -6,11 +6,11 @@ pub returns-in_err-load_tiles-clause-reads : goal.returns-in_err-load_tiles-clau
 returns-in_err-load_tiles-clause-reads g c cov is =
     let p = err_from_is_err_and c.from_residual-in_err-load_tiles.result c.from_residual-in_err-load_tiles.ensures.1 in
     rw (p.1, p.2) (tiled_stops (g.T.Tree.files c.args.tree.now) (g.T.Tree.files c.load_tileref.new.tree) c.args.lib.now cov c.args.folder.now c.args.loaded.now
-    c.load_tileref.new.loaded c.load_tiles.new.loaded c.load_tileref.new.files.items c.load_tiles.new.files.items c.in_ok-paths.paths c.in_err-load_tiles.field-0.0
+    c.load_tileref.new.loaded c.load_tiles.new.loaded c.load_tileref.new.tables c.load_tiles.new.tables c.in_ok-paths.paths c.in_err-load_tiles.field-0.0
     c.load_tileref.ensures.files is c.in_ok-paths.ensures.reads c.in_err-load_tiles.ensures.reads)
 
 pub returns-clause-reads : goal.returns-clause-reads
 returns-clause-reads g c cov is =
     tiled_comes c.stops_decide.ensures (g.T.Tree.files c.args.tree.now) (g.T.Tree.files c.load_tileref.new.tree) c.args.lib.now cov c.args.folder.now c.args.loaded.now
-    c.load_tileref.new.loaded c.load_tiles.new.loaded c.load_tileref.new.files.items c.load_tiles.new.files.items c.in_ok-paths.paths c.in_ok-load_tiles.field-0
+    c.load_tileref.new.loaded c.load_tiles.new.loaded c.load_tileref.new.tables c.load_tiles.new.tables c.in_ok-paths.paths c.in_ok-load_tiles.field-0
     c.load_tileref.ensures.files is c.if-not-branch.false c.in_ok-paths.ensures.reads c.in_ok-load_tiles.ensures.reads

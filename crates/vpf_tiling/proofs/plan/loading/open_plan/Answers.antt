@@ -6,4 +6,4 @@ returns-clause-plan c =
     let name = c.requires.0 in
     let grid = c.requires.1.0 in
     let are = c.requires.1.1 in
-    is_plan grid c.table_in.result (c.table_in.ensures name grid are.are) are.plan
+    is_plan grid c.only.result (c.only.ensures name grid are.are) are.plan

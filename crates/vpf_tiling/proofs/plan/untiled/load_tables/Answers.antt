@@ -9,10 +9,10 @@ returns-in_err-load_folder-clause-reads g c =
 
 pub returns-then-branch-clause-reads : goal.returns-then-branch-clause-reads
 returns-then-branch-clause-reads g c =
-    folder_comes (g.T.Tree.files c.args.tree.now) c.args.lib.now c.args.cov.now c.args.loaded.now c.load_folder.new.loaded c.new-files.result.items
-    c.load_folder.new.files.items c.in_ok-load_folder.field-0 c.if-branch.true c.new-files.ensures.items c.in_ok-load_folder.ensures.reads
+    folder_comes (g.T.Tree.files c.args.tree.now) c.args.lib.now c.args.cov.now c.args.loaded.now c.load_folder.new.loaded c.new-tables.result
+    c.load_folder.new.tables c.in_ok-load_folder.field-0 c.if-branch.true c.new-tables.ensures c.in_ok-load_folder.ensures.reads
 
 pub returns-clause-reads : goal.returns-clause-reads
 returns-clause-reads g c =
-    folder_missing (g.T.Tree.files c.args.tree.now) c.args.lib.now c.args.cov.now c.in_ok-edges_name.field-0 c.args.loaded.now c.load_folder.new.loaded c.new-files.result.items
-    c.load_folder.new.files.items c.in_ok-load_folder.field-0 c.if-branch.false c.in_ok-edges_name.ensures c.in_ok-load_folder.ensures.reads
+    folder_missing (g.T.Tree.files c.args.tree.now) c.args.lib.now c.args.cov.now c.in_ok-edges_name.field-0 c.args.loaded.now c.load_folder.new.loaded c.new-tables.result
+    c.load_folder.new.tables c.in_ok-load_folder.field-0 c.if-branch.false c.in_ok-edges_name.ensures c.in_ok-load_folder.ensures.reads

@@ -36,3 +36,21 @@ returns-clause-listed c = lemmas.tilings_agree (record {
   tileable = c.made_agrees.ensures.tileable;
   made = c.made_with_features.ensures;
 })
+
+pub returns-clause-answered : goal.returns-clause-answered
+returns-clause-answered c = lemmas.tilings_answered (record {
+  reading = record {
+    opened = c.opened_is_read.ensures;
+    spelled = c.read_is_spelled.ensures;
+    writable = c.read_is_writable.ensures;
+    stops = c.stops_decide.ensures;
+    check = c.check_decides_agreement.ensures.coverage;
+    features = c.features_decide.ensures;
+  };
+  counts = c.check_decides_agreement.ensures.counts;
+  reads = c.check_decides_agreement.ensures.read;
+  answers = c.trace_lists_cycles.ensures.some;
+  traces = c.trace_lists_cycles.ensures.decides;
+  tileable = c.made_agrees.ensures.tileable;
+  made = c.made_with_features.ensures;
+})

@@ -7,5 +7,5 @@ use Rattle.vpf_library_files.proofs.loading.loading.tables.optional_table.Goals 
 pub returns-in-Some-clause-are : goal.returns-in-Some-clause-are
 returns-in-Some-clause-are g c =
     let name = c.args.name.now in
-    IfOk-weaker c.files_of_table.result (λ files. (grid : Grid) × AreFilesOf name grid files.items)
-    (λ files. (grid : Option Grid) × AreFilesOfOption name grid files.items) (λ files h. (Some h.0, h.1)) c.files_of_table.ensures.are
+    IfOk-weaker c.loaded_table.result (λ files. (grid : Grid) × AreFilesOf name grid files)
+    (λ files. (grid : Option Grid) × AreFilesOfOption name grid files) (λ files h. (Some h.0, h.1)) c.loaded_table.ensures.are

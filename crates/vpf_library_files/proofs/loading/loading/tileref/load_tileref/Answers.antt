@@ -1,4 +1,4 @@
-use Rattle.std.proofs.Common.{◌∙◌, List, ℕ, ap, sym}
+use Rattle.std.proofs.Common.{◌∙◌, List, ℕ, ap, refl, sym}
 use Rattle.std.specs.Prelude.{codes}
 use Rattle.std.proofs.lemmas.Result.{err_from_is_err_and}
 use Rattle.vpf_library_files.specs.Loading.Loading.{within}
@@ -17,5 +17,5 @@ returns-clause-reads g c =
     let aft : List ℕ → List ℕ = λ (x : List ℕ). within x (codes "tileref.aft") in
     let one = ap aft (c.as_str-2.ensures.value ∙ sym c.as_str.ensures.value) in
     tileref_loads (g.T.Tree.files c.args.tree.now) c.args.lib.now c.as_str.result.now c.as_str-3.result.now c.args.loaded.now c.add_required.new.loaded
-    c.args.files.now.items c.add_required.new.files.items c.deref.result.now c.paths_in.result (c.as_str.ensures.value ∙ c.in_ok-folder.ensures)
-    (c.as_str-3.ensures.value ∙ c.in_ok-name.ensures ∙ one) c.requires.none c.deref.ensures.value c.in_ok-add_required.ensures.reads c.paths_in.ensures.reads
+    c.args.tables.now c.add_required.new.tables c.add_required.new.tables c.paths_in.result (c.as_str.ensures.value ∙ c.in_ok-folder.ensures)
+    (c.as_str-3.ensures.value ∙ c.in_ok-name.ensures ∙ one) c.requires.none refl c.in_ok-add_required.ensures.reads c.paths_in.ensures.reads

@@ -6,7 +6,7 @@ use Rattle.vpf_library_files.proofs.loading.loading.tiles.load_tiles.Given as go
 
 abbrev pub invariant-loop-t : goal.invariant-loop-t
 invariant-loop-t g l = record {
-  read : TilesRead (g.T.Tree.files l.fn.tree) l.fn.folder (before_tile l.fn.paths l.t) l.fn.loaded l.fn.files.items l.files.items l.some l.loaded;
+  read : TilesRead (g.T.Tree.files l.fn.tree) l.fn.folder (before_tile l.fn.paths l.t) l.fn.loaded l.fn.tables l.tables l.some l.loaded;
   from : 1 ≤ l.t;
   rising : l.fn.loaded ≤ l.loaded;
   most : l.loaded ≤ most_loaded;
