@@ -1,19 +1,16 @@
 -- How many tiles the files of a coverage are.
-use Rattle.std.proofs.Common.{◌≡◌, ℕ, suc, ◌+◌, ◌<◌, ◌≤◌, ◌^◌, inl, inr, Option, Some, None, List, [], ◌∷◌, length, map, refl, sym, ap, subst, ◌∙◌, arith}
+use Rattle.std.proofs.Common.{◌≡◌, ℕ, suc, ◌+◌, ◌<◌, ◌^◌, inl, inr, Option, Some, None, List, [], ◌∷◌, length, refl, sym, ap, subst, ◌∙◌, arith}
 use Rattle.std.proofs.lemmas.List.{length-map}
 use Rattle.vpf_source.specs.declared.file.File.{File}
 use Rattle.vpf_table.specs.Grid.{Grid}
-use Rattle.vpf_prims.specs.Coverages.{CoverageTables, tiled_coverage}
-use Rattle.vpf_prims.specs.Libraries.{IsLibrary, library_of}
+use Rattle.vpf_prims.specs.Coverages.{CoverageTables}
 use Rattle.vpf_prims.specs.Tables.{TileTables}
 use Rattle.vpf_library_files.specs.Tileref.Paths.{path_text}
 use Rattle.vpf_library_files.specs.Tileref.Stops.{path_texts}
 use Rattle.vpf_library_files.specs.Tileref.Tileref.{name_column, paths_of, row_path}
 use Rattle.vpf_library_files.specs.Loading.Loading.{within}
-use Rattle.vpf_library_files.specs.Loading.Holding.{AreCoverageFiles, AreTiledFiles, AreTilesFiles, AreUntiledFiles}
+use Rattle.vpf_library_files.specs.Loading.Holding.{AreCoverageFiles, AreTilesFiles}
 use Rattle.vpf_library_files.specs.Inner.Loading.Laws.{FilesAreLibraries}
-use Rattle.vpf_coverage.specs.declared.opening.opening.OpenCoverage.{OpenCoverage}
-use Rattle.vpf_coverage.specs.Inner.Opening.Opened.{opened_coverage}
 use Rattle.vpf_coverage.specs.Inner.Opened.{HasCountedTiles}
 
 -- as many tiles as paths

@@ -1,5 +1,5 @@
 -- Tables at the places of their first files, tile by tile.
-use Rattle.std.proofs.Common.{◌≡◌, ℕ, zero, suc, ◌+◌, Option, Some, None, List, [], ◌∷◌, length, map, get_or, is_some, refl, sym, ap, ◌∙◌, arith}
+use Rattle.std.proofs.Common.{◌≡◌, ℕ, zero, suc, Option, Some, None, List, [], ◌∷◌, length, map, get_or, is_some, refl, sym, ap, ◌∙◌, arith}
 use Rattle.std.specs.Option.{option_map}
 use Rattle.vpf_prims.specs.declared.views.PrimitiveViews.{PrimitiveViews}
 use Rattle.vpf_prims.specs.Reading.{PrimitiveTables}

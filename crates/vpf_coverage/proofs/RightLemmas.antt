@@ -1,11 +1,11 @@
 -- The columns of all tiles, one tile after another.
-use Rattle.std.proofs.Common.{◌≡◌, ℕ, zero, suc, Err, ◌+◌, ◌-◌, ◌<◌, ◌≤◌, Option, Some, None, List, [], ◌∷◌, ◌++◌, length, get_or, inl, inr, refl, sym, ap, subst, ◌∙◌, arith}
+use Rattle.std.proofs.Common.{◌≡◌, ℕ, zero, suc, Err, ◌+◌, ◌-◌, ◌<◌, Option, None, List, [], ◌∷◌, ◌++◌, length, get_or, inl, inr, refl, sym, ap, subst, ◌∙◌, arith}
 use Rattle.std.proofs.lemmas.Bool.{cases_eq}
 use Rattle.vpf_findings.specs.declared.errors.FindError.{FindError}
 use Rattle.vpf_findings.specs.declared.errors.FindError.TheVariants as errors
 use Rattle.vpf_findings.specs.Findings.{Disagreement, disagreement_of}
-use Rattle.vpf_findings.specs.Firsts.{◌or◌, Tells, first_over}
-use Rattle.vpf_findings.specs.Inner.FirstLaws.{over_pass, over_stop, over_end}
+use Rattle.vpf_findings.specs.Firsts.{Tells, first_over}
+use Rattle.vpf_findings.specs.Inner.FirstLaws.{over_stop}
 use Rattle.vpf_prims.specs.declared.views.PrimitiveViews.{PrimitiveViews}
 use Rattle.vpf_prims.specs.declared.views.TileColumns.{TileColumns}
 use Rattle.vpf_prims.specs.Coverages.{last_tile, tile_at}

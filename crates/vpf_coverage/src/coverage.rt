@@ -9,21 +9,20 @@ ghost use Rattle.vpf_coverage.specs.Inner.Opening.Opened.{opened_coverage};
 ghost use Rattle.vpf_coverage.specs.Inner.Opened.{HasCountedTiles, IsPlaced};
 
 use crate::columns::columns_of;
-use crate::opening::{OpenCoverage, Unopened, open_files};
+use crate::opening::{OpenCoverage, Paths, Unopened, open_files};
 use crate::tiles::{all_kept, tiles_of};
 use std::alloc::{AllocError, Global};
 use std::marker::Model;
 use vpf_findings::FindError;
 use vpf_library_files::loading::LoadedTables;
 use vpf_library_files::loading::laws::files_are_libraries;
-use vpf_library_files::tileref::TilePaths;
 use vpf_prims::Tile;
 use vpf_source::File;
 
 /// The primitives of a coverage, whose columns, ids and references are right. Contracts see it as the tables of its tiles.
 #[derive(Drop)]
 pub struct Coverage<'a> {
-    paths: Option<TilePaths>,
+    paths: Option<Paths<'a>>,
     tiles: Vec<Option<Tile<'a>>>,
 }
 
@@ -76,7 +75,7 @@ impl<'a> Coverage<'a> {
         ensures { option_map (λ path. path.now) result ≡ path_at self.now t }
     {
         match &self.paths {
-            Some(paths) => paths.path(t),
+            Some(paths) => paths.names().path(t),
             None if t == 0 => Some(""),
             None => None,
         }
@@ -119,9 +118,7 @@ fn checked<'a>(alloc: Global, opened: OpenCoverage<'a>) -> Result<Coverage<'a>, 
     ensures coverage { IfOk result (λ coverage. coverage ≡ opened_coverage opened.entry) }
 {
     let columns = columns_of(alloc, &opened)?;
-    // The rules on tiles ask for the same edges many times.
-    let is_tiled = opened.paths.is_some();
-    let tiles = tiles_of(alloc, is_tiled, opened.firsts, opened.tiles, columns)?;
+    let tiles = tiles_of(alloc, opened.firsts, opened.tiles, columns)?;
     Ok(Coverage {
         paths: opened.paths,
         tiles,
@@ -163,7 +160,7 @@ pub fn open_coverage<'a>(
 }
 
 /// Opens the primitives of a coverage from its tables, as `load_coverage_tables` gives them for the same two names: exactly as `open_coverage` does from
-/// their files, but no row is counted again.
+/// their files, but neither a row is counted nor the table of tiles read again.
 pub fn open_tables<'a>(
     alloc: Global,
     files: &'a LoadedTables,

@@ -5,5 +5,5 @@ mod opening;
 mod tables;
 
 pub(crate) use opening::open_files;
-pub use opening::{OpenCoverage, open_tileref, views_at};
+pub use opening::{OpenCoverage, Paths, open_tileref, views_at};
 pub(crate) use tables::Unopened;

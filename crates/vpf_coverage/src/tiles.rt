@@ -7,42 +7,25 @@ ghost use Rattle.vpf_coverage.specs.Inner.Opened.{AreAllRight, AreRightIn};
 use std::alloc::{AllocError, Global};
 use vpf_prims::{PrimitiveViews, Tile, TileColumns};
 
-/// The same tile, which keeps what its rows of edges say where that is wanted.
-fn kept_in<'a>(alloc: Global, keeps: bool, tile: Tile<'a>) -> Result<Tile<'a>, AllocError>
-    ensures { IfOk result (λ same. same ≡ tile.entry) }
-{
-    if keeps {
-        tile.keeping_edges(alloc)
-    } else {
-        Ok(tile)
-    }
-}
-
 /// The tile of some tables at the place of its first file: none where it is empty.
 fn tile_of<'a>(
-    alloc: Global,
-    keeps: bool,
     first: u32,
     views: Option<PrimitiveViews<'a>>,
     columns: Option<TileColumns<'a>>,
-) -> Result<Option<Tile<'a>>, AllocError>
+) -> Option<Tile<'a>>
     requires right { AreRightIn views columns }
     requires few { first < 2 ^ 31 }
-    ensures { IfOk result (λ tile. tile ≡ placed_view first views.entry) }
+    ensures { result ≡ placed_view first views.entry }
 {
     match (views, columns) {
-        (Some(views), Some(columns)) => {
-            let tile = Tile::new(first, views, columns);
-            Ok(Some(kept_in(alloc, keeps, tile)?))
-        }
-        _ => Ok(None),
+        (Some(views), Some(columns)) => Some(Tile::new(first, views, columns)),
+        _ => None,
     }
 }
 
-/// The tiles of tables, by the places of their first files and their columns. Where that is wanted they keep what their rows of edges say.
+/// The tiles of tables, by the places of their first files and their columns.
 pub(crate) fn tiles_of<'a>(
     alloc: Global,
-    keeps: bool,
     firsts: Vec<u32>,
     tiles: Vec<Option<PrimitiveViews<'a>>>,
     columns: Vec<Option<TileColumns<'a>>>,
@@ -62,7 +45,7 @@ pub(crate) fn tiles_of<'a>(
         let Some(columns) = columns.next() else {
             unreachable!()
         };
-        made.push(tile_of(alloc, keeps, first, views, columns)?)?;
+        made.push(tile_of(first, views, columns))?;
     }
     Ok(made)
 }

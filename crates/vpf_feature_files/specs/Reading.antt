@@ -10,7 +10,7 @@ use Rattle.vpf_table.specs.Reading.{table_of}
 use Rattle.vpf_theme.specs.Entries.{Theme}
 use Rattle.vpf_theme.specs.Reading.{theme_of}
 use Rattle.vpf_library_files.specs.declared.loading.loading.LoadStop.TheVariants as stops
-use Rattle.vpf_library_files.specs.Loading.Loading.{LoadedTable, Read, ◌and_then◌, graded, read_optional, read_optional_table, within}
+use Rattle.vpf_library_files.specs.Loading.Loading.{LoadedTable, Read, ◌and_then◌, graded, read_optional, read_optional_table, read_table_in, within}
 use Rattle.vpf_library_files.specs.Loading.Loads.{maybe}
 use Rattle.vpf_tiling.specs.Plan.PlanLoads.{unless_found}
 use Rattle.vpf_feature_files.specs.SchemaRows.Items.{own_file}
@@ -68,6 +68,11 @@ with_indexes files folder file (Some table) loaded =
     read_indexes files folder table.grid.head.order table.grid.head.columns loaded and_then λ indexes n.
     (Ok (Some (record { name = file; grid = table.grid; indexes = indexes })), n)
 
+-- the feature table in the bytes of a file of the folder
+abbrev pub read_with_indexes : Files → (folder file bytes : List ℕ) → ℕ → Read (Option FeatureTable)
+read_with_indexes files folder file bytes loaded =
+    read_table_in files (within folder file) bytes loaded and_then λ table n. with_indexes files folder file (Some table) n
+
 -- the feature table in a file of the folder, if one is named
 abbrev pub read_named_table : Files → (folder : List ℕ) → Option (List ℕ) → ℕ → Read (Option FeatureTable)
 read_named_table files folder None loaded = (Ok None, loaded)
@@ -81,9 +86,15 @@ read_feature_tables files folder (item ∷ items) loaded =
     read_feature_tables files folder items n and_then λ tables n.
     (Ok (maybe table ++ tables), n)
 
+-- the feature tables that a schema table names, and with it the schema
+abbrev pub read_with_tables : Files → (folder : List ℕ) → Option Grid → ℕ → Read Schema
+read_with_tables files folder fcs loaded =
+    read_feature_tables files folder (feature_items (joins_of fcs)) loaded and_then λ tables n. (Ok (record { fcs = fcs; tables = tables }), n)
+
+-- the schema in the bytes of the schema table of this name
+abbrev pub read_schema_in : Files → (folder name bytes : List ℕ) → ℕ → Read Schema
+read_schema_in files folder name bytes loaded = schema_in name (Some bytes) loaded and_then read_with_tables files folder
+
 -- the schema of the coverage in this folder
 abbrev pub read_schema : Files → (folder : List ℕ) → ℕ → Read Schema
-read_schema files folder loaded =
-    read_schema_table files (schema_name folder) loaded and_then λ fcs n.
-    read_feature_tables files folder (feature_items (joins_of fcs)) n and_then λ tables n.
-    (Ok (record { fcs = fcs; tables = tables }), n)
+read_schema files folder loaded = read_schema_table files (schema_name folder) loaded and_then read_with_tables files folder

@@ -1,32 +1,29 @@
 //! The schema table, and with it all files of features.
 
-ghost use Rattle.std.specs.Prelude.{◌≡◌, ◌≤◌, ℕ, List, Option, IfErr, IfOk, IsErrOf, Ok, Some, map};
+ghost use Rattle.std.specs.Prelude.{◌≡◌, ◌≤◌, ℕ, IfErr, IfOk, IsErrOf, None, Ok, Some};
 ghost use Rattle.vpf_source.specs.Causes.{Rose, Stood};
 ghost use Rattle.vpf_source.specs.Files.{Files};
-ghost use Rattle.vpf_table.specs.Grid.{Grid};
 ghost use Rattle.vpf_table.specs.Inner.Counts.{IsCountOf};
 ghost use Rattle.vpf_table.specs.Reading.{table_of};
 ghost use Rattle.vpf_findings.specs.Findings.{disagreement_of};
 ghost use Rattle.vpf_findings.specs.Printing.{own_of};
 ghost use Rattle.vpf_library_files.specs.declared.loading.loading.LoadStop.TheVariants as stops;
-ghost use Rattle.vpf_library_files.specs.Loading.Loading.{graded, most_loaded};
+ghost use Rattle.vpf_library_files.specs.Loading.Loading.{most_loaded};
 ghost use Rattle.vpf_library_files.specs.Loading.Loads.{LoadsAs, ReadsAs};
 ghost use Rattle.vpf_library_files.specs.Inner.Loading.Only.{OnlyLoads};
-ghost use Rattle.vpf_feature_files.specs.SchemaRows.Joins.{feature_items, joins_in};
-ghost use Rattle.vpf_feature_files.specs.Inner.SchemaRows.Listing.{item_text};
-ghost use Rattle.vpf_feature_files.specs.Inner.Held.{AreOfSchema, AreSchemaFiles, IsSchemaFile, IsSchemaFileOption};
+ghost use Rattle.vpf_feature_files.specs.SchemaRows.Joins.{feature_items, joins_in, schema_finding};
+ghost use Rattle.vpf_feature_files.specs.Inner.Held.{AreOfSchema, AreSchemaFiles, AreTablesFiles};
 ghost use Rattle.vpf_feature_files.specs.Inner.Loads.{IsLooked, IsSchemaIn, RefusedSchema};
-ghost use Rattle.vpf_feature_files.specs.Reading.{looked_at, read_schema, read_schema_table, schema_name};
-ghost use Rattle.vpf_feature_files.specs.Schemas.{joins_of};
+ghost use Rattle.vpf_feature_files.specs.Reading.{looked_at, read_feature_tables, read_schema, read_schema_in, schema_name};
 
-use crate::files::{FeatureFiles, SchemaFile};
-use crate::schema_rows::{ItemName, SchemaColumns, feature_items, schema_rows};
+use crate::files::{FeatureFiles, SchemaFile, TableFiles};
+use crate::schema_rows::{SchemaColumns, feature_items, schema_rows};
 use crate::tables::load_tables;
 use std::alloc::{AllocError, Global};
 use vpf_findings::{Finding, OwnFinding};
 use vpf_library_files::loading::{LoadStop, optional_file, within};
 use vpf_source::{Bytes, File, Name, Tree};
-use vpf_table::{Counted, TableFile};
+use vpf_table::{Counted, TableFile, TableView};
 use vpf_triplet::PlaceError;
 
 /// The finding on the schema table of this name, as it stops the load.
@@ -69,75 +66,70 @@ fn table_in<'a>(alloc: Global, name: &str, bytes: &'a [u8]) -> Result<TableFile<
     }
 }
 
-/// What counting the rows of a schema table found, which the bytes are.
-fn check_bytes(alloc: Global, name: &str, bytes: &[u8]) -> Result<Counted, LoadStop>
-    ensures looks { (loaded : ℕ) → ReadsAs (λ _ fcs. IsSchemaIn bytes.now fcs) result loaded (graded name.now (looked_at name.now)
-        (table_of bytes.now) loaded) }
-    ensures counted { IfOk result (IsCountOf bytes.now) }
-    ensures no_fault { ¬ IsErrOf result LoadStop.Fault }
-{
-    let table = table_in(alloc, name, bytes)?;
-    look_at(alloc, name, &table)?;
-    Ok(table.counted())
-}
-
-/// The file of the schema table in these bytes.
-fn schema_file(alloc: Global, name: Name, bytes: Vec<u8>) -> Result<SchemaFile, LoadStop>
-    ensures reads { (folder : List ℕ) → name ≡ schema_name folder → (loaded : ℕ)
-        → ReadsAs (λ kept fcs. IsSchemaFileOption folder fcs (Some kept)) result loaded (graded name (looked_at name) (table_of bytes.items) loaded) }
-    ensures no_fault { ¬ IsErrOf result LoadStop.Fault }
-{
-    let counted = check_bytes(alloc, name.as_str(), &bytes)?;
-    let bytes = Bytes::new(bytes);
-    Ok(SchemaFile::new(File { name, bytes }, counted))
-}
-
-/// The schema table of a folder, or nothing where it is absent.
-fn load_schema_table<T: Tree>(
+/// The feature tables that a schema table names.
+fn load_named<T: Tree>(
     alloc: Global,
     tree: &mut T,
     folder: &str,
+    table: &TableView<'_>,
     loaded: &mut u64,
-) -> Result<Option<SchemaFile>, LoadStop>
-    requires { loaded.old ≤ most_loaded }
-    ensures reads { LoadsAs (T.files tree.old) (λ held. read_schema_table held (schema_name folder.now) loaded.old)
-        (λ kept fcs. IsSchemaFileOption folder.now fcs kept) result loaded.new }
+) -> Result<Vec<TableFiles>, LoadStop>
+    requires before { loaded.old ≤ most_loaded }
+    requires right { schema_finding table.now ≡ None }
+    ensures reads { LoadsAs (T.files tree.old) (λ held. read_feature_tables held folder.now (feature_items (joins_in table.now)) loaded.old)
+        (λ kept tables. AreTablesFiles folder.now tables kept.items) result loaded.new }
     ensures only { OnlyLoads T.files T.faults tree.old tree.new loaded.old loaded.new (IsErrOf result LoadStop.Fault) }
 {
-    let name = Name::new(within(alloc, folder, "fcs")?);
-    match optional_file(alloc, tree, name.as_str(), loaded)? {
-        Some(bytes) => Ok(Some(schema_file(alloc, name, bytes)?)),
-        None => Ok(None),
-    }
+    let rows = schema_rows(alloc, table)?;
+    let items = feature_items(alloc, &rows)?;
+    load_tables(alloc, tree, folder, &items, loaded)
 }
 
-/// The items of the schema table that name feature tables.
-fn items_of<'a>(alloc: Global, file: &'a SchemaFile) -> Result<Vec<ItemName<'a>>, AllocError>
-    requires { (folder : List ℕ) × (grid : Grid) × IsSchemaFile folder grid file.now }
-    ensures { (folder : List ℕ) (grid : Grid) → IsSchemaFile folder grid file.now
-        → IfOk result (λ items. map item_text items.items ≡ feature_items (joins_in grid)) }
-{
-    let table = file.view(alloc)?;
-    let rows = schema_rows(alloc, &table)?;
-    feature_items(alloc, &rows)
-}
-
-/// The items of a schema table that may be absent.
-fn items_in<'a>(
+/// What counting the rows of the schema table in the bytes of this file found, and the feature tables that it names: it is looked at, and they are loaded,
+/// by the header that was read.
+fn load_in<T: Tree>(
     alloc: Global,
-    file: &'a Option<SchemaFile>,
-) -> Result<Vec<ItemName<'a>>, AllocError>
-    requires { (folder : List ℕ) × (fcs : Option Grid) × IsSchemaFileOption folder fcs file.now }
-    ensures { (folder : List ℕ) (fcs : Option Grid) → IsSchemaFileOption folder fcs file.now
-        → IfOk result (λ items. map item_text items.items ≡ feature_items (joins_of fcs)) }
+    tree: &mut T,
+    folder: &str,
+    name: &str,
+    bytes: &[u8],
+    loaded: &mut u64,
+) -> Result<(Counted, Vec<TableFiles>), LoadStop>
+    requires { loaded.old ≤ most_loaded }
+    ensures reads { LoadsAs (T.files tree.old) (λ held. read_schema_in held folder.now name.now bytes.now loaded.old)
+        (λ found S. IsSchemaIn folder.now bytes.now found.1.items S) result loaded.new }
+    ensures counted { IfOk result (λ found. IsCountOf bytes.now found.0) }
+    ensures only { OnlyLoads T.files T.faults tree.old tree.new loaded.old loaded.new (IsErrOf result LoadStop.Fault) }
 {
-    match file {
-        Some(file) => items_of(alloc, file),
-        None => Ok(Vec::new(alloc)),
-    }
+    let table = table_in(alloc, name, bytes)?;
+    look_at(alloc, name, &table)?;
+    let counted = table.counted();
+    let tables = load_named(alloc, tree, folder, &table.without_index(), loaded)?;
+    Ok((counted, tables))
 }
 
-/// The files of the features of the coverage in this folder.
+/// The files of the features of the coverage in this folder, whose schema table has this name and these bytes.
+fn load_with<T: Tree>(
+    alloc: Global,
+    tree: &mut T,
+    folder: &str,
+    name: Name,
+    bytes: Vec<u8>,
+    loaded: &mut u64,
+) -> Result<FeatureFiles, LoadStop>
+    requires before { loaded.old ≤ most_loaded }
+    requires named { name ≡ schema_name folder.now }
+    ensures reads { LoadsAs (T.files tree.old) (λ held. read_schema_in held folder.now name bytes.items loaded.old)
+        (λ v S. AreSchemaFiles folder.now S v) result loaded.new }
+    ensures only { OnlyLoads T.files T.faults tree.old tree.new loaded.old loaded.new (IsErrOf result LoadStop.Fault) }
+{
+    let (counted, tables) = load_in(alloc, tree, folder, name.as_str(), &bytes, loaded)?;
+    let bytes = Bytes::new(bytes);
+    let fcs = Some(SchemaFile::new(File { name, bytes }, counted));
+    Ok(FeatureFiles { fcs, tables })
+}
+
+/// The files of the features of the coverage in this folder: none where there is no schema table.
 fn load_all<T: Tree>(
     alloc: Global,
     tree: &mut T,
@@ -148,11 +140,14 @@ fn load_all<T: Tree>(
     ensures reads { LoadsAs (T.files tree.old) (λ held. read_schema held folder.now loaded.old) (λ v S. AreSchemaFiles folder.now S v) result loaded.new }
     ensures only { OnlyLoads T.files T.faults tree.old tree.new loaded.old loaded.new (IsErrOf result LoadStop.Fault) }
 {
-    let fcs = load_schema_table(alloc, tree, folder, loaded)?;
-    let items = items_in(alloc, &fcs)?;
-    let tables = load_tables(alloc, tree, folder, &items, loaded)?;
-    drop(items);
-    Ok(FeatureFiles { fcs, tables })
+    let name = Name::new(within(alloc, folder, "fcs")?);
+    match optional_file(alloc, tree, name.as_str(), loaded)? {
+        Some(bytes) => load_with(alloc, tree, folder, name, bytes, loaded),
+        None => Ok(FeatureFiles {
+            fcs: None,
+            tables: Vec::new(alloc),
+        }),
+    }
 }
 
 /// The files of the features of the coverage in this folder, in reading order: the schema table `fcs`, where it is there, then row by row the feature

@@ -1,59 +1,47 @@
 //! Feature tables with their thematic indexes.
 
-ghost use Rattle.std.specs.Prelude.{◌≡◌, ◌≤◌, ℕ, List, [], ◌∷◌, ◌++◌, IsErrOf, OnOk, Some, map};
-ghost use Rattle.vpf_table.specs.Grid.{Grid};
-ghost use Rattle.vpf_library_files.specs.Loading.Holding.{AreFilesOf};
-ghost use Rattle.vpf_library_files.specs.Loading.Loading.{most_loaded, read_optional_table};
+ghost use Rattle.std.specs.Prelude.{◌≡◌, ◌≤◌, [], ◌∷◌, ◌++◌, IsErrOf, OnOk, Some, map};
+ghost use Rattle.vpf_library_files.specs.Loading.Loading.{most_loaded};
 ghost use Rattle.vpf_library_files.specs.Loading.Loads.{LoadsAs};
 ghost use Rattle.vpf_library_files.specs.Inner.Loading.Only.{OnlyLoads};
 ghost use Rattle.vpf_feature_files.specs.SchemaRows.Items.{own_file};
 ghost use Rattle.vpf_feature_files.specs.Inner.SchemaRows.Listing.{item_text};
-ghost use Rattle.vpf_feature_files.specs.Inner.Held.{AreIndexFiles, AreTablesFiles};
-ghost use Rattle.vpf_feature_files.specs.Inner.Loads.{AddsFeatures, AreTableFilesOption, HasFiles};
-ghost use Rattle.vpf_feature_files.specs.Reading.{read_feature_tables, read_indexes, read_named_table};
+ghost use Rattle.vpf_feature_files.specs.Inner.Held.{AreTablesFiles};
+ghost use Rattle.vpf_feature_files.specs.Inner.Loads.{AddsFeatures, AreTableFilesOption};
+ghost use Rattle.vpf_feature_files.specs.Reading.{read_feature_tables, read_named_table, read_with_indexes};
 
 use crate::files::TableFiles;
 use crate::indexes::load_indexes;
 use crate::schema_rows::ItemName;
 use std::alloc::{AllocError, Global};
-use vpf_library_files::loading::{LoadStop, LoadedTables, optional_table, within};
-use vpf_source::{File, Name, Tree};
-use vpf_table::laws::{opened_is_read, spelled_is_opened};
+use vpf_library_files::loading::{LoadStop, kept, optional_file, table_beside, within};
+use vpf_source::{Name, Tree};
 
-/// The table of this name, or none where it is absent.
-fn own_files<T: Tree>(
-    alloc: Global,
-    tree: &mut T,
-    name: &str,
-    loaded: &mut u64,
-) -> Result<LoadedTables, LoadStop>
-    requires { loaded.old ≤ most_loaded }
-    ensures reads { LoadsAs (T.files tree.old) (λ held. read_optional_table held name.now loaded.old)
-        (λ files table. HasFiles name.now files table) result loaded.new }
-    ensures only { OnlyLoads T.files T.faults tree.old tree.new loaded.old loaded.new (IsErrOf result LoadStop.Fault) }
-{
-    spelled_is_opened();
-    opened_is_read();
-    optional_table(alloc, tree, name, loaded)
-}
-
-/// The thematic indexes of a table.
-fn indexes_of<T: Tree>(
+/// The feature table in the bytes of a file of a folder, with its thematic indexes.
+fn table_in<T: Tree>(
     alloc: Global,
     tree: &mut T,
     folder: &str,
-    table: &LoadedTables,
+    file: Name,
+    bytes: Vec<u8>,
     loaded: &mut u64,
-) -> Result<Vec<Option<File>>, LoadStop>
-    requires before { loaded.old ≤ most_loaded }
-    requires own { (name : List ℕ) × (grid : Grid) × AreFilesOf name grid table.now }
-    ensures reads { (name : List ℕ) (grid : Grid) → AreFilesOf name grid table.now
-        → LoadsAs (T.files tree.old) (λ held. read_indexes held folder.now grid.head.order grid.head.columns loaded.old)
-        (λ kept indexes. AreIndexFiles grid.head.order indexes kept.items) result loaded.new }
+) -> Result<TableFiles, LoadStop>
+    requires { loaded.old ≤ most_loaded }
+    ensures reads { LoadsAs (T.files tree.old) (λ held. read_with_indexes held folder.now file bytes.items loaded.old)
+        (λ kept table. AreTableFilesOption folder.now table (Some kept)) result loaded.new }
     ensures only { OnlyLoads T.files T.faults tree.old tree.new loaded.old loaded.new (IsErrOf result LoadStop.Fault) }
 {
-    let table = table.only(alloc)?;
-    load_indexes(alloc, tree, folder, table.header(), loaded)
+    let name = within(alloc, folder, file.as_str())?;
+    let (table, index) = table_beside(alloc, tree, name.as_str(), &bytes, loaded)?;
+    let counted = table.counted();
+    let indexes = load_indexes(alloc, tree, folder, table.header(), loaded)?;
+    drop(table);
+    let table = kept(alloc, name.as_str(), bytes, index, counted)?;
+    Ok(TableFiles {
+        name: file,
+        table,
+        indexes,
+    })
 }
 
 /// The feature table in a file of a folder, with its thematic indexes, or nothing where it is absent.
@@ -70,16 +58,10 @@ fn table_called<T: Tree>(
     ensures only { OnlyLoads T.files T.faults tree.old tree.new loaded.old loaded.new (IsErrOf result LoadStop.Fault) }
 {
     let name = within(alloc, folder, file.as_str())?;
-    let table = own_files(alloc, tree, name.as_str(), loaded)?;
-    if table.is_empty() {
-        return Ok(None);
+    match optional_file(alloc, tree, name.as_str(), loaded)? {
+        Some(bytes) => Ok(Some(table_in(alloc, tree, folder, file, bytes, loaded)?)),
+        None => Ok(None),
     }
-    let indexes = indexes_of(alloc, tree, folder, &table, loaded)?;
-    Ok(Some(TableFiles {
-        name: file,
-        table,
-        indexes,
-    }))
 }
 
 /// Keeps one more table.

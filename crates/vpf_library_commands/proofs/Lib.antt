@@ -6,3 +6,4 @@ pub mod TraceAnswers
 pub mod TileAnswers
 pub mod TileLoads
 pub mod GlueAnswers
+pub mod GlueDeciding

@@ -5,6 +5,7 @@ pub mod Trace
 pub mod Make
 pub mod Tile
 pub mod Glue
+pub mod Gluing
 pub mod Made
 pub mod Keys
 pub use Rattle.vpf_tiler.specs.TileFiles.Tables

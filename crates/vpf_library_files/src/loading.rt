@@ -4,6 +4,6 @@ pub mod laws;
 mod loading;
 
 pub use loading::{
-    LoadStop, LoadedTables, load_coverage, load_coverage_tables, load_folder, load_tileref,
-    optional_file, optional_table, required_table, within,
+    LoadStop, LoadedTables, kept, load_coverage, load_coverage_tables, load_folder, load_tileref,
+    optional_file, required_table, table_beside, within,
 };

@@ -1,3 +1,4 @@
+pub mod RowLemmas
 pub mod CarriedLemmas
 pub mod BeyondLemmas
 pub mod TableLemmas

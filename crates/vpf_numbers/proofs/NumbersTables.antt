@@ -25,7 +25,7 @@ use Rattle.vpf_prims.specs.Tables.{TileTables, edg_at, fac_at, rng_at, cnd_at, e
 use Rattle.vpf_numbers.specs.Around.{Around, edges_around, model_cnd, model_edg, model_end, model_fac, model_rng, nodes_around, tables_around}
 use Rattle.vpf_numbers.specs.ColumnLines.{bare_line, beside_finding, role_lines, roles_finding}
 use Rattle.vpf_numbers.specs.Matching.{AreLike, ColumnsMatch}
-use Rattle.vpf_numbers.specs.RowLines.{cross_lines, edge_row_lines, entity_row_lines, face_lines, face_row_lines, mark_line, node_row_lines, reference_lines, ring_row_lines}
+use Rattle.vpf_numbers.specs.RowLines.{cross_lines, edge_end_lines, edge_row_lines, edge_side_lines, entity_row_lines, face_lines, face_row_lines, mark_line, node_row_lines, reference_lines, ring_row_lines}
 use Rattle.vpf_numbers.specs.TableLines.{cnd_finding, edg_finding, entities_finding, fac_finding, face_columns_finding, numbers_finding, own_ranges, rng_finding}
 use Rattle.vpf_numbers.proofs.NumbersLines.{through, or_decides, id_decides, plain_decides, mark_decides}
 use Rattle.vpf_numbers.proofs.NumbersBeyond.{IsSeen, cross_decides, edges_seen, face_decides, nodes_seen}
@@ -51,24 +51,24 @@ edge_decides A L seen at columns most nodes faces edges k row low =
     let wing_at = λ (column : RoleAt). cross_decides at A L seen (edges_around A) (edge_count L) (edges_seen A L seen) most.edges k column row edges in
     through
     (or_decides (id_line at k place.id row) _ (id_decides at k place.id row low)
-    (or_decides (cross_lines at A (nodes_around A) most.nodes k place.start_node row) _ (node_at place.start_node)
-    (or_decides (cross_lines at A (nodes_around A) most.nodes k place.end_node row) _ (node_at place.end_node)
-    (or_decides (face_lines at A most.faces k place.right_face row) _ (face_at place.right_face)
-    (or_decides (face_lines at A most.faces k place.left_face row) _ (face_at place.left_face)
+    (or_decides (edge_end_lines A place most.nodes k row) _
+    (or_decides (cross_lines at A (nodes_around A) most.nodes k place.start_node row) _ (node_at place.start_node) (node_at place.end_node))
+    (or_decides (edge_side_lines A place most.faces k row) _
+    (or_decides (face_lines at A most.faces k place.right_face row) _ (face_at place.right_face) (face_at place.left_face))
     (or_decides (cross_lines at A (edges_around A) most.edges k place.right_edge row) _ (wing_at place.right_edge)
     (or_decides (cross_lines at A (edges_around A) most.edges k place.left_edge row) (mark_line at k place.tile_line row) (wing_at place.left_edge)
-    (mark_decides at k place.tile_line row)))))))) (
+    (mark_decides at k place.tile_line row)))))) (
       λ h. record {
         id = h.0;
-        start_node = h.1.0;
-        end_node = h.1.1.0;
-        right_face = h.1.1.1.0;
-        left_face = h.1.1.1.1.0;
-        right_edge = h.1.1.1.1.1.0;
-        left_edge = h.1.1.1.1.1.1.0;
-        mark = h.1.1.1.1.1.1.1;
+        start_node = h.1.0.0;
+        end_node = h.1.0.1;
+        right_face = h.1.1.0.0;
+        left_face = h.1.1.0.1;
+        right_edge = h.1.1.1.0;
+        left_edge = h.1.1.1.1.0;
+        mark = h.1.1.1.1.1;
       },
-      λ e. (e.id, (e.start_node, (e.end_node, (e.right_face, (e.left_face, (e.right_edge, (e.left_edge, e.mark))))))),
+      λ e. (e.id, ((e.start_node, e.end_node), ((e.right_face, e.left_face), (e.right_edge, (e.left_edge, e.mark))))),
     )
 
 -- on a row of faces

@@ -69,32 +69,32 @@ face_lines at A last k column row =
     range_line at 1 last k column row
     or beyond_line at A (faces_around A) 2 k column cell (A.is_tiled && is_first (reference_in cell).id) (reference_in cell).tile (reference_in cell).ext
 
--- the lines on the wings and the mark of row k of edges
-abbrev pub edge_wing_lines : Around → EdgesAt → Ranges → ℕ → Row → Option Disagreement
-edge_wing_lines A columns most k row =
-    cross_lines columns.at A (edges_around A) most.edges k columns.right_edge row
-    or cross_lines columns.at A (edges_around A) most.edges k columns.left_edge row
+-- the lines on the nodes where row k of edges begins and ends, whose tile has so many
+abbrev pub edge_end_lines : Around → EdgesAt → (last k : ℕ) → Row → Option Disagreement
+edge_end_lines A columns last k row =
+    cross_lines columns.at A (nodes_around A) last k columns.start_node row
+    or cross_lines columns.at A (nodes_around A) last k columns.end_node row
+
+-- the lines on its faces
+abbrev pub edge_side_lines : Around → EdgesAt → (last k : ℕ) → Row → Option Disagreement
+edge_side_lines A columns last k row =
+    face_lines columns.at A last k columns.right_face row
+    or face_lines columns.at A last k columns.left_face row
+
+-- the lines on its wings and its mark
+abbrev pub edge_wing_lines : Around → EdgesAt → (last k : ℕ) → Row → Option Disagreement
+edge_wing_lines A columns last k row =
+    cross_lines columns.at A (edges_around A) last k columns.right_edge row
+    or cross_lines columns.at A (edges_around A) last k columns.left_edge row
     or mark_line columns.at k columns.tile_line row
-
--- the lines on its faces, and those behind them
-abbrev pub edge_face_lines : Around → EdgesAt → Ranges → ℕ → Row → Option Disagreement
-edge_face_lines A columns most k row =
-    face_lines columns.at A most.faces k columns.right_face row
-    or face_lines columns.at A most.faces k columns.left_face row
-    or edge_wing_lines A columns most k row
-
--- the lines on its nodes, and those behind them
-abbrev pub edge_node_lines : Around → EdgesAt → Ranges → ℕ → Row → Option Disagreement
-edge_node_lines A columns most k row =
-    cross_lines columns.at A (nodes_around A) most.nodes k columns.start_node row
-    or cross_lines columns.at A (nodes_around A) most.nodes k columns.end_node row
-    or edge_face_lines A columns most k row
 
 -- the lines on row k of edges, whose tile has so many nodes, faces and edges
 abbrev pub edge_row_lines : Around → EdgesAt → Ranges → ℕ → Row → Option Disagreement
 edge_row_lines A columns most k row =
     id_line columns.at k columns.id row
-    or edge_node_lines A columns most k row
+    or edge_end_lines A columns most.nodes k row
+    or edge_side_lines A columns most.faces k row
+    or edge_wing_lines A columns most.edges k row
 
 -- the lines on row k of faces: the universe may have no ring
 abbrev pub face_row_lines : TableAt → List Col → (rings k : ℕ) → Row → Option Disagreement

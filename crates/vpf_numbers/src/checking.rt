@@ -1,6 +1,6 @@
 //! The tables of a tile, looked at in reading order.
 
-ghost use Rattle.std.specs.Prelude.{◌≡◌, ◌<◌, ◌^◌, IfOk, Some};
+ghost use Rattle.std.specs.Prelude.{◌≡◌, ◌<◌, ◌^◌, IfOk, Some, is_some};
 ghost use Rattle.vpf_findings.specs.Firsts.{Tells};
 ghost use Rattle.vpf_prims.specs.Inner.Owning.{NamesItsOwn};
 ghost use Rattle.vpf_prims.specs.Reading.{primitives_of};
@@ -54,7 +54,8 @@ fn places_of(number: u32, first: u32, views: &PrimitiveViews<'_>) -> Places
 }
 
 /// The columns of the tables of the tile of this number, the first of whose files stands at `first` among those that were read, where nothing
-/// disagrees in its columns, ids, references and marks. Else the first finding: table by table, in each the columns and then the rows.
+/// disagrees in its columns, ids, references and marks: in a tiled coverage with what the rows of edges say, which is so read once. Else the
+/// first finding: table by table, in each the columns and then the rows.
 #[tactic(auto, unfolding(crate::specs::TableLines::numbers_finding))]
 pub fn check_tables<'a>(
     alloc: Global,
@@ -69,6 +70,7 @@ pub fn check_tables<'a>(
     requires few { first < 2 ^ 31 }
     ensures first { Tells result (numbers_finding number around.now (record { first = first; tables = tables_in_view views.now })) }
     ensures columns { IfOk result (AreColumnsOf (tables_in_view views.now)) }
+    ensures kept { IfOk result (λ columns. is_some columns.edge_rows ≡ around.now.is_tiled) }
     ensures owns { IfOk result (λ _. NamesItsOwn (primitives_of (tables_in_view views.now))) }
 {
     let most = Ranges {
@@ -78,7 +80,7 @@ pub fn check_tables<'a>(
     };
     let rings = views.rng.len();
     let at = places_of(number, first, views);
-    let edges = check_edges(alloc, at.edg, around, most, &views.edg)?;
+    let (edges, edge_rows) = check_edges(alloc, at.edg, around, most, &views.edg)?;
     let ring_ptr = check_faces(at.fac, around.fac(), rings, &views.fac)?;
     let (face_id, start_edge) = check_rings(
         at.rng,
@@ -98,6 +100,7 @@ pub fn check_tables<'a>(
     let containing_face = check_entities(at.end, around.end(), most.faces, views.end.as_ref())?;
     Ok(TileColumns {
         edges,
+        edge_rows,
         ring_ptr,
         face_id,
         start_edge,

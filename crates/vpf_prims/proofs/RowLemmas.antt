@@ -1,5 +1,5 @@
 -- Rows that are read one after another.
-use Rattle.std.proofs.Common.{[], ◌≡◌, ◌+◌, Option, Err, List, ◌∷◌, ◌++◌, map, append_assoc, sym, ap, ◌∙◌}
+use Rattle.std.proofs.Common.{[], ◌≡◌, Option, Err, List, ◌∷◌, ◌++◌, map, append_assoc, sym, ap, ◌∙◌}
 use Rattle.vpf_table.specs.Firsts.{◌or◌, Tells}
 use Rattle.vpf_table.specs.Findings.{Disagreement, disagreement_of}
 use Rattle.vpf_table.specs.FindError.{FindError}

@@ -1,6 +1,6 @@
 //! A tile of a coverage, or an untiled coverage, seen in its files.
 
-ghost use Rattle.std.specs.Prelude.{◌≡◌, ◌≤◌};
+ghost use Rattle.std.specs.Prelude.{◌≡◌, ◌≤◌, Some};
 ghost use Rattle.vpf_prims.specs.Tables.{files_of_grid};
 
 use crate::citing::Citation;
@@ -23,7 +23,6 @@ pub struct Tile<'a> {
     first: u32,
     columns: TileColumns<'a>,
     views: PrimitiveViews<'a>,
-    kept: Option<Vec<EdgeRow>>,
 }
 
 impl<'a> Model for Tile<'a> {
@@ -46,6 +45,29 @@ pub fn files_of(table: &TableView<'_>) -> u32
     if table.header().varies() { 2 } else { 1 }
 }
 
+/// The same columns, where what the rows of edges say is kept.
+fn with_rows<'a>(columns: TileColumns<'a>, rows: Vec<EdgeRow>) -> TileColumns<'a>
+    ensures { result ≡ record {
+      edges = columns.entry.edges;
+      edge_rows = Some rows;
+      ring_ptr = columns.entry.ring_ptr;
+      face_id = columns.entry.face_id;
+      start_edge = columns.entry.start_edge;
+      first_edge = columns.entry.first_edge;
+      containing_face = columns.entry.containing_face;
+    } }
+{
+    TileColumns {
+        edges: columns.edges,
+        edge_rows: Some(rows),
+        ring_ptr: columns.ring_ptr,
+        face_id: columns.face_id,
+        start_edge: columns.start_edge,
+        first_edge: columns.first_edge,
+        containing_face: columns.containing_face,
+    }
+}
+
 impl<'a> Tile<'a> {
     ghost use Rattle.std.specs.Prelude.{◌≡◌, ◌<◌, ◌≤◌, ◌+◌, ◌^◌, [], IfOk, None, Some, length, option_map};
     ghost use Rattle.vpf_value.specs.Values.{view};
@@ -62,7 +84,8 @@ impl<'a> Tile<'a> {
     ghost use Rattle.vpf_prims.specs.Inner.Owning.{NamesItsOwn};
     ghost use Rattle.vpf_prims.specs.Inner.Views.{AreColumnsOf, tables_in_view};
 
-    /// The tile of these tables and their columns, the first of whose files stands at this place among those that were read.
+    /// The tile of these tables and their columns, the first of whose files stands at this place among those that were read. It keeps what
+    /// the rows of edges say where the columns do.
     pub fn new(first: u32, views: PrimitiveViews<'a>, columns: TileColumns<'a>) -> Tile<'a>
         requires columns { AreColumnsOf (tables_in_view views) columns }
         requires owns { NamesItsOwn (primitives_of (tables_in_view views)) }
@@ -82,7 +105,6 @@ impl<'a> Tile<'a> {
             first,
             columns,
             views,
-            kept: None,
         }
     }
 
@@ -91,10 +113,11 @@ impl<'a> Tile<'a> {
     pub fn keeping_edges(self, alloc: Global) -> Result<Tile<'a>, AllocError>
         ensures { IfOk result (λ tile. tile ≡ self.entry) }
     {
-        let kept = rows_of(alloc, &self.columns.edges, &self.views.edg)?;
+        let rows = rows_of(alloc, &self.columns.edges, &self.views.edg)?;
         Ok(Tile {
-            kept: Some(kept),
-            ..self
+            first: self.first,
+            columns: with_rows(self.columns, rows),
+            views: self.views,
         })
     }
 
@@ -153,7 +176,7 @@ impl<'a> Tile<'a> {
         requires { IsRowOf (length (primitives_of self.now.tables).edges) e }
         ensures { result ≡ edge_row_of (kth (primitives_of self.now.tables).edges e absent_edge) }
     {
-        match &self.kept {
+        match &self.columns.edge_rows {
             Some(rows) => rows[(e - 1) as usize],
             None => self.columns.edges.row(&row_of(&self.views.edg, e)),
         }
@@ -202,7 +225,7 @@ impl<'a> Tile<'a> {
     pub fn own_edges(&self, alloc: Global) -> Result<Vec<Edge>, AllocError>
         ensures { IfOk result (λ edges. edges.items ≡ own_edges (primitives_of self.now.tables)) }
     {
-        match &self.kept {
+        match &self.columns.edge_rows {
             Some(rows) => numbers_in(alloc, rows),
             None => numbers_of(alloc, &self.columns.edges, &self.views.edg),
         }

@@ -2,6 +2,7 @@
 
 use crate::edges::EdgeColumns;
 use crate::placing::RoleColumn;
+use crate::rows::EdgeRow;
 use vpf_table::TableView;
 
 /// The primitive tables of a tile, or of an untiled coverage, whatever their rows say (MIL-STD-2407, 5.2.2, primitives).
@@ -19,11 +20,13 @@ pub struct PrimitiveViews<'a> {
     pub end: Option<TableView<'a>>,
 }
 
-/// The columns of those tables that refer to primitives.
+/// The columns of those tables that refer to primitives, and what rows say where that is kept.
 #[derive(Drop)]
 pub struct TileColumns<'a> {
     /// Those of edges.
     pub edges: EdgeColumns<'a>,
+    /// What the rows of edges say, in their order, where that is kept: 148 bytes an edge.
+    pub edge_rows: Option<Vec<EdgeRow>>,
     /// The first rings of faces.
     pub ring_ptr: RoleColumn<'a>,
     /// The faces of rings.

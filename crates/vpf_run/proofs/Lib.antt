@@ -5,3 +5,4 @@ pub mod Grammared
 pub mod CheckedAnswers
 pub mod TiledAnswers
 pub mod DrilledAnswers
+pub mod JoinedAnswers

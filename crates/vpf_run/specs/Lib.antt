@@ -4,4 +4,5 @@ pub mod Indexed
 pub mod Run
 pub mod Grammar
 pub mod Cutting
+pub mod Joining
 pub mod Inner

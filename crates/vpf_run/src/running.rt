@@ -21,6 +21,7 @@ ghost use Rattle.vpf_library_commands.specs.Tile.{TileParts, tile_answer};
 ghost use Rattle.vpf_prims.specs.Tables.{TileTables};
 ghost use Rattle.vpf_replies.specs.Making.{made_answer};
 ghost use Rattle.vpf_run.specs.Cutting.{IsAnsweredTiling, IsTiling, LacksAfter};
+ghost use Rattle.vpf_run.specs.Joining.{IsJoining};
 ghost use Rattle.vpf_drill.specs.Cutting.{IsCutFrom, cut_files};
 ghost use Rattle.vpf_drill.specs.Request.{CanBeAsked};
 ghost use Rattle.vpf_drill.specs.Tilings.{StandsAlone};
@@ -36,7 +37,7 @@ ghost use Rattle.vpf_table_commands.specs.Rows.{IndexAgrees};
 ghost use Rattle.vpf_feature_commands.specs.declared.requesting.SelectRequest.{SelectRequest};
 ghost use Rattle.vpf_feature_commands.specs.Plain.{FeatureIndexAgrees, plain_select_answer};
 ghost use Rattle.vpf_run.specs.declared.command.Command.{Command};
-ghost use Rattle.vpf_run.specs.declared.command.Command.TheVariants.{Check, Drill, Index, Rows, Select, Tile, Trace};
+ghost use Rattle.vpf_run.specs.declared.command.Command.TheVariants.{Check, Drill, Glue, Index, Rows, Select, Tile, Trace};
 ghost use Rattle.vpf_run.specs.Commands.{command_of, IsAnswerTo, IsAnswer, IsAnswerAlone};
 ghost use Rattle.vpf_run.specs.Grammar.{HasFile, IsOver, SaysOfTable};
 ghost use Rattle.vpf_run.specs.Indexed.{AsksForIndexed, IsPlainAnswer};
@@ -53,6 +54,7 @@ use vpf_drill::laws::{one_drill, requests_can_be_asked};
 use vpf_drill::tile_theorem::tilings::laws::{requests_have_names, tiles_are_made, tilings_agree};
 use vpf_feature_commands::laws::plain_selections;
 use vpf_feature_commands::select;
+use vpf_library_commands::laws::glue_decides_agreement;
 use vpf_library_commands::{check, glue, tile, trace};
 use vpf_replies::{Halt, Reply, Stop, settle};
 use vpf_source::{DeviceError, Sink, Tree, make_all, put_all};
@@ -292,6 +294,11 @@ pub fn run<T: Tree, O: Sink>(alloc: Global, words: &[String], tree: &mut T, out:
         → result ≡ Status.Done → StandsAlone before request.out (tile_answer before request).made → LacksAfter before after request
         → IsAnsweredTiling before after request }
 
+    // `glue` is done only where a coverage in tiles agrees with its features. Then the tree holds besides the files of the coverage that its tiles are glued
+    // to: tables that say it, the table of tiles, the plan that names the tile of each face; and behind them those of its features.
+    ensures joined { (before after : Files) (request : MakeRequest) → HoldsBytes before → command_of (map string_bytes words.now) ≡ Some (Glue request)
+        → T.files tree.old ≡ Some before → T.files tree.new ≡ Some after → result ≡ Status.Done → IsJoining before after request }
+
     // A fault is answered exactly where its count rose in this call; where neither rose, the run is completed.
     ensures tree_fault { result ≡ Status.TreeFault → Rose (T.faults tree.old) (T.faults tree.new) }
     ensures tree_stood { result ≢ Status.TreeFault → Stood (T.faults tree.old) (T.faults tree.new) }
@@ -318,6 +325,7 @@ pub fn run<T: Tree, O: Sink>(alloc: Global, words: &[String], tree: &mut T, out:
     tiles_are_made();
     tilings_agree();
     requests_have_names();
+    glue_decides_agreement();
     plain_answers();
     plain_selections();
     one_answer();

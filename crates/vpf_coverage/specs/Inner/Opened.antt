@@ -1,5 +1,5 @@
 -- Tables that were opened, with the columns that were found in them, tile by tile.
-use Rattle.std.specs.Prelude.{◌≡◌, ℕ, ◌+◌, ◌<◌, ◌≤◌, ◌^◌, All, List, [], ◌∷◌, length, Option, Some, None, IfSome}
+use Rattle.std.specs.Prelude.{◌≡◌, ◌+◌, ◌<◌, ◌^◌, All, List, [], ◌∷◌, length, Option, Some, None}
 use Rattle.vpf_prims.specs.declared.views.PrimitiveViews.{PrimitiveViews}
 use Rattle.vpf_prims.specs.declared.views.TileColumns.{TileColumns}
 use Rattle.vpf_prims.specs.Coverages.{CoverageTables}
@@ -8,7 +8,6 @@ use Rattle.vpf_prims.specs.Inner.Owning.{NamesItsOwn}
 use Rattle.vpf_prims.specs.Reading.{primitives_of}
 use Rattle.vpf_prims.specs.Inner.Views.{AreColumnsOf, tables_in_view}
 use Rattle.vpf_coverage.specs.declared.opening.opening.OpenCoverage.{OpenCoverage}
-use Rattle.vpf_coverage.specs.Inner.Opening.Opened.{opened_coverage}
 
 -- these are the columns of a tile's tables, whose rows name what is there
 pub record AreRight (views : PrimitiveViews) (columns : TileColumns) : Type 0 where

@@ -1,6 +1,6 @@
 //! The tables of a coverage, opened tile by tile.
 
-ghost use Rattle.std.specs.Prelude.{◌≡◌, ◌∷◌, ◌<◌, ◌≤◌, ◌^◌, List, All, IfOk, OnOk, Option, None, get_or, length};
+ghost use Rattle.std.specs.Prelude.{◌≡◌, ◌∷◌, ◌<◌, ◌≤◌, ◌^◌, List, All, IfOk, OnOk, IfSome, Option, None, get_or, length};
 ghost use Rattle.std.specs.Option.{option_map};
 ghost use Rattle.vpf_source.specs.declared.file.File.{File as SourceFile};
 ghost use Rattle.vpf_table.specs.Grid.{Grid};
@@ -11,7 +11,7 @@ ghost use Rattle.vpf_library_files.specs.Tileref.Stops.{path_texts, tileref_stop
 ghost use Rattle.vpf_library_files.specs.Loading.Holding.{AreCoverageFiles, AreOfCoverage, AreTiledFiles};
 ghost use Rattle.vpf_library_files.specs.Loading.Loading.{within};
 ghost use Rattle.vpf_prims.specs.Inner.Views.{tables_in_view};
-ghost use Rattle.vpf_coverage.specs.Inner.Opening.Opened.{opened_coverage, placed_views, tables_in_views};
+ghost use Rattle.vpf_coverage.specs.Inner.Opening.Opened.{names_in, opened_coverage, placed_views, tables_in_views};
 ghost use Rattle.vpf_coverage.specs.Inner.Opening.Opens.{IsOpeningFolder, OpensFolder};
 ghost use Rattle.vpf_coverage.specs.Inner.Opening.OpensTiles.{AreOpeningTiles, FilesOpen, IsOpeningCoverage, IsOpeningTiled, IsOpeningTileref};
 ghost use Rattle.vpf_coverage.specs.Inner.Opening.OpensTiles.{OpensCoverage, OpensTiled, OpensTileref, OpensTiles};
@@ -27,11 +27,35 @@ use vpf_source::File;
 use vpf_table::TableView;
 use vpf_table::laws::{opened_is_read, spelled_is_opened};
 
+/// The paths of the tiles of a coverage: read where it was opened, or kept by the tables that it was opened from.
+#[derive(Drop)]
+pub enum Paths<'a> {
+    /// They were read.
+    Read(TilePaths),
+    /// They are kept elsewhere.
+    Kept(&'a TilePaths),
+}
+
+impl<'a> Paths<'a> {
+    ghost use Rattle.std.specs.Prelude.{◌≡◌};
+    ghost use Rattle.vpf_coverage.specs.Inner.Opening.Opened.{names_in};
+
+    /// The paths, whoever keeps them.
+    pub fn names(&self) -> &TilePaths
+        ensures { result.now ≡ names_in self.now }
+    {
+        match self {
+            Paths::Read(paths) => paths,
+            Paths::Kept(paths) => paths,
+        }
+    }
+}
+
 /// The tables of a coverage, opened.
 #[derive(Drop)]
 pub struct OpenCoverage<'a> {
     /// The paths of its tiles, where it is tiled.
-    pub paths: Option<TilePaths>,
+    pub paths: Option<Paths<'a>>,
     /// Where the first file of each tile stands among all, from 0: by the tiles' numbers from 0.
     pub firsts: Vec<u32>,
     /// The tables of each tile, none where it is empty: a tiled coverage has no tile 0, an untiled one has it alone.
@@ -59,18 +83,37 @@ fn files_open()
     stops_decide();
 }
 
+/// The paths in the table of tiles, which is read where they aren't known.
+fn known_paths<'a>(
+    alloc: Global,
+    known: Option<&'a TilePaths>,
+    table: &TableView<'_>,
+) -> Result<Paths<'a>, AllocError>
+    requires right { tileref_stop table.now ≡ None }
+    requires known { IfSome known (λ paths. paths.now ≡ path_texts table.now) }
+    ensures { IfOk result (λ paths. names_in paths ≡ path_texts table.now) }
+{
+    match known {
+        Some(paths) => Ok(Paths::Kept(paths)),
+        None => Ok(Paths::Read(paths_in(alloc, table)?)),
+    }
+}
+
 /// The paths in the table of tiles, and how many files it is, which are taken.
-fn open_paths<'a>(alloc: Global, files: &mut Unopened<'a>) -> Result<(TilePaths, u32), AllocError>
+fn open_paths<'a>(alloc: Global, files: &mut Unopened<'a>) -> Result<(Paths<'a>, u32), AllocError>
     requires { IsOpeningTileref files.old }
     ensures paths { (tileref : Grid) (rest : List SourceFile) → OpensTileref tileref rest files.old
-        → IfOk result (λ opened. opened.0 ≡ path_texts tileref) }
+        → IfOk result (λ opened. names_in opened.0 ≡ path_texts tileref) }
     ensures count { (tileref : Grid) (rest : List SourceFile) → OpensTileref tileref rest files.old
         → IfOk result (λ opened. opened.1 ≡ files_of_grid tileref) }
     ensures rest { (tileref : Grid) (rest : List SourceFile) → OpensTileref tileref rest files.old → OnOk result (files.new ≡ rest) }
     ensures few { IfOk result (λ opened. opened.1 ≤ 2) }
 {
+    spelled_is_opened();
+    opened_is_read();
+    let known = files.paths();
     let table = files.next_table(alloc, None)?;
-    let paths = paths_in(alloc, &table)?;
+    let paths = known_paths(alloc, known, &table)?;
     Ok((paths, files_of(&table)))
 }
 
@@ -154,7 +197,7 @@ fn open_tiled<'a>(
     ensures few { IfOk result (λ o. All (λ first. first < 2 ^ 31) o.firsts.items) }
 {
     let (paths, at) = open_paths(alloc, &mut files)?;
-    let (firsts, tiles) = open_tiles(alloc, folder, &paths, at, files)?;
+    let (firsts, tiles) = open_tiles(alloc, folder, paths.names(), at, files)?;
     Ok(OpenCoverage {
         paths: Some(paths),
         firsts,

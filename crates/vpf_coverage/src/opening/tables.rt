@@ -6,36 +6,38 @@ ghost use Rattle.vpf_table.specs.Grid.{Grid};
 ghost use Rattle.vpf_table.specs.Inner.Counts.{IsCountOf};
 ghost use Rattle.vpf_table.specs.Opening.{opened_of};
 ghost use Rattle.vpf_table.specs.Reading.{table_of};
-ghost use Rattle.vpf_library_files.specs.Inner.Loading.Counting.{AreCounted, IsFirstCounted};
+ghost use Rattle.vpf_library_files.specs.Inner.Loading.Counting.{AreCounted, IsFirstCounted, IsFirstNamed};
 ghost use Rattle.vpf_library_files.specs.Loading.Loading.{within};
 ghost use Rattle.vpf_coverage.specs.Inner.Opening.Opens.{IsOpening, Opens, is_first_file};
 
 use std::alloc::{AllocError, Global};
 use std::marker::Model;
 use vpf_library_files::loading::{LoadedTables, within};
+use vpf_library_files::tileref::TilePaths;
 use vpf_source::File;
 use vpf_table::laws::{opened_is_read, spelled_is_opened};
 use vpf_table::{Counted, TableFile, TableView};
 use vpf_triplet::PlaceError;
 
-/// Files of tables that are still to be opened, one table behind another, and what counting the rows of each found, where that is known. Contracts see
-/// them as the files.
+/// Files of tables that are still to be opened, one table behind another, and where they are known, what counting the rows of each found, and the paths of
+/// tiles that the first names. Contracts see them as the files.
 #[derive(Drop)]
 pub(crate) struct Unopened<'a> {
     files: &'a [File],
     counts: Option<&'a [Counted]>,
+    paths: Option<&'a TilePaths>,
 }
 
 impl<'a> Model for Unopened<'a> {
-    ghost use Rattle.std.specs.Prelude.{IfSome, List};
+    ghost use Rattle.std.specs.Prelude.{List};
     ghost use Rattle.vpf_source.specs.declared.file.File.{File};
-    ghost use Rattle.vpf_library_files.specs.Inner.Loading.Counting.{AreCounted};
+    ghost use Rattle.vpf_coverage.specs.Inner.Opening.Unopened.{AreKnown};
 
     ghost Value = { List File };
 
     ghost view = { λ u. u.files.now };
 
-    ghost invariant = { λ u. IfSome u.counts (λ counts. AreCounted u.files.now counts.now) };
+    ghost invariant = { AreKnown };
 }
 
 /// The next file, which is taken.
@@ -162,6 +164,7 @@ impl<'a> Unopened<'a> {
         Unopened {
             files,
             counts: None,
+            paths: None,
         }
     }
 
@@ -172,7 +175,15 @@ impl<'a> Unopened<'a> {
         Unopened {
             files: tables.files(),
             counts: Some(tables.counts()),
+            paths: tables.paths(),
         }
+    }
+
+    /// The paths that the first table names, where they are known.
+    pub(crate) fn paths(&self) -> Option<&'a TilePaths>
+        ensures { IfSome result (λ paths. IsFirstNamed self.now paths.now) }
+    {
+        self.paths
     }
 
     /// Whether there are files, and the first of them has the name in the folder.
@@ -205,7 +216,11 @@ impl<'a> Unopened<'a> {
         let file = next_file(&mut files);
         let (counted, counts) = next_count(self.counts);
         let table = table_of_file(alloc, like, file, counted, &mut files)?;
-        *self = Unopened { files, counts };
+        *self = Unopened {
+            files,
+            counts,
+            paths: None,
+        };
         Ok(table)
     }
 }

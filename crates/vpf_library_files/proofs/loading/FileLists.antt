@@ -1,5 +1,5 @@
 -- Lists of files that a tree holds.
-use Rattle.std.proofs.Common.{[], ◌+◌, List, ◌∷◌, ◌++◌}
+use Rattle.std.proofs.Common.{[], List, ◌∷◌, ◌++◌}
 use Rattle.vpf_source.specs.Files.{Files}
 use Rattle.vpf_source.specs.declared.file.File.{File}
 use Rattle.vpf_library_files.specs.Loading.Holding.{AreHeld}

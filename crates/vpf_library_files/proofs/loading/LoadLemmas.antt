@@ -31,10 +31,10 @@ loaded_is (Some bytes) found e = ap Some (loaded_within (nat_le (length bytes) m
 -- a table whose rows vary, with its own index
 pub indexed : (of name bytes index items : List ℕ) (t g : Grid) → name ≡ index_name of → items ≡ index → varies_in g.head.columns ≡ true
     → table_of bytes ≡ Ok g → table_of bytes ≡ Ok t → IsOpened t bytes (Some index)
-    → (x : Grid) × AreFilesOf of x (loaded_file of bytes ∷ record { name = name; bytes = items } ∷ [])
+    → AreFilesOf of t (loaded_file of bytes ∷ record { name = name; bytes = items } ∷ [])
 indexed of name bytes index items t g named same varies read again opened =
     let one : t ≡ g = ok_is (sym again ∙ read) in
-    (t, inr (record { bytes = bytes; index = index; are = rw (named, same) refl; opened = opened; varies = rw one varies }))
+    inr (record { bytes = bytes; index = index; are = rw (named, same) refl; opened = opened; varies = rw one varies })
 
 -- a stop that is seen, where reading goes on
 onward : {V W : Type 0} (seen : Option LoadStop) (n : ℕ) (read : Read V) (next : V → ℕ → Read W)

@@ -1,6 +1,7 @@
 -- Files are of one table alone, and a table that is read is that of its files.
-use Rattle.std.proofs.Common.{[], ◌≡◌, ◌∙◌, ◌⊎◌, inl, inr, ℕ, Bool, true, false, not, ◌==◌, List, ◌∷◌, ◌++◌, length, Option, None, Some, Ok, refl, sym, ap, subst}
-use Rattle.std.specs.Prelude.{if◌then◌else◌, is_some}
+use Rattle.std.proofs.Common.{[], ◌≡◌, ◌∙◌, ◌⊎◌, inl, inr, ℕ, Bool, true, false, not, ◌==◌, List, ◌∷◌, ◌++◌, length, Option, None, Some, Ok, Err, refl, sym, ap, subst}
+use Rattle.std.specs.Prelude.{IfOk, Result, if◌then◌else◌, is_some}
+use Rattle.std.specs.Option.{option_map}
 use Rattle.vpf_source.specs.Files.{Files}
 use Rattle.vpf_source.specs.declared.file.File.{File}
 use Rattle.vpf_head.specs.Head.{varies_in}
@@ -8,11 +9,13 @@ use Rattle.vpf_source.specs.Names.Indexes.{index_name}
 use Rattle.vpf_table.specs.Grid.{Grid}
 use Rattle.vpf_table.specs.Reading.{table_of}
 use Rattle.vpf_table.specs.Opening.{opened_of}
+use Rattle.vpf_table.specs.Spans.{IsOpened}
 use Rattle.vpf_base.proofs.Results.{ok_is}
+use Rattle.vpf_library_files.specs.declared.loading.loading.LoadStop.{LoadStop}
 use Rattle.vpf_library_files.specs.Loading.Loading.{LoadedTable, ◌and_then◌, loaded_file, files_in, grid_in, read_optional, read_optional_table, read_required, read_table, read_table_in, tabled, with_its_index, with_own_index}
 use Rattle.vpf_library_files.specs.Loading.Holding.{AreFilesOf, AreFilesOfOption}
-use Rattle.vpf_library_files.specs.Loading.Loads.{AddsOption, AddsTable, Comes, ReadsValue}
-use Rattle.vpf_library_files.specs.Inner.Loading.StepLaws.{gives, graded_is, steps, value_is}
+use Rattle.vpf_library_files.specs.Loading.Loads.{AddsOption, AddsTable, Comes, IsTableFound, LoadsAs, ReadsAs, ReadsValue, maybe}
+use Rattle.vpf_library_files.specs.Inner.Loading.StepLaws.{gives, graded_is, never_vary_both_ways, steps, value_is}
 use Rattle.vpf_library_files.proofs.loading.TableLaws.{OpenedIsRead, SpelledIsOpened}
 use Rattle.vpf_library_files.proofs.loading.HeldReads.{table_from}
 
@@ -62,9 +65,6 @@ files_read_option spelled read name (Some grid) files p = files_read spelled rea
 one_grid : (b c : List ℕ) (x y : Grid) → b ≡ c → table_of b ≡ Ok x → table_of c ≡ Ok y → x ≡ y
 one_grid b c x y same e f = ok_is (sym e ∙ ap table_of same ∙ f)
 
-never_both : (x y : Grid) → x ≡ y → varies_in x.head.columns ≡ false → varies_in y.head.columns ≡ true → ⊥
-never_both x y same f t = let e : false ≡ true = sym f ∙ ap (λ (g : Grid). varies_in g.head.columns) same ∙ t in cc
-
 -- files that begin with those of a table are of that table alone, and what is behind them is the same
 same_table : (name : List ℕ) (x y : Grid) (a b r s : List File) → AreRead name x a → AreRead name y b → a ++ r ≡ b ++ s → (x ≡ y) × (r ≡ s)
 same_table name x y a b r s (inl p) (inl q) e =
@@ -74,11 +74,11 @@ same_table name x y a b r s (inl p) (inl q) e =
 same_table name x y a b r s (inl p) (inr q) e =
     let begun = rw (p.are, q.are) at e in
     let bytes = same_bytes name p.bytes q.bytes r (loaded_file (index_name name) q.index ∷ s) begun in
-    absurd (never_both x y (one_grid p.bytes q.bytes x y bytes p.read q.read) p.one_length q.varies)
+    absurd (never_vary_both_ways x y (one_grid p.bytes q.bytes x y bytes p.read q.read) p.one_length q.varies)
 same_table name x y a b r s (inr p) (inl q) e =
     let begun = rw (p.are, q.are) at e in
     let bytes = same_bytes name p.bytes q.bytes (loaded_file (index_name name) p.index ∷ r) s begun in
-    absurd (never_both y x (one_grid q.bytes p.bytes y x (sym bytes) q.read p.read) q.one_length p.varies)
+    absurd (never_vary_both_ways y x (one_grid q.bytes p.bytes y x (sym bytes) q.read p.read) q.one_length p.varies)
 same_table name x y a b r s (inr p) (inr q) e =
     let begun = rw (p.are, q.are) at e in
     let i = loaded_file (index_name name) p.index in
@@ -246,3 +246,50 @@ option_adds spelled again told here name m n old new added there named tells rea
     subst (λ (b : Bool). Comes told (λ held. read_optional_table held name m) (λ t. AddsOption name old new b t) n) (sym tells)
     (subst (λ (x : List ℕ). Comes told (λ held. read_optional_table held x m) (λ t. AddsOption x old new (not (length added == 0)) t) n) named
     (option_here spelled again told here m n old new added reads are behind))
+
+-- ---- a table that was found in bytes
+
+abbrev files_found : (name bytes : List ℕ) → Option File → List File
+files_found name bytes index = loaded_file name bytes ∷ maybe index
+
+found_here : SpelledIsOpened → OpenedIsRead → (told : Option Files) (name bytes : List ℕ) (grid : Grid) (files : List File) (m n : ℕ)
+    → ((held : Files) → told ≡ Some held → ReadsValue (λ (v : List File) (t : LoadedTable). t.files ≡ v) files n (read_table_in held name bytes m))
+    → AreFilesOf name grid files → Comes told (λ held. read_table_in held name bytes m) (λ t. IsTableFound grid files t) n
+found_here spelled again None name bytes grid files m n reads are = record {
+  value = table_from grid files;
+  is = record { grid_is = refl; files_are = refl };
+  comes = λ held e. absurd (not_told held e);
+}
+found_here spelled again (Some told) name bytes grid files m n reads are =
+    let r = reads told refl in
+    let one = same_table name grid r.value.grid files r.value.files [] [] (files_read spelled again name grid files are) (table_in_read again told name bytes r.value m n r.comes)
+    (ap (λ (x : List File). x ++ []) (sym r.is)) in
+    record {
+      value = r.value;
+      is = record { grid_is = sym one.0; files_are = r.is };
+      comes = λ held e. subst (λ (x : Files). read_table_in x name bytes m ≡ (Ok r.value, n)) (one_held told held e) r.comes;
+    }
+
+pub found_comes : {V : Type 0} → SpelledIsOpened → OpenedIsRead → (told : Option Files) (name bytes : List ℕ) (m n : ℕ) (result : Result V LoadStop) (grid : V → Grid) (index : V → Option File)
+    → ((held : Files) → told ≡ Some held
+    → ReadsAs (λ (found : V) (t : LoadedTable). t.files ≡ files_found name bytes (index found)) result n (read_table_in held name bytes m))
+    → IfOk result (λ (found : V). AreFilesOf name (grid found) (files_found name bytes (index found)))
+    → LoadsAs told (λ held. read_table_in held name bytes m) (λ (found : V) t. IsTableFound (grid found) (files_found name bytes (index found)) t) result n
+found_comes spelled again told name bytes m n (Ok found) grid index reads are =
+    found_here spelled again told name bytes (grid found) (files_found name bytes (index found)) m n
+    (λ held e. let r = reads held e in record { value = r.value; comes = r.comes; is = r.is }) are
+found_comes spelled again told name bytes m n (Err stop) grid index reads are = reads
+
+-- a table that was found is opened with its index
+pub opened_beside : (name bytes : List ℕ) (grid : Grid) (index : Option File) → AreFilesOf name grid (files_found name bytes index)
+    → IsOpened grid bytes (option_map (λ (file : File). file.bytes) index)
+opened_beside name bytes grid None (inl p) =
+    let one : bytes ≡ p.bytes = same_bytes name bytes p.bytes [] [] p.are in
+    subst (λ (x : List ℕ). IsOpened grid x None) (sym one) p.opened
+opened_beside name bytes grid None (inr p) = let no : loaded_file name bytes ∷ [] ≡ loaded_file name p.bytes ∷ loaded_file (index_name name) p.index ∷ [] = p.are in cc
+opened_beside name bytes grid (Some file) (inl p) = let no : loaded_file name bytes ∷ file ∷ [] ≡ loaded_file name p.bytes ∷ [] = p.are in cc
+opened_beside name bytes grid (Some file) (inr p) =
+    let i = loaded_file (index_name name) p.index in
+    let one : bytes ≡ p.bytes = same_bytes name bytes p.bytes (file ∷ []) (i ∷ []) p.are in
+    let two : file ≡ i = same_file file i [] [] (same_rest (loaded_file name bytes) (loaded_file name p.bytes) (file ∷ []) (i ∷ []) p.are) in
+    subst (λ (x : List ℕ). IsOpened grid x (Some file.bytes)) (sym one) (subst (λ (x : List ℕ). IsOpened grid p.bytes (Some x)) (sym (ap (λ (f : File). f.bytes) two)) p.opened)

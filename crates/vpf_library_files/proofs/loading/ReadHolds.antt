@@ -5,7 +5,6 @@ use Rattle.std.proofs.lemmas.Bool.{leb-true}
 use Rattle.vpf_base.specs.Bytes.{IsBytes}
 use Rattle.vpf_base.specs.Limits.{most_bytes}
 use Rattle.vpf_source.specs.Files.{Files}
-use Rattle.vpf_source.specs.declared.file.File.{File}
 use Rattle.vpf_head.specs.Head.{varies_in}
 use Rattle.vpf_source.specs.Names.Indexes.{index_name}
 use Rattle.vpf_table.specs.declared.limit.Bound.TheVariants as bounds

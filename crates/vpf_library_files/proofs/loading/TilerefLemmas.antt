@@ -1,6 +1,5 @@
 -- What reading the table of tiles comes to.
 use Rattle.std.proofs.Common.{◌≡◌, ◌∙◌, ℕ, List, [], ◌++◌, Option, Some, None, Ok, Err, refl, sym, ap, subst}
-use Rattle.std.specs.Prelude.{Result, codes}
 use Rattle.vpf_source.specs.Files.{Files}
 use Rattle.vpf_source.specs.declared.file.File.{File}
 use Rattle.vpf_table.specs.Grid.{Grid}
@@ -8,9 +7,9 @@ use Rattle.vpf_library_files.specs.Tileref.Stops.{StopsAt, TilerefStop, path_tex
 use Rattle.vpf_library_files.specs.declared.tileref.errors.TilerefError.{TilerefError}
 use Rattle.vpf_library_files.specs.declared.tileref.errors.TilerefError.TheVariants as errors
 use Rattle.vpf_library_files.specs.declared.loading.loading.LoadStop.{LoadStop}
-use Rattle.vpf_library_files.specs.Loading.Loading.{LoadedTable, read_table, read_tileref, tileref_name, unless_stopped, within}
+use Rattle.vpf_library_files.specs.Loading.Loading.{LoadedTable, ◌and_then◌, read_required, read_table, read_table_in, read_tileref, read_tileref_in, tileref_name, unless_stopped}
 use Rattle.vpf_library_files.specs.Loading.Holding.{AreFilesOf}
-use Rattle.vpf_library_files.specs.Loading.Loads.{AddsTable, Comes, IsTilerefOf, IsTilerefStop, LoadsAs, LoadsTileref, ReadsAs, ReadsStop, ReadsValue}
+use Rattle.vpf_library_files.specs.Loading.Loads.{Comes, IsTableFound, IsTilerefOf, IsTilerefStop, LoadsTileref, ReadsStop, ReadsValue}
 use Rattle.vpf_library_files.proofs.loading.LoadLemmas.{stops_all}
 
 -- nothing ends the reading of the table
@@ -39,39 +38,70 @@ pub stops_so : (V : Type 0) (name : List ℕ) (t : LoadedTable) (g : Grid) (erro
 stops_so V name t g error stop loaded same h is =
     stops_by V name t (tileref_stop t.grid) error stop loaded (subst (λ (x : Grid). StopsAt {V = V} (Err error) (tileref_stop x)) same h) is
 
--- the files of the table are stopped at
-pub table_stops : (held : Files) (lib here : List ℕ) (n0 n1 : ℕ) (stop : LoadStop) → here ≡ within lib (codes "tileref")
-    → ReadsStop stop n1 (read_table held (within here (codes "tileref.aft")) n0) → ReadsStop stop n1 (read_tileref held lib n0)
-table_stops held lib here n0 n1 stop named h =
-    stops_all stop n1 (read_table held (tileref_name lib) n0) _ (subst (λ (x : List ℕ). ReadsStop stop n1 (read_table held (within x (codes "tileref.aft")) n0)) named h)
+-- ---- the table in the bytes of its file
 
-abbrev TilerefLoads : (told : Option Files) (lib : List ℕ) (n0 n1 : ℕ) (new : List File) → Result (List (List ℕ)) LoadStop → Type 0
-TilerefLoads told lib n0 n1 new result =
-    LoadsAs told (λ held. read_tileref held lib n0) (λ (paths : List (List ℕ)) table. LoadsTileref (tileref_name lib) new paths table) result n1
+pub found_stops : (held : Files) (name bytes : List ℕ) (m n : ℕ) (stop : LoadStop) → ReadsStop stop n (read_table_in held name bytes m)
+    → ReadsStop stop n (read_tileref_in held name bytes m)
+found_stops held name bytes m n stop h = stops_all stop n (read_table_in held name bytes m) _ h
 
-tileref_here : (told : Option Files) (lib : List ℕ) (n0 n1 : ℕ) (new : List File) (t : LoadedTable) (result : Result (List (List ℕ)) LoadStop) → new ≡ t.files
-    → AreFilesOf (tileref_name lib) t.grid t.files → ((held : Files) → told ≡ Some held → read_table held (tileref_name lib) n0 ≡ (Ok t, n1))
-    → ReadsAs (IsTilerefOf t) result n1 (unless_stopped (tileref_name lib) (tileref_stop t.grid) t n1) → TilerefLoads told lib n0 n1 new result
-tileref_here told lib n0 n1 new t (Ok paths) all are comes r =
-    let last : unless_stopped (tileref_name lib) (tileref_stop t.grid) t n1 ≡ (Ok t, n1) = rw r.is.is at r.comes in
+-- what was read of it, whatever ends the reading of its rows
+abbrev pub FoundTileref : (told : Option Files) (name bytes : List ℕ) (m n : ℕ) → Grid → List File → Type 0
+FoundTileref told name bytes m n grid files = Comes told (λ held. read_table_in held name bytes m) (λ t. IsTableFound grid files t) n
+
+pub rows_stop : (told : Option Files) (name bytes : List ℕ) (m n : ℕ) (grid : Grid) (files : List File) (stop : LoadStop) → FoundTileref told name bytes m n grid files
+    → ((read : LoadedTable) (loaded : ℕ) → grid ≡ read.grid → ReadsStop stop loaded (unless_stopped name (tileref_stop read.grid) read loaded))
+    → (held : Files) → told ≡ Some held → ReadsStop stop n (read_tileref_in held name bytes m)
+rows_stop told name bytes m n grid files stop a p held e = rw (a.comes held e) (p a.value n (sym a.is.grid_is))
+
+pub rows_go_on : (told : Option Files) (name bytes : List ℕ) (m n : ℕ) (grid : Grid) (files own : List File) (paths : List (List ℕ)) → own ≡ files
+    → FoundTileref told name bytes m n grid files → AreFilesOf name grid files
+    → ((read : LoadedTable) (loaded : ℕ) → grid ≡ read.grid → ReadsValue (IsTilerefOf read) paths loaded (unless_stopped name (tileref_stop read.grid) read loaded))
+    → Comes told (λ held. read_tileref_in held name bytes m) (λ t. LoadsTileref name own paths t) n
+rows_go_on told name bytes m n grid files own paths kept a are p =
+    let t = a.value in
+    let r = p t n (sym a.is.grid_is) in
+    let last : unless_stopped name (tileref_stop t.grid) t n ≡ (Ok t, n) = rw r.is.is at r.comes in
+    let here : AreFilesOf name t.grid t.files = subst (λ (x : List File). AreFilesOf name t.grid x) (sym a.is.files_are) (subst (λ (x : Grid). AreFilesOf name x files) (sym a.is.grid_is) are) in
     record {
       value = t;
-      is = record { all = all; are = are; goes_on = r.is.goes_on; names = r.is.names };
-      comes = λ held h. rw (comes held h) last;
+      is = record { all = kept ∙ sym a.is.files_are; are = here; goes_on = r.is.goes_on; names = r.is.names };
+      comes = λ held e. rw (a.comes held e) last;
     }
-tileref_here told lib n0 n1 new t (Err stop) all are comes r = λ held h. rw (comes held h) r
 
-pub tileref_loads : (told : Option Files) (lib here name : List ℕ) (n0 n1 : ℕ) (old new slice : List File) (result : Result (List (List ℕ)) LoadStop)
-    → here ≡ within lib (codes "tileref") → name ≡ within here (codes "tileref.aft") → old ≡ [] → slice ≡ new
-    → Comes told (λ held. read_table held (within here (codes "tileref.aft")) n0) (λ t. AddsTable (within here (codes "tileref.aft")) old new t) n1
-    → ((table : LoadedTable) (loaded : ℕ) → AreFilesOf name table.grid slice → ReadsAs (IsTilerefOf table) result loaded (unless_stopped name (tileref_stop table.grid) table loaded))
-    → TilerefLoads told lib n0 n1 new result
-tileref_loads told lib here name n0 n1 old new slice result h n none whole a p =
-    let aft : List ℕ → List ℕ = λ (x : List ℕ). within x (codes "tileref.aft") in
-    let named : name ≡ tileref_name lib = n ∙ ap aft h in
-    let b = subst (λ (x : List ℕ). Comes told (λ held. read_table held (within x (codes "tileref.aft")) n0) (λ t. AddsTable (within x (codes "tileref.aft")) old new t) n1) h a in
-    let t = b.value in
-    let all : new ≡ t.files = b.is.behind ∙ ap (λ (x : List File). x ++ t.files) none in
-    let here_are = subst (λ (x : List ℕ). AreFilesOf x t.grid slice) (sym named) (subst (λ (y : List File). AreFilesOf (tileref_name lib) t.grid y) (sym (whole ∙ all)) b.is.are) in
-    let r = subst (λ (x : List ℕ). ReadsAs (IsTilerefOf t) result n1 (unless_stopped x (tileref_stop t.grid) t n1)) named (p t n1 here_are) in
-    tileref_here told lib n0 n1 new t result all b.is.are b.comes r
+-- ---- the table of a library, by the bytes of its file
+
+abbrev ReadsBytes : {V : Type 0} → (told : Option Files) (name : List ℕ) (m n : ℕ) → (V → List ℕ) → V → Type 0
+ReadsBytes {V} told name m n items v = (held : Files) → told ≡ Some held → ReadsValue (λ (x : V) (file : List ℕ). file ≡ items x) v n (read_required held name m)
+
+bytes_then : (held : Files) (name bytes found : List ℕ) (m n : ℕ) → read_required held name m ≡ (Ok found, n) → found ≡ bytes
+    → read_table held name m ≡ read_table_in held name bytes n
+bytes_then held name bytes found m n e same = rw (e, same) refl
+
+pub library_stops : {V : Type 0} → (told now : Option Files) (lib name : List ℕ) (n0 n1 n2 : ℕ) (items : V → List ℕ) (v : V) (stop : LoadStop) → name ≡ tileref_name lib → now ≡ told
+    → ReadsBytes told name n0 n1 items v → ((held : Files) → now ≡ Some held → ReadsStop stop n2 (read_tileref_in held name (items v) n1))
+    → (held : Files) → told ≡ Some held → ReadsStop stop n2 (read_tileref held lib n0)
+library_stops told now lib name n0 n1 n2 items v stop named same read h held e =
+    let r = read held e in
+    let last = h held (same ∙ e) in
+    subst (λ (x : List ℕ). ReadsStop stop n2 (read_table held x n0 and_then λ table n. unless_stopped x (tileref_stop table.grid) table n)) named
+    (rw (bytes_then held name (items v) r.value n0 n1 r.comes r.is) last)
+
+pub library_loads : {V : Type 0} → (told now : Option Files) (lib name : List ℕ) (n0 n1 n2 : ℕ) (items : V → List ℕ) (v : V) (old new files : List File) (paths : List (List ℕ))
+    → name ≡ tileref_name lib → now ≡ told → old ≡ [] → new ≡ old ++ files → ReadsBytes told name n0 n1 items v
+    → Comes now (λ held. read_tileref_in held name (items v) n1) (λ t. LoadsTileref name files paths t) n2
+    → Comes told (λ held. read_tileref held lib n0) (λ t. LoadsTileref (tileref_name lib) new paths t) n2
+library_loads told now lib name n0 n1 n2 items v old new files paths named same none behind read h =
+    let all : new ≡ files = behind ∙ ap (λ (x : List File). x ++ files) none in
+    subst (λ (x : List ℕ). Comes told (λ held. read_table held x n0 and_then λ table n. unless_stopped x (tileref_stop table.grid) table n) (λ t. LoadsTileref x new paths t) n2) named
+    (record {
+      value = h.value;
+      is = record { all = all ∙ h.is.all; are = h.is.are; goes_on = h.is.goes_on; names = h.is.names };
+      comes = λ held e. let r = read held e in rw (bytes_then held name (items v) r.value n0 n1 r.comes r.is) (h.comes held (same ∙ e));
+    })
+
+-- its file is stopped at
+pub bytes_stop : (held : Files) (lib name : List ℕ) (n0 n1 : ℕ) (stop : LoadStop) → name ≡ tileref_name lib → ReadsStop stop n1 (read_required held name n0)
+    → ReadsStop stop n1 (read_tileref held lib n0)
+bytes_stop held lib name n0 n1 stop named h =
+    subst (λ (x : List ℕ). ReadsStop stop n1 (read_table held x n0 and_then λ table n. unless_stopped x (tileref_stop table.grid) table n)) named
+    (stops_all stop n1 (read_table held name n0) _ (stops_all stop n1 (read_required held name n0) (read_table_in held name) h))

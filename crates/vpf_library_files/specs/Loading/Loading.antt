@@ -176,6 +176,10 @@ abbrev pub read_tileref : Files → (lib : List ℕ) → ℕ → Read LoadedTabl
 read_tileref files lib loaded =
     read_table files (tileref_name lib) loaded and_then λ table n. unless_stopped (tileref_name lib) (tileref_stop table.grid) table n
 
+-- the same of the bytes of its file
+abbrev pub read_tileref_in : Files → (name bytes : List ℕ) → ℕ → Read LoadedTable
+read_tileref_in files name bytes loaded = read_table_in files name bytes loaded and_then λ table n. unless_stopped name (tileref_stop table.grid) table n
+
 -- the tables of tiles, each where the first of its files stands among all
 abbrev pub placed : (at : ℕ) → List (Option LoadedTile) → List (Option TileTables)
 placed at [] = []

@@ -49,6 +49,11 @@ abbrev pub LoadsAs : {V W : Type 0} → Option Files → (Files → Read W) → 
 LoadsAs told reading Is (Ok answered) loaded = Comes told reading (Is answered) loaded
 LoadsAs told reading Is (Err stop) loaded = (held : Files) → told ≡ Some held → ReadsStop stop loaded (reading held)
 
+-- the table that was read is this one, of these files
+pub record IsTableFound (grid : Grid) (files : List File) (table : LoadedTable) : Type 0 where
+  pub grid_is : table.grid ≡ grid
+  pub files_are : table.files ≡ files
+
 -- the files of a table stand behind those that were there
 pub record AddsTable (name : List ℕ) (old new : List File) (table : LoadedTable) : Type 0 where
   pub behind : new ≡ old ++ table.files

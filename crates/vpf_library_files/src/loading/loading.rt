@@ -22,13 +22,14 @@ pub use files::optional_file;
 pub use loaded::LoadedTables;
 pub use names::within;
 use std::alloc::{AllocError, Global};
-pub use tables::{optional_table, required_table};
+pub use tables::{kept, required_table, table_beside};
 pub use tileref::load_tileref;
 pub use tiles::load_folder;
 use tiles::load_tiles;
 use vpf_findings::OwnFinding;
 use vpf_source::{File, Name, Tree};
 use vpf_table::Limit;
+use vpf_table::laws::{opened_is_read, spelled_is_opened};
 use vpf_triplet::Place;
 
 /// Why the files of a library aren't taken.
@@ -82,12 +83,14 @@ fn load_tiled<T: Tree>(
     ensures only { OnlyLoads T.files T.faults tree.old tree.new loaded.old loaded.new (IsErrOf result LoadStop.Fault) }
 {
     stops_decide();
+    spelled_is_opened();
+    opened_is_read();
     let mut tables = LoadedTables::new(alloc);
     let paths = load_tileref(alloc, tree, lib, loaded, &mut tables)?;
     if !load_tiles(alloc, tree, folder, &paths, loaded, &mut tables)? {
         return Err(LoadStop::Missing(first_edges(alloc, folder, &paths)?));
     }
-    Ok(tables)
+    Ok(tables.naming(paths))
 }
 
 /// The tables of a coverage, tiled or not.
@@ -111,8 +114,8 @@ fn load_tables<T: Tree>(
     load_tiled(alloc, tree, lib, folder.as_str(), loaded)
 }
 
-/// The tables of a coverage of a library, in reading order, as `load_coverage` gives their files, with what counting the rows of each found: so they are
-/// opened without counting them again. The stops are those of `load_coverage`, and `loaded` counts as it does there.
+/// The tables of a coverage of a library, in reading order, as `load_coverage` gives their files, with what counting the rows of each found, and the paths
+/// that a table of tiles names: so they are opened without reading either again. The stops are those of `load_coverage`, and `loaded` counts as it does there.
 pub fn load_coverage_tables<T: Tree>(
     alloc: Global,
     tree: &mut T,

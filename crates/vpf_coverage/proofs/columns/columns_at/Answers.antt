@@ -1,4 +1,4 @@
-use Rattle.std.proofs.Common.{◌≡◌, None, Some, refl, sym, ◌∙◌}
+use Rattle.std.proofs.Common.{refl}
 use Rattle.std.proofs.lemmas.Result.{err_from_is_err_and}
 use Rattle.vpf_coverage.proofs.PlaceLemmas.{empty_tile, some_tile, tables_here}
 use Rattle.vpf_coverage.proofs.columns.columns_at.Goals as goal

@@ -1,13 +1,7 @@
-use Rattle.std.proofs.Common.{◌≡◌, ℕ, ◌-◌, ◌+◌, ◌<◌, ◌^◌, None, Option, length, refl, sym, ap, subst, ◌∙◌, arith}
+use Rattle.std.proofs.Common.{◌≡◌, ℕ, ◌-◌, ◌+◌, length, ap, ◌∙◌, arith}
 use Rattle.std.proofs.lemmas.Result.{err_from_is_err_and}
-use Rattle.vpf_findings.specs.Findings.{Disagreement}
 use Rattle.vpf_findings.specs.Firsts.{first_over}
 use Rattle.vpf_findings.specs.Inner.FirstLaws.{over_pass}
-use Rattle.vpf_coverage.specs.Inner.Opening.Opened.{opened_coverage}
-use Rattle.vpf_numbers.specs.Around.{Around, around_of}
-use Rattle.vpf_numbers.specs.TableLines.{numbers_finding}
-use Rattle.vpf_prims.specs.Coverages.{tile_at}
-use Rattle.vpf_prims.specs.Libraries.{in_tile}
 use Rattle.vpf_coverage.proofs.PlaceLemmas.{around_is, placed_length}
 use Rattle.vpf_coverage.proofs.RightLemmas.{all_right, lines_whole, put_length, right_more, stops_all, tile_line}
 use Rattle.vpf_coverage.proofs.columns.columns_of.Goals as goal

@@ -1,9 +1,6 @@
 use Rattle.std.proofs.Common.{◌≡◌, ◌-◌, ◌<◌, ℕ, None, length, get_or}
 use Rattle.vpf_findings.specs.Firsts.{first_over}
-use Rattle.vpf_prims.specs.Coverages.{tile_at}
-use Rattle.vpf_prims.specs.Libraries.{in_tile}
-use Rattle.vpf_numbers.specs.Around.{around_of}
-use Rattle.vpf_numbers.specs.TableLines.{coverage_numbers, numbers_finding}
+use Rattle.vpf_numbers.specs.TableLines.{coverage_numbers}
 use Rattle.vpf_coverage.specs.Inner.Opening.Opened.{opened_coverage}
 use Rattle.vpf_coverage.specs.Inner.Opened.{AreRightIn}
 use Rattle.vpf_coverage.proofs.RightLemmas.{tile_line}

@@ -1,8 +1,4 @@
-use Rattle.std.proofs.Common.{◌≡◌, Err, Ok, sym, subst, ◌∙◌}
-use Rattle.std.proofs.lemmas.Result.{err_from_is_err_and}
-use Rattle.vpf_findings.specs.Firsts.{Tells}
-use Rattle.vpf_prims.specs.Coverages.{CoverageTables}
-use Rattle.vpf_numbers.specs.TableLines.{coverage_numbers}
+use Rattle.std.proofs.Common.{sym, subst}
 use Rattle.vpf_coverage.specs.Inner.Opened.{HasCountedTiles}
 use Rattle.vpf_coverage.proofs.FileLemmas.{is_counted}
 use Rattle.vpf_coverage.proofs.coverage.open_unopened.Goals as goal

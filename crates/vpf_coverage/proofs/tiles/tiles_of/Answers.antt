@@ -18,7 +18,7 @@ loop-views-preserved c =
     let views_is = c.in-Some.ensures.steps.0 in
     let columns_is = c.in-Some-next-2.ensures.items in
     record {
-      made = made_more c.loop-views.made.items c.push.new.self.items fs firsts ts tiles c.in-Some-next.first c.in-Some.views c.in_ok-tile_of.field-0 _ held.made first_is views_is c.in_ok-push.ensures.items c.in_ok-tile_of.ensures;
+      made = made_more c.loop-views.made.items c.push.new.self.items fs firsts ts tiles c.in-Some-next.first c.in-Some.views c.tile_of.result _ held.made first_is views_is c.in_ok-push.ensures.items c.tile_of.ensures;
       alike = alike_rest fs firsts ts tiles c.in-Some-next.first c.in-Some.views first_is views_is held.alike;
       right = (right_both ts tiles cs columns c.in-Some.views c.in-Some-next-2.columns views_is columns_is held.right).1;
       few = (few_both fs firsts c.in-Some-next.first first_is held.few).1;

@@ -1,23 +1,23 @@
-use Rattle.std.proofs.Common.{◌≡◌, map, sym}
-use Rattle.std.proofs.lemmas.Result.{err_from_is_err_and}
-use Rattle.vpf_feature_files.specs.SchemaRows.Joins.{feature_items}
-use Rattle.vpf_feature_files.specs.Inner.SchemaRows.Listing.{item_text}
-use Rattle.vpf_feature_files.specs.Schemas.{joins_of}
-use Rattle.vpf_feature_files.proofs.SchemaLemmas.{features_come, features_stop}
+use Rattle.std.proofs.Common.{◌≡◌, refl, rules}
+use Rattle.vpf_feature_files.specs.Reading.{schema_name}
+use Rattle.vpf_feature_files.proofs.SchemaLemmas.{no_schema, schema_loads}
 use Rattle.vpf_feature_files.proofs.schema.load_all.Goals as goal
 
-pub returns-in_err-tables-clause-reads : goal.returns-in_err-tables-clause-reads
-returns-in_err-tables-clause-reads g c =
-    let p = err_from_is_err_and c.from_residual-in_err-tables.result c.from_residual-in_err-tables.ensures.1 in
-    let fcs = c.in_ok-fcs.ensures.reads in
-    let said : map item_text c.in_ok-items.items.items ≡ feature_items (joins_of fcs.value) = c.in_ok-items.ensures c.args.folder.now fcs.value fcs.is in
-    rw (p.1, p.2) (features_stop (g.T.Tree.files c.args.tree.now) (g.T.Tree.files c.load_schema_table.new.tree) c.args.folder.now c.args.loaded.now
-    c.load_schema_table.new.loaded c.load_tables.new.loaded (map item_text c.in_ok-items.items.items) c.in_ok-fcs.fcs c.in_err-tables.field-0.0
-    c.load_schema_table.ensures.only.files fcs said (rw (sym c.deref.ensures.value) c.in_err-tables.ensures.reads))
+pub load_with-requires-clause-named : goal.load_with-requires-clause-named
+load_with-requires-clause-named g c =
+    let whole : c.new-name.result ≡ schema_name c.args.folder.now = search rules in
+    whole
 
-pub returns-clause-reads : goal.returns-clause-reads
-returns-clause-reads g c =
-    let fcs = c.in_ok-fcs.ensures.reads in
-    let said : map item_text c.in_ok-items.items.items ≡ feature_items (joins_of fcs.value) = c.in_ok-items.ensures c.args.folder.now fcs.value fcs.is in
-    features_come (g.T.Tree.files c.args.tree.now) (g.T.Tree.files c.load_schema_table.new.tree) c.args.folder.now c.args.loaded.now
-    c.load_schema_table.new.loaded c.load_tables.new.loaded (map item_text c.in_ok-items.items.items) _ c.load_schema_table.ensures.only.files fcs said (rw (sym c.deref.ensures.value) c.in_ok-tables.ensures.reads)
+pub returns-in-Some-clause-reads : goal.returns-in-Some-clause-reads
+returns-in-Some-clause-reads g c =
+    let named : c.as_str.result.now ≡ schema_name c.args.folder.now = search rules in
+    let whole : c.new-name.result ≡ schema_name c.args.folder.now = search rules in
+    schema_loads (g.T.Tree.files c.args.tree.now) (g.T.Tree.files c.optional_file.new.tree) c.args.folder.now c.new-name.result c.as_str.result.now c.args.loaded.now
+    c.optional_file.new.loaded c.load_with.new.loaded c.in_ok-bytes.field-0 c.in-Some.bytes c.load_with.result named whole c.optional_file.ensures.only.files
+    c.in_ok-bytes.ensures.told c.in-Some.is c.load_with.ensures.reads
+
+pub returns-in-None-clause-reads : goal.returns-in-None-clause-reads
+returns-in-None-clause-reads g c =
+    let named : c.as_str.result.now ≡ schema_name c.args.folder.now = search rules in
+    no_schema (g.T.Tree.files c.args.tree.now) c.args.folder.now c.as_str.result.now c.args.loaded.now c.optional_file.new.loaded c.in_ok-bytes.field-0 _ named
+    c.in_ok-bytes.ensures.told c.in-None.is refl c.new.ensures.items

@@ -1,5 +1,11 @@
-use Rattle.std.proofs.Common.{◌≡◌, ◌∙◌, ℕ, List, subst}
+use Rattle.std.proofs.Common.{◌≡◌, ◌∙◌, ℕ, List, Result, Err, arith, ap, subst}
 use Rattle.std.proofs.lemmas.Result.{err_from_is_err_and}
+use Rattle.vpf_base.proofs.Results.{no_ok}
+use Rattle.vpf_source.specs.Causes.{Rose}
+use Rattle.vpf_library_files.specs.declared.loading.loading.LoadStop.{LoadStop}
+use Rattle.vpf_library_files.specs.declared.loading.loading.LoadStop.TheVariants as stops
+use Rattle.vpf_feature_files.specs.declared.files.FeatureFiles.{FeatureFiles}
+use Rattle.vpf_featured.specs.declared.loading.FeaturedFiles.{FeaturedFiles}
 use Rattle.vpf_library_files.specs.Loading.Loading.{within}
 use Rattle.vpf_tiling.specs.Plan.Untiled.{read_untiled}
 use Rattle.vpf_library_files.specs.Loading.Loads.{ReadsStop, ReadsValue}
@@ -42,3 +48,23 @@ returns-clause-are g c =
     let named : c.as_str.result.now ≡ within c.args.lib.now c.args.cov.now = c.as_str.ensures.value ∙ c.in_ok-folder.ensures in
     both_are c.args.lib.now c.args.cov.now (record { coverage = c.in_ok-coverage.coverage; features = c.in_ok-features.features })
     c.in_ok-coverage.ensures.are (subst (λ (folder : List ℕ). AreOfSchema folder c.in_ok-features.features) named c.in_ok-features.ensures.are)
+
+-- a stop of one load stops another so
+abbrev stopped_by : (V : Type 0) → LoadStop → Result V LoadStop
+stopped_by V stop = Err stop
+
+stops_both : (V W : Type 0) (stop fault : LoadStop) → stopped_by V stop ≡ stopped_by V fault → stopped_by W stop ≡ stopped_by W fault
+stops_both V W stop fault e = let same : stop ≡ fault = cc in ap (stopped_by W) same
+
+pub returns-in_err-features-clause-only : goal.returns-in_err-features-clause-only
+returns-in_err-features-clause-only g c =
+    let p = err_from_is_err_and c.from_residual-in_err-features.result c.from_residual-in_err-features.ensures.1 in
+    let first = c.in_ok-coverage.ensures.only.stood (λ e. no_ok c.in_ok-coverage.coverage stops.Fault e) in
+    rw (p.1, p.2) (record {
+      files = c.load_features.ensures.files ∙ c.load_untiled.ensures.only.files;
+      later = omega (arith, c.load_features.ensures.later, c.load_untiled.ensures.only.later);
+      fault = λ failed. subst (λ (n : ℕ). Rose n (g.T.Tree.faults c.load_features.new.tree)) first (c.in_err-features.ensures.fault (stops_both FeaturedFiles FeatureFiles c.in_err-features.field-0.0 stops.Fault failed));
+      stood = λ fine. c.in_err-features.ensures.stood (λ failed. fine (stops_both FeatureFiles FeaturedFiles c.in_err-features.field-0.0 stops.Fault failed)) ∙ first;
+      rising = omega (arith, c.load_features.ensures.rising, c.load_untiled.ensures.only.rising);
+      most = c.load_features.ensures.most;
+    })

@@ -1,6 +1,7 @@
 -- What a reading that comes to a value says of its steps.
-use Rattle.std.proofs.Common.{◌≡◌, ℕ, List, Result, Ok, Err, refl, sym, ap}
+use Rattle.std.proofs.Common.{◌≡◌, ◌∙◌, ℕ, true, false, List, Result, Ok, Err, refl, sym, ap}
 use Rattle.vpf_triplet.specs.declared.places.Place.{Place}
+use Rattle.vpf_head.specs.Head.{varies_in}
 use Rattle.vpf_table.specs.Grid.{Grid}
 use Rattle.vpf_base.proofs.Results.{no_ok, ok_is}
 use Rattle.vpf_library_files.specs.declared.loading.loading.LoadStop.{LoadStop}
@@ -37,3 +38,7 @@ pub graded_is : {V : Type 0} (name : List ℕ) (over : Grid → ℕ → Read V) 
     → (grid : Grid) × (table ≡ Ok grid) × (over grid n ≡ (Ok v, k))
 graded_is name over (Ok grid) n v k e = (grid, refl, e)
 graded_is name over (Err place) n v k e = absurd (no_value (stops.Place name place) n k v e)
+
+-- the rows of one table don't both vary and not
+pub never_vary_both_ways : (x y : Grid) → x ≡ y → varies_in x.head.columns ≡ false → varies_in y.head.columns ≡ true → ⊥
+never_vary_both_ways x y same f t = let e : false ≡ true = sym f ∙ ap (λ (g : Grid). varies_in g.head.columns) same ∙ t in cc

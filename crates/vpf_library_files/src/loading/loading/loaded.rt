@@ -6,6 +6,7 @@ ghost use Rattle.vpf_table.specs.Grid.{Grid};
 ghost use Rattle.vpf_table.specs.Inner.Counts.{IsCountOf};
 ghost use Rattle.vpf_table.specs.Spans.{IsOpened};
 
+use crate::tileref::TilePaths;
 use std::alloc::{AllocError, Global};
 use std::marker::Model;
 use vpf_source::File;
@@ -33,29 +34,30 @@ fn counted_table<'a>(
 }
 
 /// Tables that were loaded: their files, one table behind another, each with its variable-length index right after it where its rows vary, and what
-/// counting the rows of each found. Contracts see them as the files.
+/// counting the rows of each found; where the first is the table of tiles of a coverage, the paths that it names. Contracts see them as the files.
 #[derive(Drop)]
 pub struct LoadedTables {
     files: Vec<File>,
     counts: Vec<Counted>,
+    paths: Option<TilePaths>,
 }
 
 impl Model for LoadedTables {
     ghost use Rattle.std.specs.Prelude.{List};
     ghost use Rattle.vpf_source.specs.declared.file.File.{File};
-    ghost use Rattle.vpf_library_files.specs.Inner.Loading.Counting.{AreCounted};
+    ghost use Rattle.vpf_library_files.specs.Inner.Loading.Counting.{AreLoaded};
 
     ghost Value = { List File };
 
     ghost view = { λ t. t.files.items };
 
-    ghost invariant = { λ t. AreCounted t.files.items t.counts.items };
+    ghost invariant = { λ t. AreLoaded t.files.items t.counts.items t.paths };
 }
 
 impl LoadedTables {
-    ghost use Rattle.std.specs.Prelude.{◌≡◌, ◌==◌, ◌++◌, ℕ, List, [], IfOk, OnOk, length};
+    ghost use Rattle.std.specs.Prelude.{◌≡◌, ◌==◌, ◌++◌, ℕ, List, [], IfOk, IfSome, OnOk, length};
     ghost use Rattle.vpf_table.specs.Grid.{Grid};
-    ghost use Rattle.vpf_library_files.specs.Inner.Loading.Counting.{AreCounted, IsCountedTable};
+    ghost use Rattle.vpf_library_files.specs.Inner.Loading.Counting.{AreCounted, IsCountedTable, IsFirstNamed};
     ghost use Rattle.vpf_library_files.specs.Loading.Holding.{AreFilesOf};
 
     /// No tables.
@@ -65,6 +67,7 @@ impl LoadedTables {
         LoadedTables {
             files: Vec::new(alloc),
             counts: Vec::new(alloc),
+            paths: None,
         }
     }
 
@@ -79,7 +82,23 @@ impl LoadedTables {
     {
         let mut counts = Vec::new(alloc);
         counts.push(counted)?;
-        Ok(LoadedTables { files, counts })
+        Ok(LoadedTables {
+            files,
+            counts,
+            paths: None,
+        })
+    }
+
+    /// The same tables, of which the first is a table of tiles that names these paths.
+    pub(crate) fn naming(self, paths: TilePaths) -> LoadedTables
+        requires { IsFirstNamed self paths }
+        ensures { result ≡ self }
+    {
+        LoadedTables {
+            files: self.files,
+            counts: self.counts,
+            paths: Some(paths),
+        }
     }
 
     /// Whether there are none.
@@ -113,6 +132,13 @@ impl LoadedTables {
         ensures { AreCounted self.now result.now }
     {
         self.counts.as_slice()
+    }
+
+    /// The paths that the first table names, where it is known as a table of tiles.
+    pub fn paths(&self) -> Option<&TilePaths>
+        ensures { IfSome result (λ paths. IsFirstNamed self.now paths.now) }
+    {
+        self.paths.as_ref()
     }
 
     /// The only table, opened: its header is read once more, and no row is looked at. Fails only for want of memory.

@@ -2,21 +2,21 @@
 
 ghost use Rattle.std.specs.Prelude.{◌≡◌, ◌≤◌, ℕ, [], IfOk, IsErrOf};
 ghost use Rattle.vpf_source.specs.Causes.{Rose, Stood};
-ghost use Rattle.vpf_table.specs.Grid.{Grid};
 ghost use Rattle.vpf_library_files.specs.Tileref.Stops.{tileref_stop};
-ghost use Rattle.vpf_library_files.specs.Loading.Holding.{AreFilesOf};
-ghost use Rattle.vpf_library_files.specs.Loading.Loading.{LoadedTable, most_loaded, read_tileref, tileref_name, unless_stopped};
+ghost use Rattle.vpf_library_files.specs.Loading.Loading.{LoadedTable, most_loaded, read_tileref, read_tileref_in, tileref_name, unless_stopped};
 ghost use Rattle.vpf_library_files.specs.Loading.Loads.{IsTilerefOf, IsTilerefStop, LoadsAs, LoadsTileref, ReadsAs};
+ghost use Rattle.vpf_library_files.specs.Inner.Loading.Only.{OnlyLoads};
 
 use crate::loading::loading::LoadStop;
-use crate::loading::loading::files::owned;
+use crate::loading::loading::files::{owned, required_file};
 use crate::loading::loading::loaded::LoadedTables;
 use crate::loading::loading::names::within;
-use crate::loading::loading::tiles::add_required;
+use crate::loading::loading::tables::{kept, table_beside, view_of};
 use crate::tileref::{TilePaths, TilerefError, read_tileref};
 use std::alloc::{AllocError, Global};
 use vpf_findings::OwnFinding;
 use vpf_source::Tree;
+use vpf_table::TableView;
 
 /// What ends the reading of the table of tiles of this name, as it stops the load.
 fn stop_of(alloc: Global, name: &str, error: TilerefError<'_>) -> Result<LoadStop, AllocError>
@@ -32,18 +32,38 @@ fn stop_of(alloc: Global, name: &str, error: TilerefError<'_>) -> Result<LoadSto
     })
 }
 
-/// The paths of the tiles that the only table names.
-fn paths_in(alloc: Global, name: &str, tables: &LoadedTables) -> Result<TilePaths, LoadStop>
-    requires { (grid : Grid) × AreFilesOf name.now grid tables.now }
-    ensures reads { (table : LoadedTable) (loaded : ℕ) → AreFilesOf name.now table.grid tables.now
-        → ReadsAs (IsTilerefOf table) result loaded (unless_stopped name.now (tileref_stop table.grid) table loaded) }
+/// The paths of the tiles that a table of this name names.
+fn paths_in(alloc: Global, name: &str, table: &TableView<'_>) -> Result<TilePaths, LoadStop>
+    ensures reads { (read : LoadedTable) (loaded : ℕ) → table.now ≡ read.grid
+        → ReadsAs (IsTilerefOf read) result loaded (unless_stopped name.now (tileref_stop read.grid) read loaded) }
     ensures no_fault { ¬ IsErrOf result LoadStop.Fault }
 {
-    let table = tables.only(alloc)?;
-    match read_tileref(alloc, &table) {
+    match read_tileref(alloc, table) {
         Ok(paths) => Ok(paths),
         Err(error) => Err(stop_of(alloc, name, error)?),
     }
+}
+
+/// The table of tiles in the bytes of the file of this name, and the paths of the tiles that it names.
+fn tileref_in<T: Tree>(
+    alloc: Global,
+    tree: &mut T,
+    name: &str,
+    bytes: Vec<u8>,
+    loaded: &mut u64,
+) -> Result<(LoadedTables, TilePaths), LoadStop>
+    requires { loaded.old ≤ most_loaded }
+    ensures reads { LoadsAs (T.files tree.old) (λ held. read_tileref_in held name.now bytes.items loaded.old)
+        (λ found table. LoadsTileref name.now found.0 found.1 table) result loaded.new }
+    ensures only { OnlyLoads T.files T.faults tree.old tree.new loaded.old loaded.new (IsErrOf result LoadStop.Fault) }
+{
+    let (table, index) = table_beside(alloc, tree, name, &bytes, loaded)?;
+    let counted = table.counted();
+    let table = view_of(table, &index);
+    let paths = paths_in(alloc, name, &table)?;
+    drop(table);
+    let tables = kept(alloc, name, bytes, index, counted)?;
+    Ok((tables, paths))
 }
 
 /// Adds the table of tiles of a library to none: `tileref/tileref.aft`, and its index where its rows vary. The paths of the tiles
@@ -69,7 +89,9 @@ pub fn load_tileref<T: Tree>(
     ensures files { T.files tree.new ≡ T.files tree.old }
 {
     let folder = within(alloc, lib, "tileref")?;
-    add_required(alloc, tree, folder.as_str(), "tileref.aft", loaded, tables)?;
     let name = within(alloc, folder.as_str(), "tileref.aft")?;
-    paths_in(alloc, name.as_str(), tables)
+    let bytes = required_file(alloc, tree, name.as_str(), loaded)?;
+    let (added, paths) = tileref_in(alloc, tree, name.as_str(), bytes, loaded)?;
+    tables.append(added)?;
+    Ok(paths)
 }

@@ -11,7 +11,7 @@ loop-row-preserved c =
     let rest = c.next.new.self in
     let steps = c.in-Some.ensures.steps in
     record {
-      left = rows_left (edge_row_lines c.args.around.now c.args.columns.now c.args.most) c.loop-row.k c.in-Some.row c.loop-row.row-iterator rest _ steps c.in_ok-check_row.ensures i.left;
+      left = rows_left (edge_row_lines c.args.around.now c.args.columns.now c.args.most) c.loop-row.k c.in-Some.row c.loop-row.row-iterator rest _ steps c.in_ok-check_row.ensures.first i.left;
       width = All-rest (λ (row : Row). length row ≡ length c.args.table.now.head.columns) c.in-Some.row rest c.loop-row.row-iterator steps i.width;
       count = omega (arith, i.count, ap length steps);
     }

@@ -1,4 +1,4 @@
-use Rattle.std.proofs.Common.{◌≡◌, ◌∙◌, length}
+use Rattle.std.proofs.Common.{◌≡◌, length}
 use Rattle.std.proofs.lemmas.List.Elements.{All-rest}
 use Rattle.vpf_table.specs.Grid.{Row}
 use Rattle.vpf_prims.specs.Edges.{edge_row}

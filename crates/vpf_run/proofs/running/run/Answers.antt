@@ -4,6 +4,7 @@ use Rattle.vpf_run.proofs.Answering.{asked_side, words_answered}
 use Rattle.vpf_run.proofs.DrilledAnswers.{run_drills}
 use Rattle.vpf_run.proofs.CheckedAnswers.{run_agrees, run_traces}
 use Rattle.vpf_run.proofs.Grammared.{words_said}
+use Rattle.vpf_run.proofs.JoinedAnswers.{run_glues}
 use Rattle.vpf_run.proofs.ServedAnswers.{index_serves}
 use Rattle.vpf_run.proofs.TiledAnswers.{run_answers, run_tiles}
 use Rattle.vpf_run.proofs.running.run.Goals as goal
@@ -52,6 +53,10 @@ returns-clause-rejoined g c before after request bytes later e told left done al
 pub returns-clause-answered : goal.returns-clause-answered
 returns-clause-answered g c before after request bytes later e told left done alone lacks =
     run_answers c.tilings_agree.ensures.answered c.requests_have_names.ensures c.args.words.now before after request _ _ _ bytes later e told left done alone lacks c.do_words.ensures.answer
+
+pub returns-clause-joined : goal.returns-clause-joined
+returns-clause-joined g c before after request bytes e told left done =
+    run_glues c.glue_decides_agreement.ensures (map string_bytes c.args.words.now) before after request _ _ _ bytes e told left done c.do_words.ensures.answer
 
 pub returns-clause-drilled : goal.returns-clause-drilled
 returns-clause-drilled g c request e =

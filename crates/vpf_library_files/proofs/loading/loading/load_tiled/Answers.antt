@@ -1,4 +1,6 @@
 use Rattle.std.proofs.lemmas.Result.{err_from_is_err_and}
+use Rattle.vpf_library_files.specs.Loading.Loading.{tiles_files, tileref_name}
+use Rattle.vpf_library_files.proofs.loading.CountLemmas.{paths_named}
 use Rattle.vpf_library_files.proofs.loading.TiledLemmas.{tiled_comes, tiled_stops}
 use Rattle.vpf_library_files.proofs.loading.loading.load_tiled.Goals as goal
 
@@ -11,6 +13,11 @@ returns-in_err-load_tiles-clause-reads g c cov is =
 
 pub returns-clause-reads : goal.returns-clause-reads
 returns-clause-reads g c cov is =
-    tiled_comes c.stops_decide.ensures (g.T.Tree.files c.args.tree.now) (g.T.Tree.files c.load_tileref.new.tree) c.args.lib.now cov c.args.folder.now c.args.loaded.now
+    rw c.naming.ensures (tiled_comes c.stops_decide.ensures (g.T.Tree.files c.args.tree.now) (g.T.Tree.files c.load_tileref.new.tree) c.args.lib.now cov c.args.folder.now c.args.loaded.now
     c.load_tileref.new.loaded c.load_tiles.new.loaded c.load_tileref.new.tables c.load_tiles.new.tables c.in_ok-paths.paths c.in_ok-load_tiles.field-0
-    c.load_tileref.ensures.files is c.if-not-branch.false c.in_ok-paths.ensures.reads c.in_ok-load_tiles.ensures.reads
+    c.load_tileref.ensures.files is c.if-not-branch.false c.in_ok-paths.ensures.reads c.in_ok-load_tiles.ensures.reads)
+
+pub naming-requires : goal.naming-requires
+naming-requires g c =
+    paths_named c.spelled_is_opened.ensures c.opened_is_read.ensures (tileref_name c.args.lib.now) c.in_ok-paths.ensures.reads.value c.load_tileref.new.tables c.load_tiles.new.tables
+    (tiles_files c.in_ok-load_tiles.ensures.reads.value) c.in_ok-paths.paths c.in_ok-paths.ensures.reads.is c.in_ok-load_tiles.ensures.reads.is.behind

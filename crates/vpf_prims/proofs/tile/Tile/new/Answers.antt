@@ -12,6 +12,7 @@ invariant_of-result c =
       columns = record {
         edges = λ there. rw c.in_table.ensures (held.edges there);
         within = rw c.in_table.ensures (within_moved at _ c.args.columns.edges held.within);
+        edge_rows = rw c.in_table.ensures held.edge_rows;
         ring_ptr = held.ring_ptr;
         face_id = held.face_id;
         start_edge = held.start_edge;
@@ -19,7 +20,6 @@ invariant_of-result c =
         containing_face = held.containing_face;
       };
       edges = c.in_table.ensures ∙ held.edges at;
-      kept = tt;
       owns = c.requires.owns;
       few = c.requires.few;
     }
