@@ -86,6 +86,8 @@ impl Tree for CaseTree {
         let bytes = Vec::from_slice(self.alloc, bytes)?;
         Ok(self.files.put(name, bytes)?)
     }
+
+    ghost of_bytes = { λ _. tt };
 }
 
 /// Bytes in memory, taken in pieces of at most a given number of bytes.

@@ -24,7 +24,7 @@ use Rattle.vpf_library_commands.specs.declared.checking.CheckRequest.{CheckReque
 use Rattle.vpf_library_commands.specs.Check.{agrees_text, coverage_finding, found_answer, read_answer, read_finding}
 use Rattle.vpf_library_commands.specs.Made.{file_within}
 use Rattle.vpf_library_commands.specs.TileTheorem.Tilings.Cutting.{IsCutFrom, cut_files}
-use Rattle.vpf_library_commands.specs.Inner.TileTheorem.Tilings.Laws.{NoneIsLacked, RequestsHaveNames, TilesAreMade, TilingsAreHeld}
+use Rattle.vpf_library_commands.specs.Inner.TileTheorem.Tilings.Laws.{CutIsSource, NoneIsLacked, RequestsHaveNames, TilesAreMade, TilingsAreHeld}
 use Rattle.vpf_library_commands.specs.TileTheorem.Tilings.Tilings.{HasNames, StandsAlone, made_request, with_rebuilt}
 use Rattle.vpf_library_commands.specs.Inner.TileTheorem.Tilings.ReadLaws.{OpenedIsRead}
 use Rattle.vpf_library_commands.specs.Inner.TileTheorem.Tilings.SourceLaws.{PartsAreRead as AreRead, parts_read, unfound}
@@ -34,7 +34,7 @@ use Rattle.vpf_drill.specs.GridCutting.Held.{GridHoldsBytes, OutIsEmpty, grid_he
 use Rattle.vpf_drill.specs.Inner.GridCutting.Plans.{GridServes, grid_plan}
 use Rattle.vpf_drill.specs.GridCutting.Reading.{GridHasTables, GridIsAsked, GridIsReadToCut, GridIsUnfound, GridPartsAreUnfound, grid_parts, grid_request, grid_tile_tables, grid_words}
 use Rattle.vpf_drill.specs.Drill.{cut_grid}
-use Rattle.vpf_drill.specs.Inner.Laws.{GridIsTiled}
+use Rattle.vpf_drill.specs.Inner.Laws.{GridIsTiled, GridsAreSources}
 use Rattle.vpf_drill.specs.Request.{CanBeAsked}
 use Rattle.vpf_library_commands.specs.Inner.TileTheorem.Tilings.MadeLaws.{bytes_within}
 
@@ -61,6 +61,7 @@ pub record Known : Type 0 where
   pub makes : TilesAreMade
   pub lacked : NoneIsLacked
   pub tilings : TilingsAreHeld
+  pub only : CutIsSource
 
 -- what was read of the grid
 parts_are : Known → (n : ℕ) → CanBeAsked n → AreRead (grid_held n) grid_request.lib grid_request.cov (grid_parts n)
@@ -127,7 +128,7 @@ grid_is_tiled k n can =
     let some = made_some own (grid_held n) in
     let bytes = k.bytes n can.most in
     let lacks = k.lacked (grid_held n) some.0 grid_request (grid_parts n) (grid_tile_tables n) bytes (text k) cut (alone k n can) some.1 refl in
-    let tiled = k.tilings (grid_held n) some.0 grid_request (grid_parts n) (grid_tile_tables n) bytes (text k) cut (alone k n can) some.1 lacks in
+    let tiled = k.tilings (grid_held n) some.0 grid_request (grid_parts n) (grid_tile_tables n) bytes (text k) cut (alone k n can) some.1 lacks refl in
     let read = k.reads some.0 grid_request.out grid_request.cov tiled.loaded tiled.agrees.held in
     record {
       source = (grid_parts n).coverage;
@@ -139,4 +140,18 @@ grid_is_tiled k n can =
       tiled_read = ap (λ (r : Read LoadedCoverage). r.0) read;
       tiled_agrees = agreeing_unfound k some.0 (made_request grid_request) (with_rebuilt tiled.loaded (grid_parts n).schema) tiled.agrees;
       rows_agree = tiled.agrees.rows;
+    }
+
+pub grids_are_sources : Known → GridsAreSources
+grids_are_sources k n can =
+    let cut = is_cut k n can in
+    let own : List File = cut_files grid_request (grid_parts n) (grid_tile_tables n) in
+    let some = made_some own (grid_held n) in
+    let bytes = k.bytes n can.most in
+    record {
+      source = k.only (grid_held n) grid_request (grid_parts n) (grid_tile_tables n) bytes (text k) cut;
+      alone = alone k n can;
+      after = some.0;
+      made = some.1;
+      lacks = k.lacked (grid_held n) some.0 grid_request (grid_parts n) (grid_tile_tables n) bytes (text k) cut (alone k n can) some.1 refl;
     }

@@ -1,13 +1,13 @@
 //! What is so of the grid, and of the answers of `drill`.
 
-ghost use Rattle.vpf_drill.specs.Inner.Laws.{GridIsTiled, HasDrill, OneDrill};
+ghost use Rattle.vpf_drill.specs.Inner.Laws.{GridIsTiled, GridsAreSources, HasDrill, OneDrill};
 ghost use Rattle.vpf_drill.specs.Request.{RequestsCanBeAsked};
 
 use crate::grid_cutting::laws::{grid_is_held, grid_is_read_to_cut, grid_is_unfound, grid_serves};
 use crate::tiled_sizes::laws::grid_is_small;
 use vpf_library_commands::laws::check_decides_agreement;
 use vpf_library_commands::tile_theorem::tilings::laws::{
-    none_is_lacked, requests_have_names, tiles_are_made, tilings_agree,
+    none_is_lacked, requests_have_names, sources_are_cut, tiles_are_made, tilings_agree,
 };
 use vpf_library_commands::tiler::tiled_files::laws::names_differ;
 use vpf_library_commands::vpf_trace::laws::one_trace;
@@ -16,9 +16,11 @@ use vpf_library_files::tileref::laws::stops_decide;
 use vpf_table::laws::opened_is_read;
 use vpf_vectors::laws::tables_say_grid;
 
-/// The coverage of each grid that can be asked for is read, what `tile` makes of it is read, and nothing is found in either.
+/// The coverage of each grid that can be asked for is read, what `tile` makes of it is read, and nothing is found in either. It meets all that is asked of
+/// what is cut.
 pub fn grid_is_tiled()
-    ensures { GridIsTiled }
+    ensures tiled { GridIsTiled }
+    ensures source { GridsAreSources }
 {
     opened_is_read();
     stops_decide();
@@ -34,6 +36,7 @@ pub fn grid_is_tiled()
     requests_have_names();
     tiles_are_made();
     none_is_lacked();
+    sources_are_cut();
     tilings_agree();
 }
 

@@ -1,4 +1,5 @@
 pub mod Schemas
 pub mod Reading
+pub mod Holding
 pub mod SchemaRows
 pub mod Inner

@@ -4,6 +4,7 @@
 
 mod files;
 mod indexes;
+pub mod laws;
 mod schema;
 pub mod schema_rows;
 mod tables;

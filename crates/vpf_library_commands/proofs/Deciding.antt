@@ -2,7 +2,7 @@
 use Rattle.std.proofs.Common.{◌≡◌, ℕ, Option, Some, None, List, refl, sym, ap, subst, ◌∙◌}
 use Rattle.std.specs.Prelude.{◌↔◌, Result, Ok, Err}
 use Rattle.std.specs.Option.{option_map}
-use Rattle.vpf_source.specs.Files.{Files}
+use Rattle.vpf_source.specs.Files.{Files, HoldsBytes}
 use Rattle.vpf_source.specs.declared.file.File.{File}
 use Rattle.vpf_findings.specs.Inner.FirstLaws.{or-none_both}
 use Rattle.vpf_prims.specs.Coverages.{CoverageTables}
@@ -10,7 +10,7 @@ use Rattle.vpf_prims.specs.Libraries.{library_of}
 use Rattle.vpf_numbers.specs.Inner.Laws.{CoverageNumbersDecide}
 use Rattle.vpf_numbers.specs.Matching.{HaveColumns}
 use Rattle.vpf_numbers.specs.TableLines.{coverage_numbers}
-use Rattle.vpf_library_files.specs.Loading.Holding.{AreCoverageFiles, HoldsBytes, bytes_in}
+use Rattle.vpf_library_files.specs.Loading.Holding.{AreCoverageFiles, bytes_in}
 use Rattle.vpf_library_files.specs.Inner.Loading.Laws.{FilesAreLibraries, FilesAreWhole, HeldIsRead, ReadIsHeld}
 use Rattle.vpf_library_files.specs.Loading.Loading.{Read, read_coverage, within}
 use Rattle.vpf_library_files.specs.declared.loading.loading.LoadStop.{LoadStop}
@@ -20,6 +20,7 @@ use Rattle.vpf_cross.specs.Inner.Laws.{AgreementDecides, LikeAreWhole}
 use Rattle.vpf_replies.specs.declared.verdict.Verdict.TheVariants.{Done}
 use Rattle.vpf_replies.specs.Answer.{Answer}
 use Rattle.vpf_library_commands.specs.declared.checking.CheckRequest.{CheckRequest}
+use Rattle.vpf_feature_files.specs.Inner.Laws.{HeldSchemaIsRead, ReadSchemaIsHeld}
 use Rattle.vpf_feature_files.specs.Reading.{read_schema}
 use Rattle.vpf_features.specs.Finding.{Named}
 use Rattle.vpf_features.specs.FeatureAgreement.Agreeing.{FeaturesAgree, FeaturesDecide, features_finding}
@@ -32,7 +33,7 @@ use Rattle.vpf_library_commands.specs.Inner.DecidingLaws.{stop_refuses}
 
 -- ---- a stop is no answer of what is done
 
-finding_refuses : (c : CoverageTables) (first : Option Named) → (found_answer c first).verdict ≡ Done → first ≡ None
+pub finding_refuses : (c : CoverageTables) (first : Option Named) → (found_answer c first).verdict ≡ Done → first ≡ None
 finding_refuses c None h = refl
 finding_refuses c (Some (name, d)) h = absurd cc
 
@@ -74,10 +75,13 @@ pub record ReadLaws : Type 0 where
   pub held : HeldIsRead
   pub read : ReadIsHeld
   pub coverage : CoverageLaws
+  pub schema : HeldSchemaIsRead
+  pub schema_read : ReadSchemaIsHeld
   pub features : FeaturesDecide
 
-pub read_laws : HeldIsRead → ReadIsHeld → CoverageLaws → FeaturesDecide → ReadLaws
-read_laws held read coverage features = record { held = held; read = read; coverage = coverage; features = features }
+pub read_laws : HeldIsRead → ReadIsHeld → CoverageLaws → HeldSchemaIsRead → ReadSchemaIsHeld → FeaturesDecide → ReadLaws
+read_laws held read coverage schema schema_read features =
+    record { held = held; read = read; coverage = coverage; schema = schema; schema_read = schema_read; features = features }
 
 -- a coverage was read, and its features behind it
 record PartsRead (files : Files) (request : CheckRequest) (v : FeaturedCoverage) (n : ℕ) : Type 0 where
@@ -141,19 +145,28 @@ agreeing_read laws files request bytes v n e none =
     let holds = laws.read files request.lib request.cov v.coverage parts.middle bytes parts.coverage in
     let again = laws.held files request.lib request.cov v.coverage holds in
     let count : parts.middle ≡ bytes_in v.coverage.files = count_same v.coverage v.coverage parts.middle (bytes_in v.coverage.files) (sym parts.coverage ∙ again) in
-    let featured = subst (λ (m : ℕ). read_schema files (within request.lib request.cov) m ≡ came v.schema n) count parts.schema in
+    let folder = within request.lib request.cov in
+    let before = bytes_in v.coverage.files in
+    let schema = subst (λ (m : ℕ). read_schema files folder m ≡ came v.schema n) count parts.schema in
+    let featured = laws.schema_read files folder v.schema before n bytes holds.few schema in
     let fine = (featured_agreement laws files request v parts.middle n holds.are parts.schema).0 none in
-    record { held = holds; columns = fine.0; rows = fine.1; behind = n; featured = featured; features = fine.2 }
+    record { held = holds; columns = fine.0; rows = fine.1; featured = featured.0; features = fine.2 }
 
 -- what agrees is read
-pub agreeing_is_read : HeldIsRead → AgreeingIsRead
-agreeing_is_read held files request v agrees = rw (held files request.lib request.cov v.coverage agrees.held, agrees.featured) refl
+pub agreeing_is_read : HeldIsRead → HeldSchemaIsRead → AgreeingIsRead
+agreeing_is_read held schema files request v agrees =
+    let folder = within request.lib request.cov in
+    let features = schema files folder v.schema (bytes_in v.coverage.files) agrees.featured in
+    rw (held files request.lib request.cov v.coverage agrees.held, features) refl
 
 -- and nothing is found in it
 pub agreeing_has_none : ReadLaws → (files : Files) (request : CheckRequest) (v : FeaturedCoverage) → IsAgreeing files request v → read_finding request v ≡ None
 unfolding Agreed
 agreeing_has_none laws files request v agrees =
-    (featured_agreement laws files request v (bytes_in v.coverage.files) agrees.behind agrees.held.are agrees.featured).1 (agrees.columns, agrees.rows, agrees.features)
+    let folder = within request.lib request.cov in
+    let before = bytes_in v.coverage.files in
+    let features = laws.schema files folder v.schema before agrees.featured in
+    (featured_agreement laws files request v before _ agrees.held.are features).1 (agrees.columns, agrees.rows, agrees.features)
 
 agrees_so : ReadLaws → (files : Files) (request : CheckRequest) → HoldsBytes files → (read : Result FeaturedCoverage LoadStop) (n : ℕ)
     → read_featured files request.lib request.cov 0 ≡ (read, n) → (read_answer request read).verdict ≡ Done → Agrees files request
@@ -163,7 +176,7 @@ agrees_so laws files request bytes (Err stop) n e h = absurd (stop_refuses stop 
 
 pub check_counts : ReadLaws → CheckCounts
 check_counts laws files request v agrees =
-    ap (λ (r : Read FeaturedCoverage). read_answer request r.0) (agreeing_is_read laws.held files request v agrees)
+    ap (λ (r : Read FeaturedCoverage). read_answer request r.0) (agreeing_is_read laws.held laws.schema files request v agrees)
     ∙ ap (found_answer v.coverage.coverage) (agreeing_has_none laws files request v agrees)
 
 pub check_decides : ReadLaws → CheckDecides

@@ -114,6 +114,10 @@ value_tiled : (r : Read LoadedCoverage) (c : LoadedCoverage) → AllRead IsTiled
 value_tiled (Ok v, n) c h e = let same : v ≡ c = cc in subst IsTiledRead same h
 value_tiled (Err stop, n) c h e = absurd cc
 
+-- a coverage that is read as a tiled one is tiled
+pub tiled_when_read : (files : Files) (lib cov : List ℕ) (n : ℕ) (c : LoadedCoverage) → (read_tiled files lib cov n).0 ≡ Ok c → c.coverage.is_tiled ≡ true
+tiled_when_read files lib cov n c e = value_tiled (read_tiled files lib cov n) c (tiled_read files lib cov n) e
+
 pub read_is_tiled : (files : Files) (lib cov : List ℕ) (c : LoadedCoverage) → is_some (files (own_edges_name lib cov)) ≡ false
     → (read_coverage files lib cov 0).0 ≡ Ok c → c.coverage.is_tiled ≡ true
 read_is_tiled files lib cov c none e =

@@ -94,5 +94,5 @@ has_answer law laws files request bytes =
 
 pub trace_lists : ReadLaws → TraceLists
 trace_lists laws files request read cycles agrees lists =
-    subst (λ (r : Read FeaturedCoverage). IsReadTrace request r.0 (done (listing_text cycles))) (sym (agreeing_is_read laws.held files request read agrees))
+    subst (λ (r : Read FeaturedCoverage). IsReadTrace request r.0 (done (listing_text cycles))) (sym (agreeing_is_read laws.held laws.schema files request read agrees))
     (listing_answers read.coverage.coverage (read_finding request read) cycles (done (listing_text cycles)) (agreeing_has_none laws files request read agrees) lists refl)

@@ -1,11 +1,11 @@
 -- That a coverage of a library agrees with its features, by the grammar of its files and the field's words alone.
-use Rattle.std.specs.Prelude.{◌≡◌, ◌↔◌, ℕ, List, None, Ok}
-use Rattle.vpf_source.specs.Files.{Files}
+use Rattle.std.specs.Prelude.{◌≡◌, ◌↔◌, ◌+◌, ℕ, List, None, Ok}
+use Rattle.vpf_source.specs.Files.{Files, HoldsBytes}
 use Rattle.vpf_prims.specs.Libraries.{library_of}
 use Rattle.vpf_numbers.specs.Matching.{HaveColumns}
 use Rattle.vpf_library_files.specs.Loading.Loading.{LoadedCoverage, read_coverage, within}
-use Rattle.vpf_library_files.specs.Loading.Holding.{HoldsBytes, HoldsCoverage, bytes_in}
-use Rattle.vpf_feature_files.specs.Reading.{read_schema}
+use Rattle.vpf_library_files.specs.Loading.Holding.{HoldsCoverage, bytes_in}
+use Rattle.vpf_feature_files.specs.Holding.{HoldsSchema}
 use Rattle.vpf_features.specs.FeatureAgreement.Agreeing.{FeaturesAgree}
 use Rattle.vpf_featured.specs.Reading.{FeaturedCoverage, read_featured}
 use Rattle.vpf_cross.specs.Agreeing.{LibraryAgrees}
@@ -14,14 +14,13 @@ use Rattle.vpf_replies.specs.Answer.{done}
 use Rattle.vpf_library_commands.specs.declared.checking.CheckRequest.{CheckRequest}
 use Rattle.vpf_library_commands.specs.Check.{agrees_text, check_answer, coverage_finding}
 
--- The tree holds the tables of the coverage, which have their columns, and whose rows agree in each tile and across the tiles; the features that are read
--- behind them agree.
+-- The tree holds the tables of the coverage, which have their columns, and whose rows agree in each tile and across the tiles; and it holds its features,
+-- which agree.
 pub record IsAgreeing (files : Files) (request : CheckRequest) (read : FeaturedCoverage) : Type 0 where
   pub held : HoldsCoverage files request.lib request.cov read.coverage
   pub columns : HaveColumns read.coverage.coverage
   pub rows : LibraryAgrees (library_of read.coverage.coverage)
-  pub behind : ℕ
-  pub featured : read_schema files (within request.lib request.cov) (bytes_in read.coverage.files) ≡ (Ok read.schema, behind)
+  pub featured : HoldsSchema files (within request.lib request.cov) read.schema (bytes_in read.coverage.files)
   pub features : FeaturesAgree read.schema
 
 -- the coverage that is asked for agrees
@@ -40,7 +39,7 @@ CheckCounts = (files : Files) (request : CheckRequest) (read : FeaturedCoverage)
 -- what agrees is what is read
 abbrev pub AgreeingIsRead : Type 0
 AgreeingIsRead = (files : Files) (request : CheckRequest) (read : FeaturedCoverage) (agrees : IsAgreeing files request read)
-    → read_featured files request.lib request.cov 0 ≡ (Ok read, agrees.behind)
+    → read_featured files request.lib request.cov 0 ≡ (Ok read, bytes_in read.coverage.files + bytes_in agrees.featured.files)
 
 -- of a coverage that is read from files of bytes, features apart, nothing is found exactly where its columns are right and its rows agree
 abbrev pub CoverageDecides : Type 0

@@ -1,11 +1,11 @@
 -- What `glue` is done of: a coverage in tiles that agrees with its features (MIL-STD-2407, 5.2.3, tiled coverages, cross-tile topology and feature
 -- classes).
 use Rattle.std.specs.Prelude.{◌≡◌, List, ◌++◌, map, Some, Ok}
-use Rattle.vpf_source.specs.Files.{Files}
+use Rattle.vpf_source.specs.Files.{Files, HoldsBytes}
 use Rattle.vpf_source.specs.declared.file.File.{File}
 use Rattle.vpf_prims.specs.Libraries.{library_of}
 use Rattle.vpf_prims.specs.Reading.{PrimitiveTables, primitives_of}
-use Rattle.vpf_library_files.specs.Loading.Holding.{AreTiledFiles, HoldsBytes}
+use Rattle.vpf_library_files.specs.Loading.Holding.{AreTiledFiles}
 use Rattle.vpf_glue.specs.Glued.{glued}
 use Rattle.vpf_glue.specs.GluedTables.Grids.{first_tables, glued_tables}
 use Rattle.vpf_glue.specs.Tables.{glued_made}

@@ -6,6 +6,7 @@ ghost use Rattle.vpf_library_commands.specs.Trace.{HasTraceAnswer, OneTraceAnswe
 ghost use Rattle.vpf_library_commands.specs.Inner.Example.{ExampleIsFound, ExampleIsWellFormed};
 
 use vpf_cross::laws::{agreement_decides, like_tiles_are_whole};
+use vpf_feature_files::laws::features_are_held;
 use vpf_features::feature_agreement::laws::features_decide;
 use vpf_glue::glued_reading::laws::glued_tables_are_read;
 use vpf_library_files::loading::laws::{coverages_are_held, files_are_libraries};
@@ -28,6 +29,7 @@ pub fn check_decides_agreement()
     numbers_decide();
     agreement_decides();
     like_tiles_are_whole();
+    features_are_held();
     features_decide();
 }
 
@@ -44,6 +46,7 @@ pub fn trace_lists_cycles()
     numbers_decide();
     agreement_decides();
     like_tiles_are_whole();
+    features_are_held();
     features_decide();
     one_trace();
 }
@@ -57,6 +60,7 @@ pub fn glue_decides_agreement()
     numbers_decide();
     agreement_decides();
     like_tiles_are_whole();
+    features_are_held();
     features_decide();
     glued_tables_are_read();
     spelled_is_opened();

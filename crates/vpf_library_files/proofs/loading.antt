@@ -1,4 +1,3 @@
-pub mod FileLists
 pub mod TableLaws
 pub mod CountLemmas
 pub mod ReadSteps

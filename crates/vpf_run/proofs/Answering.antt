@@ -3,8 +3,7 @@ use Rattle.std.proofs.Common.{◌≡◌, ℕ, Bool, true, false, List, [], ◌�
 use Rattle.std.specs.Prelude.{IfOk, if◌then◌else◌, codes}
 use Rattle.std.specs.Option.{option_map}
 use Rattle.std.specs.Str.{bytes_eq}
-use Rattle.vpf_source.specs.Files.{Files}
-use Rattle.vpf_library_files.specs.Loading.Holding.{HoldsBytes}
+use Rattle.vpf_source.specs.Files.{Files, HoldsBytes}
 use Rattle.vpf_replies.specs.declared.halting.Halt.{Halt}
 use Rattle.vpf_replies.specs.declared.halting.Halt.TheVariants as halts
 use Rattle.vpf_replies.specs.declared.halting.Stop.{Stop}

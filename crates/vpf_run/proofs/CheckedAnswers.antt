@@ -1,7 +1,6 @@
 -- What `check` and `trace` say of a coverage that agrees, and of which they are done.
 use Rattle.std.proofs.Common.{◌≡◌, ◌∙◌, ℕ, List, Option, Some, refl, sym, ap, subst}
-use Rattle.vpf_source.specs.Files.{Files}
-use Rattle.vpf_library_files.specs.Loading.Holding.{HoldsBytes}
+use Rattle.vpf_source.specs.Files.{Files, HoldsBytes}
 use Rattle.vpf_replies.specs.Answer.{Answer}
 use Rattle.vpf_library_commands.specs.declared.checking.CheckRequest.{CheckRequest}
 use Rattle.vpf_library_commands.specs.Agreeing.{Agrees, CheckCounts, CheckDecides}

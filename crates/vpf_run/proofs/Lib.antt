@@ -6,3 +6,4 @@ pub mod CheckedAnswers
 pub mod TiledAnswers
 pub mod DrilledAnswers
 pub mod JoinedAnswers
+pub mod CommandWords

@@ -5,14 +5,13 @@ use Rattle.std.specs.List.{AllByRecursion}
 use Rattle.std.specs.Option.{option_map}
 use Rattle.std.specs.Str.{bytes_eq}
 use Rattle.std.proofs.lemmas.Str.{IsUtf8-string_bytes}
-use Rattle.vpf_source.specs.Files.{Files}
+use Rattle.vpf_source.specs.Files.{Files, HoldsBytes}
 use Rattle.vpf_source.specs.Making.{with_all}
 use Rattle.vpf_source.specs.declared.file.File.{File}
 use Rattle.vpf_table.specs.declared.limit.Limit.{Limit as Passed}
 use Rattle.vpf_prims.specs.Coverages.{tile_at}
 use Rattle.vpf_prims.specs.Reading.{primitives_of}
 use Rattle.vpf_prims.specs.Tables.{TileTables}
-use Rattle.vpf_library_files.specs.Loading.Holding.{HoldsBytes}
 use Rattle.vpf_library_files.specs.declared.loading.loading.LoadStop.{LoadStop}
 use Rattle.vpf_tiling.specs.declared.tileable.refusals.Refusal.{Refusal}
 use Rattle.vpf_library_files.specs.TableFiles.Adding.{NamedTable, files_made, first_limit_of}
@@ -39,14 +38,14 @@ use Rattle.vpf_table_commands.specs.Rows.{rows_request}
 use Rattle.vpf_table_commands.specs.Show.{show_request}
 use Rattle.vpf_table_commands.specs.Swap.{swap_request}
 use Rattle.vpf_drill.specs.Cutting.{IsCutFrom, cut_features, cut_files, cut_plan, cut_tables, files_in_made}
-use Rattle.vpf_drill.specs.TileTheoremLaws.{RequestsHaveNames, TilingsAgree, TilingsAreAnswered}
+use Rattle.vpf_drill.specs.TileTheoremLaws.{CutIsSource, RequestsHaveNames, SourceIsCut, TilesAreMade, TilingsAgree, TilingsAreAnswered}
 use Rattle.vpf_drill.specs.Tilings.{AnswersTiling, HasNames, HoldsTiling, LacksTheRest, StandsAlone, made_request}
 use Rattle.vpf_run.specs.declared.command.Command.{Command}
 use Rattle.vpf_run.specs.declared.command.Command.TheVariants.{Show, Table, Cycles, Swap, Index, Rows, Check, Trace, Tile, Glue, Select, Drill}
 use Rattle.vpf_run.specs.declared.status.Status.{Status}
 use Rattle.vpf_run.specs.declared.status.Status.TheVariants as statuses
 use Rattle.vpf_run.specs.Commands.{IsAnswer, command_by, command_of}
-use Rattle.vpf_run.specs.Cutting.{IsAnsweredTiling, IsTiling, LacksAfter}
+use Rattle.vpf_library_commands.specs.TileTheorem.Tilings.Sources.{HasTileSource, IsTileSource}
 use Rattle.vpf_run.specs.Run.{Carries, World}
 use Rattle.vpf_run.proofs.ServedAnswers.{verdict_done}
 use Rattle.vpf_library_commands.specs.Inner.DecidingLaws.{stop_refuses}
@@ -190,54 +189,65 @@ cut_of_parts files request (Ok parts) read h = cut_of_finding files request part
 pub done_is_cut : (files : Files) (request : MakeRequest) → (tile_answer files request).verdict ≡ Done → DoneIsCut files request (tile_answer files request)
 done_is_cut files request h = cut_of_parts files request (read_parts files request.lib request.cov 0).0 refl h
 
--- a run of `tile` that is done has cut what it read, and what is so of all that is made of such a coverage is so of what it leaves
-run_cuts : {Z : Type 0} (P : TileParts → TileTables → Type 0) → RequestsHaveNames
-    → (words : List (String Z)) (before after : Files) (request : MakeRequest) (status : Status) (old new : World)
-    → ((parts : TileParts) (T : TileTables) → HasNames request → IsCutFrom before request parts T → StandsAlone before request.out (cut_files request parts T)
-    → with_all (cut_files request parts T) (Some before) ≡ Some after → LacksTheRest after request.out request.cov parts.schema → P parts T)
-    → command_of (map string_bytes words) ≡ Some (Tile request) → old.files ≡ Some before → new.files ≡ Some after → status ≡ statuses.Done
-    → StandsAlone before request.out (tile_answer before request).made → LacksAfter before after request
-    → ((answer : Answer) → IsAnswer (command_of (map string_bytes words)) old.files answer → Carries answer status old new)
-    → (parts : TileParts) × (T : TileTables) × IsCutFrom before request parts T × P parts T
-run_cuts P law words before after request status old new comes e told left done alone lacks carries =
-    let answer : Answer = tile_answer before request in
-    let is =
-    subst (λ (command : Option Command). IsAnswer command old.files answer) (sym e)
-    (subst (λ (t : Option Files). IsAnswer (Some (Tile request)) t answer) (sym told) refl) in
-    let c = subst (λ (s : Status). Carries answer s old new) done (carries answer is) in
-    let d = done_is_cut before request (verdict_done answer.verdict c.0) in
-    let names = command_names law (map string_bytes words) request (words_text words) e in
-    let made : with_all (cut_files request d.parts d.tables) (Some before) ≡ Some after =
-    ap (λ (list : List File). with_all list (Some before)) (sym d.made) ∙ ap (with_all answer.made) (sym told) ∙ sym c.1 ∙ left in (
-      d.parts,
-      d.tables,
-      d.cut,
-      comes d.parts d.tables names d.cut (subst (λ (list : List File). StandsAlone before request.out list) d.made alone) made (lacks d.parts d.cut.read),
-    )
+-- the answer of `tile` is that to the words
+tile_answers : (words : List (List ℕ)) (files : Files) (request : MakeRequest) (old : World) → command_of words ≡ Some (Tile request) → old.files ≡ Some files
+    → IsAnswer (command_of words) old.files (tile_answer files request)
+tile_answers words files request old e told =
+    subst (λ (command : Option Command). IsAnswer command old.files (tile_answer files request)) (sym e)
+    (subst (λ (t : Option Files). IsAnswer (Some (Tile request)) t (tile_answer files request)) (sym told) refl)
 
--- it leaves the tiled library of what it read
-pub run_tiles : {Z : Type 0} → TilingsAgree → RequestsHaveNames
-    → (words : List (String Z)) (before after : Files) (request : MakeRequest) (status : Status) (old new : World)
+-- a run of `tile` that is done was over such a source
+pub run_cuts : {Z : Type 0} → CutIsSource → RequestsHaveNames → (words : List (String Z)) (files : Files) (request : MakeRequest) (status : Status) (old new : World)
+    → HoldsBytes files → command_of (map string_bytes words) ≡ Some (Tile request) → old.files ≡ Some files → status ≡ statuses.Done
+    → ((answer : Answer) → IsAnswer (command_of (map string_bytes words)) old.files answer → Carries answer status old new) → HasTileSource files request
+run_cuts only law words files request status old new bytes e told done carries =
+    let answer : Answer = tile_answer files request in
+    let c = subst (λ (s : Status). Carries answer s old new) done (carries answer (tile_answers (map string_bytes words) files request old e told)) in
+    let d = done_is_cut files request (verdict_done answer.verdict c.0) in
+    let names = command_names law (map string_bytes words) request (words_text words) e in
+    (d.parts, d.tables, only files request d.parts d.tables bytes names d.cut)
+
+-- what is so of all that is made of a source is so of what a run that is done leaves
+run_makes : {Z : Type 0} (P : TileParts → TileTables → Type 0) → SourceIsCut → TilesAreMade → RequestsHaveNames
+    → (words : List (String Z)) (before after : Files) (request : MakeRequest) (parts : TileParts) (T : TileTables) (status : Status) (old new : World)
+    → (HasNames request → IsCutFrom before request parts T → with_all (cut_files request parts T) (Some before) ≡ Some after → P parts T)
+    → command_of (map string_bytes words) ≡ Some (Tile request) → old.files ≡ Some before → new.files ≡ Some after → status ≡ statuses.Done
+    → IsTileSource before request parts T
+    → ((answer : Answer) → IsAnswer (command_of (map string_bytes words)) old.files answer → Carries answer status old new) → P parts T
+run_makes P cuts makes law words before after request parts T status old new comes e told left done source carries =
+    let answer : Answer = tile_answer before request in
+    let cut = cuts before request parts T source in
+    let c = subst (λ (s : Status). Carries answer s old new) done (carries answer (tile_answers (map string_bytes words) before request old e told)) in
+    let names = command_names law (map string_bytes words) request (words_text words) e in
+    let files : answer.made ≡ cut_files request parts T = ap (λ (a : Answer). a.made) (makes before request parts T cut) in
+    let made : with_all (cut_files request parts T) (Some before) ≡ Some after =
+    ap (λ (list : List File). with_all list (Some before)) (sym files) ∙ ap (with_all answer.made) (sym told) ∙ sym c.1 ∙ left in
+    comes names cut made
+
+-- it leaves the tiled library of the source
+pub run_tiles : {Z : Type 0} → TilingsAgree → SourceIsCut → TilesAreMade → RequestsHaveNames
+    → (words : List (String Z)) (before after : Files) (request : MakeRequest) (parts : TileParts) (T : TileTables) (status : Status) (old new : World)
     → HoldsBytes before → HoldsBytes after
     → command_of (map string_bytes words) ≡ Some (Tile request) → old.files ≡ Some before → new.files ≡ Some after → status ≡ statuses.Done
-    → StandsAlone before request.out (tile_answer before request).made → LacksAfter before after request
-    → ((answer : Answer) → IsAnswer (command_of (map string_bytes words)) old.files answer → Carries answer status old new) → IsTiling before after request
-run_tiles agree law words before after request status old new bytes later e told left done alone lacks carries =
-    let r =
-    run_cuts (λ parts T. HoldsTiling after (made_request request) (primitives_of T.tables) (cut_plan parts T) (length parts.tileref.grid.rows) parts.schema)
-    law words before after request status old new (λ parts T names cut. agree before after request parts T bytes later names cut) e told left done alone lacks carries in
-    record { parts = r.0; tables = r.1; cut = r.2; holds = r.3 }
+    → IsTileSource before request parts T → StandsAlone before request.out (cut_files request parts T)
+    → LacksTheRest after request.out request.cov parts.schema
+    → ((answer : Answer) → IsAnswer (command_of (map string_bytes words)) old.files answer → Carries answer status old new)
+    → HoldsTiling after (made_request request) (primitives_of T.tables) (cut_plan parts T) (length parts.tileref.grid.rows) parts.schema
+run_tiles agree cuts makes law words before after request parts T status old new bytes later e told left done source alone lacks carries =
+    run_makes (λ parts T. HoldsTiling after (made_request request) (primitives_of T.tables) (cut_plan parts T) (length parts.tileref.grid.rows) parts.schema)
+    cuts makes law words before after request parts T status old new
+    (λ names cut made. agree before after request parts T bytes later names cut alone made lacks) e told left done source carries
 
 -- over which `check` and `trace` are answered so
-pub run_answers : {Z : Type 0} → TilingsAreAnswered → RequestsHaveNames
-    → (words : List (String Z)) (before after : Files) (request : MakeRequest) (status : Status) (old new : World)
+pub run_answers : {Z : Type 0} → TilingsAreAnswered → SourceIsCut → TilesAreMade → RequestsHaveNames
+    → (words : List (String Z)) (before after : Files) (request : MakeRequest) (parts : TileParts) (T : TileTables) (status : Status) (old new : World)
     → HoldsBytes before → HoldsBytes after
     → command_of (map string_bytes words) ≡ Some (Tile request) → old.files ≡ Some before → new.files ≡ Some after → status ≡ statuses.Done
-    → StandsAlone before request.out (tile_answer before request).made → LacksAfter before after request
+    → IsTileSource before request parts T → StandsAlone before request.out (cut_files request parts T)
+    → LacksTheRest after request.out request.cov parts.schema
     → ((answer : Answer) → IsAnswer (command_of (map string_bytes words)) old.files answer → Carries answer status old new)
-    → IsAnsweredTiling before after request
-run_answers agree law words before after request status old new bytes later e told left done alone lacks carries =
-    let r =
-    run_cuts (λ parts T. AnswersTiling after (made_request request) (primitives_of T.tables) (cut_plan parts T) (length parts.tileref.grid.rows) parts.schema)
-    law words before after request status old new (λ parts T names cut. agree before after request parts T bytes later names cut) e told left done alone lacks carries in
-    record { parts = r.0; tables = r.1; cut = r.2; answers = r.3 }
+    → AnswersTiling after (made_request request) (primitives_of T.tables) (cut_plan parts T) (length parts.tileref.grid.rows) parts.schema
+run_answers agree cuts makes law words before after request parts T status old new bytes later e told left done source alone lacks carries =
+    run_makes (λ parts T. AnswersTiling after (made_request request) (primitives_of T.tables) (cut_plan parts T) (length parts.tileref.grid.rows) parts.schema)
+    cuts makes law words before after request parts T status old new
+    (λ names cut made. agree before after request parts T bytes later names cut alone made lacks) e told left done source carries

@@ -3,6 +3,5 @@ pub mod Commands
 pub mod Indexed
 pub mod Run
 pub mod Grammar
-pub mod Cutting
 pub mod Joining
 pub mod Inner

@@ -1,6 +1,6 @@
 //! The whole program, over any tree and any sink.
 
-ghost use Rattle.std.specs.Prelude.{◌≡◌, ◌≢◌, ◌≤◌, ◌⊎◌, ℕ, List, [], IfOk, IfSome, IsErrOf, None, Some, is_some, map, string_bytes};
+ghost use Rattle.std.specs.Prelude.{◌≡◌, ◌≢◌, ◌≤◌, ◌⊎◌, ℕ, List, [], ◌∷◌, IfOk, IfSome, IsErrOf, None, Some, codes, is_some, length, map, string_bytes};
 ghost use Rattle.std.specs.Io.KnownBytes.{Keeps};
 ghost use Rattle.vpf_source.specs.Causes.{Rose, Stood};
 ghost use Rattle.vpf_source.specs.Files.{Files};
@@ -12,20 +12,21 @@ ghost use Rattle.vpf_table.specs.Spelling.{IsTable};
 ghost use Rattle.vpf_replies.specs.Answer.{Answer, done, usage_answer};
 ghost use Rattle.vpf_replies.specs.Tables.{fault_answer};
 ghost use Rattle.vpf_replies.specs.Halting.{ComesTo, TellsFault};
-ghost use Rattle.vpf_library_files.specs.Loading.Holding.{HoldsBytes};
 ghost use Rattle.vpf_feature_commands.specs.Reading.{FeaturedCoverage};
 ghost use Rattle.vpf_library_commands.specs.declared.checking.CheckRequest.{CheckRequest};
 ghost use Rattle.vpf_library_commands.specs.declared.requesting.MakeRequest.{MakeRequest};
 ghost use Rattle.vpf_library_commands.specs.Agreeing.{Agrees, IsAgreeing};
-ghost use Rattle.vpf_library_commands.specs.Tile.{TileParts, tile_answer};
+ghost use Rattle.vpf_library_commands.specs.Tile.{TileParts};
+ghost use Rattle.vpf_library_commands.specs.TileTheorem.Tilings.Sources.{HasTileSource, IsTileSource};
+ghost use Rattle.vpf_prims.specs.Reading.{primitives_of};
 ghost use Rattle.vpf_prims.specs.Tables.{TileTables};
 ghost use Rattle.vpf_replies.specs.Making.{made_answer};
-ghost use Rattle.vpf_run.specs.Cutting.{IsAnsweredTiling, IsTiling, LacksAfter};
 ghost use Rattle.vpf_run.specs.Joining.{IsJoining};
-ghost use Rattle.vpf_drill.specs.Cutting.{IsCutFrom, cut_files};
+ghost use Rattle.vpf_drill.specs.Cutting.{cut_files, cut_plan};
 ghost use Rattle.vpf_drill.specs.Request.{CanBeAsked};
-ghost use Rattle.vpf_drill.specs.Tilings.{StandsAlone};
-ghost use Rattle.vpf_library_commands.specs.Check.{agrees_text};
+ghost use Rattle.vpf_drill.specs.Tilings.{AnswersTiling, HoldsTiling, LacksTheRest, StandsAlone, made_request};
+ghost use Rattle.vpf_library_commands.specs.Check.{agrees_text, check_request};
+ghost use Rattle.vpf_library_commands.specs.Make.{make_request};
 ghost use Rattle.vpf_darts.specs.declared.darts.TileDart.{TileDart};
 ghost use Rattle.vpf_darts.specs.Listings.{numbers_of};
 ghost use Rattle.vpf_prims.specs.Libraries.{library_of};
@@ -37,7 +38,7 @@ ghost use Rattle.vpf_table_commands.specs.Rows.{IndexAgrees};
 ghost use Rattle.vpf_feature_commands.specs.declared.requesting.SelectRequest.{SelectRequest};
 ghost use Rattle.vpf_feature_commands.specs.Plain.{FeatureIndexAgrees, plain_select_answer};
 ghost use Rattle.vpf_run.specs.declared.command.Command.{Command};
-ghost use Rattle.vpf_run.specs.declared.command.Command.TheVariants.{Check, Drill, Glue, Index, Rows, Select, Tile, Trace};
+ghost use Rattle.vpf_run.specs.declared.command.Command.TheVariants.{Drill, Index, Rows, Select};
 ghost use Rattle.vpf_run.specs.Commands.{command_of, IsAnswerTo, IsAnswer, IsAnswerAlone};
 ghost use Rattle.vpf_run.specs.Grammar.{HasFile, IsOver, SaysOfTable};
 ghost use Rattle.vpf_run.specs.Indexed.{AsksForIndexed, IsPlainAnswer};
@@ -51,7 +52,9 @@ use crate::status::Status;
 use std::alloc::Global;
 use vpf_drill::drill;
 use vpf_drill::laws::{one_drill, requests_can_be_asked};
-use vpf_drill::tile_theorem::tilings::laws::{requests_have_names, tiles_are_made, tilings_agree};
+use vpf_drill::tile_theorem::tilings::laws::{
+    requests_have_names, sources_are_cut, tiles_are_made, tilings_agree,
+};
 use vpf_feature_commands::laws::plain_selections;
 use vpf_feature_commands::select;
 use vpf_library_commands::laws::glue_decides_agreement;
@@ -252,51 +255,62 @@ pub fn run<T: Tree, O: Sink>(alloc: Global, words: &[String], tree: &mut T, out:
         (record { files = T.files tree.new; written = O.written out.new }) }
 
     // `check` is done exactly where the files hold the coverage in the grammar of tables, its columns are right and its rows agree, in each
-    // tile and across the tiles, and the features that are read behind it agree: then it prints the numbers of primitives of all its tiles.
-    // (The files of a tree that tells them are of bytes.)
-    ensures checked { (files : Files) (request : CheckRequest) (read : FeaturedCoverage) → command_of (map string_bytes words.now) ≡ Some (Check request)
+    // tile and across the tiles, and the files hold its features, which agree: then it prints the numbers of primitives of all its tiles.
+    ensures checked { (files : Files) (rest : List (List ℕ)) (request : CheckRequest) (read : FeaturedCoverage)
+        → map string_bytes words.now ≡ codes "check" ∷ rest → check_request rest ≡ Some request
         → T.files tree.old ≡ Some files → IsAgreeing files request read
         → Carries (done (agrees_text read.coverage.coverage)) result (record { files = T.files tree.old; written = O.written out.old })
         (record { files = T.files tree.new; written = O.written out.new }) }
-    ensures agrees { (files : Files) (request : CheckRequest) → HoldsBytes files → command_of (map string_bytes words.now) ≡ Some (Check request)
+    ensures agrees { (files : Files) (rest : List (List ℕ)) (request : CheckRequest)
+        → map string_bytes words.now ≡ codes "check" ∷ rest → check_request rest ≡ Some request
         → T.files tree.old ≡ Some files → result ≡ Status.Done → Agrees files request }
 
     // `trace` is done exactly where `check` is: then it prints the boundary cycles of the coverage, its lines between tiles passed over, each
     // home dart of another edge once.
-    ensures traced { (files : Files) (request : CheckRequest) (read : FeaturedCoverage) (cycles : List (List TileDart))
-        → command_of (map string_bytes words.now) ≡ Some (Trace request) → T.files tree.old ≡ Some files → IsAgreeing files request read
+    ensures traced { (files : Files) (rest : List (List ℕ)) (request : CheckRequest) (read : FeaturedCoverage) (cycles : List (List TileDart))
+        → map string_bytes words.now ≡ codes "trace" ∷ rest → check_request rest ≡ Some request
+        → T.files tree.old ≡ Some files → IsAgreeing files request read
         → IsTrace (library_of read.coverage.coverage) (numbers_of cycles)
         → Carries (done (listing_text cycles)) result (record { files = T.files tree.old; written = O.written out.old })
         (record { files = T.files tree.new; written = O.written out.new }) }
-    ensures traceable { (files : Files) (request : CheckRequest) → HoldsBytes files → command_of (map string_bytes words.now) ≡ Some (Trace request)
+    ensures traceable { (files : Files) (rest : List (List ℕ)) (request : CheckRequest)
+        → map string_bytes words.now ≡ codes "trace" ∷ rest → check_request rest ≡ Some request
         → T.files tree.old ≡ Some files → result ≡ Status.Done → Agrees files request }
 
-    // Where an untiled coverage agrees with its features, nothing speaks against its plan, no features are joined by numbers, and no file passes a bound,
-    // `tile` makes the files of its tiled library: the tables of the tiles, each primitive in the tiles of its faces, in their order, and behind them the
-    // files of the features, with thematic indexes built anew, and no others.
-    ensures tiled { (files : Files) (request : MakeRequest) (parts : TileParts) (tables : TileTables)
-        → command_of (map string_bytes words.now) ≡ Some (Tile request)
-        → T.files tree.old ≡ Some files → IsCutFrom files request parts tables
+    // Of a well-formed untiled coverage that the tree holds, with features that agree and a plan that serves, where no features are joined by numbers and no
+    // file passes a bound, `tile` makes the files of its tiled library: the tables of the tiles, each primitive in the tiles of its faces, in their order, and
+    // behind them the files of the features, with thematic indexes built anew, and no others. It is done of such a coverage alone.
+    ensures tiled { (files : Files) (rest : List (List ℕ)) (request : MakeRequest) (parts : TileParts) (tables : TileTables)
+        → map string_bytes words.now ≡ codes "tile" ∷ rest → make_request rest ≡ Some request
+        → T.files tree.old ≡ Some files → IsTileSource files request parts tables
         → Carries (made_answer (cut_files request parts tables)) result (record { files = T.files tree.old; written = O.written out.old })
         (record { files = T.files tree.new; written = O.written out.new }) }
+    ensures tileable { (files : Files) (rest : List (List ℕ)) (request : MakeRequest)
+        → map string_bytes words.now ≡ codes "tile" ∷ rest → make_request rest ≡ Some request
+        → T.files tree.old ≡ Some files → result ≡ Status.Done → HasTileSource files request }
 
     // And what it makes is that coverage: where `tile` is done, no file stood in its folder before, no two of the files that it makes have one name, they
-    // have no more bytes in all than a run reads, and what the features lacked isn't there after, then the library that was made agrees, with its features,
-    // and its boundary cycles are exactly those of the coverage without its lines between tiles, each dart called by its name in the tiles.
-    ensures rejoined { (before after : Files) (request : MakeRequest) → HoldsBytes before → HoldsBytes after
-        → command_of (map string_bytes words.now) ≡ Some (Tile request) → T.files tree.old ≡ Some before → T.files tree.new ≡ Some after
-        → result ≡ Status.Done → StandsAlone before request.out (tile_answer before request).made → LacksAfter before after request
-        → IsTiling before after request }
+    // have no more bytes in all than a run reads, and what the features lacked isn't there after, then the tree holds the tiled library: it agrees, with its
+    // features, and its boundary cycles are exactly those of the coverage without its lines between tiles, each dart called by its name in the tiles.
+    ensures rejoined { (before after : Files) (rest : List (List ℕ)) (request : MakeRequest) (parts : TileParts) (tables : TileTables)
+        → map string_bytes words.now ≡ codes "tile" ∷ rest → make_request rest ≡ Some request
+        → T.files tree.old ≡ Some before → T.files tree.new ≡ Some after
+        → result ≡ Status.Done → IsTileSource before request parts tables → StandsAlone before request.out (cut_files request parts tables)
+        → LacksTheRest after request.out request.cov parts.schema → HoldsTiling after (made_request request) (primitives_of tables.tables)
+        (cut_plan parts tables) (length parts.tileref.grid.rows) parts.schema }
 
     // So `check` accepts that library, with the numbers of primitives of its tiles, and `trace` lists exactly these cycles.
-    ensures answered { (before after : Files) (request : MakeRequest) → HoldsBytes before → HoldsBytes after
-        → command_of (map string_bytes words.now) ≡ Some (Tile request) → T.files tree.old ≡ Some before → T.files tree.new ≡ Some after
-        → result ≡ Status.Done → StandsAlone before request.out (tile_answer before request).made → LacksAfter before after request
-        → IsAnsweredTiling before after request }
+    ensures answered { (before after : Files) (rest : List (List ℕ)) (request : MakeRequest) (parts : TileParts) (tables : TileTables)
+        → map string_bytes words.now ≡ codes "tile" ∷ rest → make_request rest ≡ Some request
+        → T.files tree.old ≡ Some before → T.files tree.new ≡ Some after
+        → result ≡ Status.Done → IsTileSource before request parts tables → StandsAlone before request.out (cut_files request parts tables)
+        → LacksTheRest after request.out request.cov parts.schema → AnswersTiling after (made_request request) (primitives_of tables.tables)
+        (cut_plan parts tables) (length parts.tileref.grid.rows) parts.schema }
 
     // `glue` is done only where a coverage in tiles agrees with its features. Then the tree holds besides the files of the coverage that its tiles are glued
     // to: tables that say it, the table of tiles, the plan that names the tile of each face; and behind them those of its features.
-    ensures joined { (before after : Files) (request : MakeRequest) → HoldsBytes before → command_of (map string_bytes words.now) ≡ Some (Glue request)
+    ensures joined { (before after : Files) (rest : List (List ℕ)) (request : MakeRequest)
+        → map string_bytes words.now ≡ codes "glue" ∷ rest → make_request rest ≡ Some request
         → T.files tree.old ≡ Some before → T.files tree.new ≡ Some after → result ≡ Status.Done → IsJoining before after request }
 
     // A fault is answered exactly where its count rose in this call; where neither rose, the run is completed.
@@ -323,6 +337,7 @@ pub fn run<T: Tree, O: Sink>(alloc: Global, words: &[String], tree: &mut T, out:
     checks_decide();
     traces_list_cycles();
     tiles_are_made();
+    sources_are_cut();
     tilings_agree();
     requests_have_names();
     glue_decides_agreement();

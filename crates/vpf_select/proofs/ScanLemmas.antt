@@ -11,7 +11,7 @@ use Rattle.vpf_theme.specs.Ordering.{same_value}
 use Rattle.vpf_theme.specs.Findings.{cell_of, cells_of}
 use Rattle.vpf_theme.specs.Agreeing.{scan_from, scan_of}
 use Rattle.vpf_theme.specs.Inner.KeyLaws.{same_yes, same_no}
-use Rattle.vpf_theme.specs.Inner.Views.{AreRows}
+use Rattle.vpf_theme.specs.Entries.{AreRows}
 use Rattle.vpf_select.specs.Inner.Passing.{first_unmet, met_by}
 use Rattle.vpf_select.specs.Selecting.{first_unlike}
 

@@ -3,7 +3,7 @@
 ghost use Rattle.std.specs.Prelude.{◌≡◌, ◌<◌, ◌≤◌, ◌+◌, IfOk, Some, length};
 ghost use Rattle.vpf_value.specs.Values.{view};
 ghost use Rattle.vpf_theme.specs.Findings.{cells_of};
-ghost use Rattle.vpf_theme.specs.Inner.Views.{AreRows};
+ghost use Rattle.vpf_theme.specs.Entries.{AreRows};
 ghost use Rattle.vpf_select.specs.Inner.Passing.{first_unmet, met_by};
 ghost use Rattle.vpf_select.specs.Selecting.{Compares, FitsColumn, IsOwn, RefusesRow, Selects, selected, unless_unlike};
 

@@ -5,7 +5,7 @@ ghost use Rattle.std.specs.Option.{option_copied};
 ghost use Rattle.vpf_value.specs.Values.{view};
 ghost use Rattle.vpf_head.specs.Head.{Col};
 ghost use Rattle.vpf_theme.specs.Findings.{cell_of, cells_of};
-ghost use Rattle.vpf_theme.specs.Inner.Views.{AreRows};
+ghost use Rattle.vpf_theme.specs.Entries.{AreRows};
 ghost use Rattle.vpf_select.specs.Selecting.{FitsColumn, IsOwn, RefusesRow, Selects, selected};
 ghost use Rattle.vpf_select.specs.Words.{value_in};
 

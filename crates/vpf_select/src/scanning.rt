@@ -4,7 +4,7 @@ ghost use Rattle.std.specs.Prelude.{◌≡◌, ◌<◌, ◌≤◌, ◌+◌, IfOk
 ghost use Rattle.vpf_value.specs.Values.{view};
 ghost use Rattle.vpf_theme.specs.Findings.{cells_of};
 ghost use Rattle.vpf_theme.specs.Agreeing.{scan_of};
-ghost use Rattle.vpf_theme.specs.Inner.Views.{AreRows};
+ghost use Rattle.vpf_theme.specs.Entries.{AreRows};
 
 use std::alloc::{AllocError, Global};
 use std::sync::ledger::Ledger;

@@ -4,7 +4,7 @@ ghost use Rattle.std.specs.Prelude.{◌≡◌, ◌<◌, ◌≤◌, ◌+◌, IfOk
 ghost use Rattle.std.specs.Option.{option_copied};
 ghost use Rattle.vpf_value.specs.Values.{view};
 ghost use Rattle.vpf_theme.specs.Findings.{cells_of};
-ghost use Rattle.vpf_theme.specs.Inner.Views.{AreRows};
+ghost use Rattle.vpf_theme.specs.Entries.{AreRows};
 ghost use Rattle.vpf_select.specs.Selecting.{Compares, FitsColumn, IsOwn, RefusesRow, Selects, most_looks, selected, tested};
 
 use crate::scanning::{Test, scan};

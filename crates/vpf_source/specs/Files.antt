@@ -2,10 +2,15 @@
 use Rattle.std.specs.Prelude.{◌≡◌, ◌<◌, ◌≤◌, ◌-◌, ℕ, List, [], length, take, drop, Option, None, Some, unwrap_or, IfOk, IfSome, Result, false, if◌then◌else◌}
 use Rattle.std.specs.Option.{option_map}
 use Rattle.std.specs.Str.{bytes_eq}
+use Rattle.vpf_base.specs.Bytes.{IsBytes}
 
 -- the bytes of each file by its name, and nothing where no file has the name
 abbrev pub Files : Type 0
 Files = List ℕ → Option (List ℕ)
+
+-- what each of these files holds are bytes
+abbrev pub HoldsBytes : Files → Type 0
+HoldsBytes held = (name : List ℕ) → IfSome (held name) IsBytes
 
 -- no file at all
 abbrev pub no_files : Files

@@ -175,6 +175,8 @@ impl<R: Files> Tree for FolderTree<R> {
             Err(e) => Err(self.fault(name, e).into()),
         }
     }
+
+    ghost of_bytes = { λ _. tt };
 }
 
 /// The standard output. A contract sees it as its count of faults.

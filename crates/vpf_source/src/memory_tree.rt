@@ -1,11 +1,13 @@
 //! A tree in memory, which fails where it is told to.
 
+ghost use Rattle.std.proofs.Props.{props};
 ghost use Rattle.std.specs.Prelude.{◌≡◌, ◌≤◌, ◌<◌, ◌-◌, Some, length, drop, min, IsErr, IsErrOf, IsTrue, IfOk, OnOk, OnErr, ◌↔◌};
 ghost use Rattle.std.specs.Option.{option_copied};
+ghost use Rattle.std.specs.BTreeMap.{get_by_text};
 ghost use Rattle.std.specs.Io.{ReadsAtMost};
 ghost use Rattle.vpf_source.specs.Inner.Calls.{after_call, next_fails, no_calls};
 ghost use Rattle.vpf_source.specs.Causes.{Rose, Stood};
-ghost use Rattle.vpf_source.specs.Files.{ReadsFrom, ReadsFile, SameElsewhere, TellsSize, bytes_of, no_files, with_file};
+ghost use Rattle.vpf_source.specs.Files.{HoldsBytes, ReadsFrom, ReadsFile, SameElsewhere, TellsSize, bytes_of, no_files, with_file};
 
 use crate::calls::CallLog;
 use crate::error::{DeviceError, Failed};
@@ -24,6 +26,7 @@ pub struct MemTree {
     calls: CallLog,
     files: BTreeMap<String, Bytes>,
     ghost some: { 1 ≤ piece },
+    ghost of_bytes: { HoldsBytes (get_by_text files) } by { Prim.hlevel props },
 }
 
 impl MemTree {
@@ -153,6 +156,8 @@ impl Tree for MemTree {
         self.put(name, bytes)?;
         Ok(())
     }
+
+    ghost of_bytes = { λ tree. tree.of_bytes };
 }
 
 /// Copies at most `piece` bytes from the offset on into the front of the buffer, and says how many.

@@ -69,4 +69,6 @@ impl Tree for SureTree {
     fn make(&mut self, name: &str, bytes: &[u8]) -> Result<(), DeviceError> {
         self.held.make(name, bytes)
     }
+
+    ghost of_bytes = { λ tree. tree.held.of_bytes };
 }

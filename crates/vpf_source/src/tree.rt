@@ -1,9 +1,9 @@
 //! A tree of files.
 
-ghost use Rattle.std.specs.Prelude.{◌≡◌, ◌≤◌, ℕ, Option, None, OnOk, OnErr, IsErrOf};
+ghost use Rattle.std.specs.Prelude.{◌≡◌, ◌≤◌, ℕ, Option, None, IfSome, OnOk, OnErr, IsErrOf};
 ghost use Rattle.std.specs.Io.{ReadsAtMost};
 ghost use Rattle.vpf_source.specs.Causes.{Rose, Stood};
-ghost use Rattle.vpf_source.specs.Files.{Files, TellsSize, ReadsFile, SameElsewhere, with_file};
+ghost use Rattle.vpf_source.specs.Files.{Files, HoldsBytes, TellsSize, ReadsFile, SameElsewhere, with_file};
 
 use crate::error::{DeviceError, Failed};
 
@@ -60,4 +60,7 @@ pub trait Tree {
         ensures later { faults self.old ≤ faults self.new }
         ensures failed { IsErrOf result DeviceError.Failed → Rose (faults self.old) (faults self.new) }
         ensures stood { ¬ IsErrOf result DeviceError.Failed → Stood (faults self.old) (faults self.new) };
+
+    /// Files are of bytes.
+    ghost of_bytes: { (tree : Self) → IfSome (files tree) HoldsBytes };
 }

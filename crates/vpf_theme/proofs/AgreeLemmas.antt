@@ -1,24 +1,19 @@
 -- The first finding, put together.
-use Rattle.std.proofs.Common.{◌≡◌, ℕ, ◌-◌, ◌<◌, nat_eq, cond, pos, Bool, true, false, length, Option, Some, None, Ok, Err, Result, refl, sym, ◌∙◌}
+use Rattle.std.proofs.Common.{◌≡◌, ℕ, nat_eq, cond, pos, Bool, true, false, length, Option, Some, None, Ok, Err, Result, refl, sym, ◌∙◌}
 use Rattle.std.specs.Prelude.{slice_get, slice_index_or, OnOk}
 use Rattle.std.specs.Option.{option_or}
 use Rattle.std.proofs.lemmas.Bool.{eqb-true}
 use Rattle.std.proofs.lemmas.List.{length-map}
 use Rattle.vpf_value.specs.Values.{Nothing}
 use Rattle.vpf_head.specs.Head.{Col}
-use Rattle.vpf_findings.specs.Findings.{Disagreement, NumberSeen, disagreement_of}
+use Rattle.vpf_findings.specs.Findings.{Disagreement, NumberSeen}
 use Rattle.vpf_table.specs.Grid.{Row, Grid}
 use Rattle.vpf_findings.specs.declared.errors.FindError.{FindError}
 use Rattle.vpf_findings.specs.declared.errors.FindError.TheVariants as errors
 use Rattle.vpf_findings.specs.Inner.FirstLaws.{or-none_both}
 use Rattle.vpf_theme.specs.Entries.{Theme}
-use Rattle.vpf_findings.specs.Firsts.{Tells, first_over}
+use Rattle.vpf_findings.specs.Firsts.{Tells}
 use Rattle.vpf_theme.specs.Findings.{at, cells_of, entries_finding, first_finding, fits_line, kind_line, row_count_line, missing_line, of_column}
-use Rattle.vpf_theme.proofs.FirstLemmas.{first_stop}
-
-pub tells_stop : (V : Type 0) (e : FindError) (line : ℕ → Option Disagreement) (k n : ℕ) (whole : Option Disagreement) → k < n → first_over line k (n - k) ≡ whole → Tells {V = V} (Err e) (line k) → Tells {V = V} (Err e) whole
-tells_stop V (errors.Finding f) line k n whole h left is = first_stop line k n whole (disagreement_of f) h left is
-tells_stop V errors.NoMemory line k n whole h left is = tt
 
 pub tells_or : (V : Type 0) (e : FindError) (a b : Option Disagreement) → Tells {V = V} (Err e) a → Tells {V = V} (Err e) (option_or a b)
 tells_or V (errors.Finding f) a b is = rw is refl

@@ -180,7 +180,7 @@ stands_at [] row i m c = absurd (omega arith)
 stands_at (e ∷ es) row zero m c = or_left (list_any (λ r. r == row) e.rows) (stands es row) (any_from e.rows row c.0 c.1 c.2)
 stands_at (e ∷ es) row (suc i) m c = or_right (list_any (λ r. r == row) e.rows) (stands es row) (stands_at es row i (omega arith) c)
 
-no_place : (es : List Entry) (v : Value) (i : ℕ) → ((j : ℕ) → j < i → j < length es → (entry_at es j).value ≡ v → ⊥) → entry_place (take i es) v ≡ None
+pub no_place : (es : List Entry) (v : Value) (i : ℕ) → ((j : ℕ) → j < i → j < length es → (entry_at es j).value ≡ v → ⊥) → entry_place (take i es) v ≡ None
 no_place [] v zero h = refl
 no_place [] v (suc i) h = refl
 no_place (x ∷ es) v zero h = refl

@@ -13,10 +13,10 @@ use Rattle.vpf_theme.specs.declared.layout.Form.TheVariants as forms
 use Rattle.vpf_theme.specs.declared.layout.Layout.{Layout}
 use Rattle.vpf_theme.specs.declared.entries.Extent.{Extent}
 use Rattle.vpf_theme.specs.Layouts.{entry_start, row_bytes}
-use Rattle.vpf_theme.specs.Entries.{entry_of, extent_of, is_marked, listed_rows, number_at, number_start, rows_by}
+use Rattle.vpf_theme.specs.Entries.{entry_of, extent_of, is_marked, listed_rows, number_at, number_start, rows_by, AreRows}
 use Rattle.vpf_findings.specs.Firsts.{first_over}
 use Rattle.vpf_theme.specs.Reading.{fault_where, is_behind, is_row, is_bitmap, number_line, numbers_line, list_line, pad_line, bitmap_line, entry_rows_line, entry_line, entries_line}
-use Rattle.vpf_theme.specs.Inner.Views.{AreRows, HasData}
+use Rattle.vpf_theme.specs.Inner.Views.{HasData}
 use Rattle.vpf_theme.proofs.FaultLemmas.{no_fault, entry_rows}
 use Rattle.vpf_theme.specs.Inner.FaultLaws.{entry_none}
 

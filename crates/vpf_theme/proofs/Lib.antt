@@ -10,6 +10,7 @@ mod ComparedLemmas
 pub mod WalkLemmas
 mod AgreeLemmas
 mod AgreementLemmas
+mod RepeatLemmas
 mod ScanLemmas
 pub mod PieceLemmas
 mod HeaderLemmas

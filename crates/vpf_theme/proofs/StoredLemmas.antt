@@ -19,11 +19,10 @@ use Rattle.vpf_theme.specs.declared.layout.Form.TheVariants as forms
 use Rattle.vpf_theme.specs.declared.layout.Layout.{Layout}
 use Rattle.vpf_theme.specs.declared.entries.Extent.{Extent}
 use Rattle.vpf_theme.specs.Layouts.{directory_end, row_bytes}
-use Rattle.vpf_theme.specs.Entries.{is_marked, listed_rows, marked_rows, number_at, number_start, row_number, rows_by}
+use Rattle.vpf_theme.specs.Entries.{is_marked, listed_rows, marked_rows, number_at, number_start, row_number, rows_by, AreRows}
 use Rattle.vpf_findings.specs.Firsts.{first_over}
 use Rattle.vpf_theme.specs.Reading.{bitmap_line, is_bitmap, is_behind, is_row, list_line, number_line, numbers_line, pad_line, entry_rows_line}
 use Rattle.vpf_theme.specs.Spelling.{AreData, AreNumbers, HoldsRow, IsBitmap, IsList, LiesBehind, row_width, row_numbers_text}
-use Rattle.vpf_theme.specs.Inner.Views.{AreRows}
 use Rattle.vpf_theme.proofs.AgreementLemmas.{tail_rises}
 use Rattle.vpf_theme.proofs.DataLemmas.{all_range, bitmap_data, list_many, numbers_data}
 use Rattle.vpf_theme.proofs.FaultLemmas.{no_fault}

@@ -1,24 +1,18 @@
 -- Walks over rows and entries, one after another.
-use Rattle.std.proofs.Common.{[], ◌≡◌, ℕ, zero, suc, ◌+◌, ◌-◌, ◌<◌, ◌≤◌, Bool, true, false, ◌||◌, ◌==◌, cond, List, ◌∷◌, ◌++◌, length, take, map, set, get_or, Option, Some, None, append_assoc, refl, sym, ap, ◌∙◌, arith, inl, inr}
-use Rattle.std.specs.Prelude.{find, slice_get, slice_index_or, nat_eq, option_map, position}
-use Rattle.std.specs.List.{list_any, position_from, range_with_len}
+use Rattle.std.proofs.Common.{[], ◌≡◌, ℕ, suc, ◌+◌, ◌-◌, ◌<◌, ◌≤◌, Bool, true, false, ◌||◌, ◌==◌, List, ◌∷◌, ◌++◌, length, take, map, set, get_or, Option, Some, append_assoc, refl, sym, ap, ◌∙◌, arith, inl, inr}
+use Rattle.std.specs.Prelude.{find, slice_get, slice_index_or, nat_eq}
+use Rattle.std.specs.List.{list_any, range_with_len}
 use Rattle.std.proofs.lemmas.Bool.{cases_eq, eq-eqb, ne_eqb}
 use Rattle.std.proofs.lemmas.List.{map-append, get_or-map, get_or-set_same, get_or-set_other, take_more}
-use Rattle.std.proofs.lemmas.Bool.Decides.{Decides-like, same_from_decides}
-use Rattle.std.proofs.lemmas.Iterator.Adapters.{position_from-zero}
 use Rattle.std.proofs.lemmas.List.Folds.{list_any-append}
 use Rattle.std.proofs.lemmas.Option.{get_or_from_slice_get}
 use Rattle.vpf_base.proofs.Booleans.{or_true, or_false}
 use Rattle.vpf_value.specs.declared.cells.Cell.{Cell}
 use Rattle.vpf_value.specs.Values.{Value, Nothing, view}
 use Rattle.vpf_table.specs.Grid.{Row}
-use Rattle.vpf_theme.specs.declared.keys.ValueKey.{ValueKey}
-use Rattle.vpf_theme.specs.Ordering.{same_value}
 use Rattle.vpf_theme.specs.Entries.{Entry}
-use Rattle.vpf_theme.specs.Findings.{entry_at, no_entry, entry_place}
-use Rattle.vpf_theme.specs.Inner.Keeping.{HoldMarks, HoldKeys}
-use Rattle.vpf_theme.specs.Inner.KeyLaws.{Decides-same_value}
-use Rattle.vpf_theme.specs.Inner.Keys.{same_value_key, value_key}
+use Rattle.vpf_theme.specs.Findings.{entry_at, no_entry}
+use Rattle.vpf_theme.specs.Inner.Keeping.{HoldMarks}
 
 -- ---- the cells of a column
 
@@ -30,8 +24,6 @@ cells_more f c items more cell row rows rest whole by pushed is steps done =
 
 pub cell_there : (cells : List Cell) (k : ℕ) (cell : Cell) → k < length cells → cell ≡ get_or cells k cell → get_or (map view cells) k Nothing ≡ view cell
 cell_there cells k cell h e = get_or-map view cells k cell Nothing h ∙ ap view (sym e)
-
--- ---- rows one after another
 
 -- ---- marks
 
@@ -58,40 +50,7 @@ marks_more es i n marks new h held len step = (
       rw (e, a, or_false, step k (omega (arith, held.0)), held.1 k m) refl,
 )
 
--- ---- places of values
-
-from_place : (test : ValueKey → Bool) (v : Value) (i : ℕ) (keys : List ValueKey) (es : List Entry) → ((k : ValueKey) (e : Entry) → value_key k ≡ e.value → test k ≡ same_value e.value v) → map value_key keys ≡ map (λ (e : Entry). e.value) es → position_from test i keys ≡ option_map (λ n. i + n) (entry_place es v)
-from_place test v i [] [] is same = refl
-from_place test v i [] (e ∷ es) is same = absurd cc
-from_place test v i (k ∷ keys) [] is same = absurd cc
-from_place test v i (k ∷ keys) (e ∷ es) is same =
-    let head : value_key k ≡ e.value = cc in
-    let rest : map value_key keys ≡ map (λ (e : Entry). e.value) es = cc in
-    rw (is k e head, from_place test v (i + 1) keys es is rest) (by (same_value e.value v) (entry_place es v))
-  where
-    by : (b : Bool) (o : Option ℕ) → cond b (Some i) (option_map (λ n. i + 1 + n) o) ≡ option_map (λ n. i + n) (cond b (Some 0) (option_map suc o))
-    by true o = let z : i + 0 ≡ i = omega arith in rw z refl
-    by false None = refl
-    by false (Some n) = let z : i + 1 + n ≡ i + suc n = omega arith in rw z refl
-
-same_turned : (a b : Value) → same_value a b ≡ same_value b a
-same_turned a b = same_from_decides (same_value a b) (same_value b a) (Decides-same_value a b) (Decides-like (same_value b a) (λ e. sym e) (λ e. sym e) (Decides-same_value b a))
-
-map_zero : (o : Option ℕ) → option_map (λ n. 0 + n) o ≡ o
-map_zero None = refl
-map_zero (Some n) = let z : 0 + n ≡ n = omega arith in rw z refl
-
--- a key stands first where its value does
-pub place_of_key : (key : ValueKey) (v : Value) (keys : List ValueKey) (es : List Entry) → value_key key ≡ v → map value_key keys ≡ map (λ (e : Entry). e.value) es → position (same_value_key key) keys ≡ entry_place es v
-place_of_key key v keys es is same =
-    position_from-zero (same_value_key key) keys
-    ∙ from_place (same_value_key key) v 0 keys es (λ k e h. rw (is, h) (same_turned v e.value)) same
-    ∙ map_zero (entry_place es v)
-
-pub keys_more : (es : List Entry) (i : ℕ) (keys more : List ValueKey) (key : ValueKey) → i < length es → value_key key ≡ (entry_at es i).value → HoldKeys es i keys → more ≡ keys ++ key ∷ [] → HoldKeys es (i + 1) more
-keys_more es i keys more key h is held pushed =
-    let e = take_more es i no_entry h in
-    rw (pushed, e, map-append value_key keys (key ∷ []), map-append (λ (x : Entry). x.value) (take i es) (entry_at es i ∷ []), held, is) refl
+-- ---- numbers one after another
 
 pub find_range_pass : (p : ℕ → Bool) (k n : ℕ) (whole : Option ℕ) → k < n → find p (range_with_len (k + 1) (n - k)) ≡ whole → p (k + 1) ≡ false → find p (range_with_len (k + 1 + 1) (n - (k + 1))) ≡ whole
 find_range_pass p k n whole h left q = let e : n - k ≡ suc (n - (k + 1)) = omega arith in let d = rw e at left in rw q at d

@@ -6,10 +6,9 @@ use Rattle.vpf_value.specs.Values.{Value}
 use Rattle.vpf_head.specs.Head.{Col}
 use Rattle.vpf_table.specs.Grid.{Grid}
 use Rattle.vpf_theme.specs.Ordering.{same_value}
-use Rattle.vpf_theme.specs.Entries.{Theme}
+use Rattle.vpf_theme.specs.Entries.{Theme, AreRows}
 use Rattle.vpf_theme.specs.Findings.{cell_of, cells_of, entry_at}
 use Rattle.vpf_theme.specs.Reading.{theme_of}
-use Rattle.vpf_theme.specs.Inner.Views.{AreRows}
 
 -- the index is one of this column: each row stands in the entry of its cell's value and in no other, whose rows rise
 pub record AgreesWithColumn (t : Theme) (column : Col) (cells : List Value) : Type 0 where

@@ -1,5 +1,5 @@
 -- What a thematic index says, and the entries of its directory.
-use Rattle.std.specs.Prelude.{ℕ, ◌+◌, ◌-◌, ◌*◌, ◌/◌, ◌%◌, ◌≤◌, Bool, ◌==◌, if◌then◌else◌, List, [], ◌∷◌, length, drop, map, filter, slice_index, Option, Some, None, Ok, Err}
+use Rattle.std.specs.Prelude.{ℕ, ◌+◌, ◌-◌, ◌*◌, ◌/◌, ◌%◌, ◌≤◌, Bool, ◌==◌, if◌then◌else◌, List, [], ◌∷◌, All, length, drop, map, filter, slice_index, Option, Some, None, Ok, Err}
 use Rattle.std.specs.List.{range_with_len}
 use Rattle.std.specs.Int.{w16, w32, bit_at}
 use Rattle.vpf_base.specs.declared.orders.Order.{Order}
@@ -30,6 +30,10 @@ pub record Theme : Type 0 where
   pub rows : ℕ
   pub sorted : Bool
   pub entries : List Entry
+
+-- each is the number of a row of a table of n rows
+abbrev pub AreRows : ℕ → List ℕ → Type 0
+AreRows n rows = All (λ row. (1 ≤ row) × (row ≤ n)) rows
 
 -- the rows of the first entry that has the value
 abbrev pub found_in : Value → List Entry → Option (List ℕ)

@@ -4,8 +4,8 @@ pub mod Faults
 pub mod HeaderLaws
 pub mod Keeping
 pub mod KeyLaws
-pub mod Keys
 pub mod PieceLaws
+pub mod Repeating
 pub mod Searching
 pub mod StoredLaws
 pub mod ValueLaws

@@ -18,8 +18,7 @@ use Rattle.vpf_theme.specs.declared.layout.Layout.{Layout}
 use Rattle.vpf_theme.specs.declared.entries.Extent.{Extent}
 use Rattle.vpf_theme.specs.Layouts.{HasValues, directory_end, entry_start, form_text, header_bytes, row_bytes, row_size_text}
 use Rattle.vpf_theme.specs.Ordering.{value_cmp}
-use Rattle.vpf_theme.specs.Entries.{Entry, Theme, is_marked}
-use Rattle.vpf_theme.specs.Inner.Views.{AreRows}
+use Rattle.vpf_theme.specs.Entries.{Entry, Theme, is_marked, AreRows}
 
 -- the bytes stand in the file at an offset
 abbrev pub StandsAt : List ℕ → ℕ → List ℕ → Type 0

@@ -1,29 +1,26 @@
 //! Whether a thematic index agrees with a column.
 
-ghost use Rattle.std.specs.Prelude.{◌≡◌, ◌<◌, ◌+◌, ◌^◌, length, map, IfOk, OnOk};
+ghost use Rattle.std.specs.Prelude.{◌≡◌, ◌≤◌, ◌<◌, ◌+◌, ◌^◌, length, map, IfOk, IfSome, OnOk};
 ghost use Rattle.vpf_value.specs.Values.{view};
 ghost use Rattle.vpf_head.specs.Inner.Views.{col};
 ghost use Rattle.vpf_findings.specs.Firsts.{Finds, Tells};
 ghost use Rattle.vpf_theme.specs.Findings.{cells_of, entries_finding, fall_line, first_finding, lines_at, of_column, other_line, repeated_line};
 ghost use Rattle.vpf_theme.specs.Agreeing.{AgreesAt};
-ghost use Rattle.vpf_theme.specs.Inner.Keeping.{HoldKeys};
-ghost use Rattle.vpf_theme.specs.Inner.Views.{AreRows};
+ghost use Rattle.vpf_theme.specs.Inner.Repeating.{TellsRepeat};
+ghost use Rattle.vpf_theme.specs.Entries.{AreRows};
 
 use crate::fitting::fits_table;
 use crate::hits::Hits;
-use crate::keys::ValueKey;
 use crate::laws::agreement_is_no_finding;
 use crate::marking::check_missing;
+use crate::repeating::{Repeat, first_repeat};
 use crate::reporting::finding;
 use crate::view::ThemeView;
 use std::alloc::{AllocError, Global};
-use vpf_findings::{FindError, FirstPlaces};
+use vpf_findings::FindError;
 use vpf_head::Column;
 use vpf_table::{Finding, Seen, TableView};
 use vpf_value::{Cell, same};
-
-/// The values of entries, with the first place of each.
-type Firsts<'a> = FirstPlaces<ValueKey<'a>>;
 
 /// The cells of a column, row by row.
 fn column_cells<'a>(
@@ -45,22 +42,24 @@ fn column_cells<'a>(
 fn check_repeated<'a>(
     theme: &ThemeView<'a>,
     column: &Column<'a>,
-    firsts: &mut Firsts<'a>,
+    repeat: Option<Repeat>,
     i: u32,
-) -> Result<(), FindError<'a>>
+) -> Result<(), Finding<'a>>
     requires within { i < length theme.now.entries }
-    requires firsts { HoldKeys theme.now.entries i firsts.old }
-    ensures first { Tells result (repeated_line theme.now (col column.now) i) }
-    ensures firsts { OnOk result (HoldKeys theme.now.entries (i + 1) firsts.new) }
+    requires repeat { TellsRepeat theme.now.entries repeat }
+    requires ahead { IfSome repeat (λ r. i ≤ r.at) }
+    ensures first { Finds result (repeated_line theme.now (col column.now) i) }
+    ensures ahead { OnOk result (IfSome repeat (λ r. i + 1 ≤ r.at)) }
 {
     let _entries = theme.entries();
-    let cell = theme.value(i);
-    if let Some(first) = firsts.put(ValueKey { cell })? {
-        let earlier = Seen::Number(i64::from(first) + 1);
-        let repeated = finding(i + 1, column.name, Seen::Cell(column.kind, cell), earlier);
-        return Err(FindError::Finding(repeated));
+    match repeat {
+        Some(repeat) if repeat.at == i => {
+            let cell = Seen::Cell(column.kind, theme.value(i));
+            let earlier = Seen::Number(i64::from(repeat.earlier) + 1);
+            Err(finding(i + 1, column.name, cell, earlier))
+        }
+        _ => Ok(()),
     }
-    Ok(())
 }
 
 /// Each row of entry `i` has its value.
@@ -116,17 +115,18 @@ fn check_entry<'a>(
     theme: &ThemeView<'a>,
     column: &Column<'a>,
     cells: &[Cell<'a>],
-    firsts: &mut Firsts<'a>,
+    repeat: Option<Repeat>,
     i: u32,
-) -> Result<(), FindError<'a>>
+) -> Result<(), Finding<'a>>
     requires within { i < length theme.now.entries }
     requires rows { theme.now.rows ≡ length cells.now }
-    requires firsts { HoldKeys theme.now.entries i firsts.old }
-    ensures first { Tells result (lines_at theme.now (col column.now) (map view cells.now) i) }
-    ensures firsts { OnOk result (HoldKeys theme.now.entries (i + 1) firsts.new) }
+    requires repeat { TellsRepeat theme.now.entries repeat }
+    requires ahead { IfSome repeat (λ r. i ≤ r.at) }
+    ensures first { Finds result (lines_at theme.now (col column.now) (map view cells.now) i) }
+    ensures ahead { OnOk result (IfSome repeat (λ r. i + 1 ≤ r.at)) }
 {
     let _entries = theme.entries();
-    check_repeated(theme, column, firsts, i)?;
+    check_repeated(theme, column, repeat, i)?;
     let value = theme.value(i);
     check_cells(column, cells, i, value, theme.hits(i))?;
     check_rise(column, i, value, theme.hits(i))?;
@@ -143,9 +143,9 @@ fn check_entries<'a>(
     requires { theme.now.rows ≡ length cells.now }
     ensures { Tells result (entries_finding theme.now (col column.now) (map view cells.now)) }
 {
-    let mut firsts = FirstPlaces::new(alloc);
+    let repeat = first_repeat(alloc, theme)?;
     for i in 0..theme.entries() {
-        check_entry(theme, column, cells, &mut firsts, i)?;
+        check_entry(theme, column, cells, repeat, i)?;
     }
     Ok(())
 }
@@ -174,7 +174,7 @@ fn check_column<'a>(
 /// The index agrees with a column: its kind, count and number of rows are the table's, each row stands in the entry of its
 /// cell's value and in no other, and the rows of each entry rise. The first place where that fails is the finding: the
 /// index as a whole, and then entry by entry. The table is passed once and the rows of each entry three
-/// times; the values of the entries are kept in a map.
+/// times; the values of the entries are sorted.
 pub fn agrees<'a>(
     alloc: Global,
     theme: &ThemeView<'a>,

@@ -6,7 +6,7 @@ ghost use Rattle.vpf_head.specs.Inner.Views.{col};
 ghost use Rattle.vpf_theme.specs.Findings.{missing_line};
 ghost use Rattle.vpf_findings.specs.Firsts.{Tells};
 ghost use Rattle.vpf_theme.specs.Inner.Keeping.{HoldMarks};
-ghost use Rattle.vpf_theme.specs.Inner.Views.{AreRows};
+ghost use Rattle.vpf_theme.specs.Entries.{AreRows};
 
 use crate::hits::Hits;
 use crate::reporting::finding;

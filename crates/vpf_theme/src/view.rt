@@ -2,9 +2,9 @@
 
 ghost use Rattle.std.specs.Prelude.{◌≡◌, ◌<◌, None};
 ghost use Rattle.vpf_theme.specs.Layouts.{HasValues};
-ghost use Rattle.vpf_theme.specs.Entries.{entry_of};
+ghost use Rattle.vpf_theme.specs.Entries.{entry_of, AreRows};
 ghost use Rattle.vpf_theme.specs.Reading.{entries_line};
-ghost use Rattle.vpf_theme.specs.Inner.Views.{AreRows, all_rows};
+ghost use Rattle.vpf_theme.specs.Inner.Views.{all_rows};
 
 use crate::checking::check_entries;
 use crate::entries::extent_at;
@@ -17,6 +17,7 @@ use std::sync::ledger::Ledger;
 use vpf_source::Steps;
 use vpf_triplet::{Kind, Order, Place};
 use vpf_value::Cell;
+use vpf_value::laws::fixed_cells;
 
 /// A thematic index whose entries stay in the file. Contracts see it as what its header says and the list of its entries.
 #[derive(Drop)]
@@ -26,7 +27,7 @@ pub struct ThemeView<'a> {
 }
 
 impl<'a> Model for ThemeView<'a> {
-    ghost use Rattle.vpf_theme.specs.Entries.{Theme};
+    ghost use Rattle.vpf_theme.specs.Entries.{Theme, AreRows};
 
     ghost Value = { Theme };
 
@@ -57,8 +58,9 @@ impl<'a> ThemeView<'a> {
     ghost use Rattle.vpf_theme.specs.Inner.Faults.{FirstThemeFault};
     ghost use Rattle.vpf_theme.specs.Findings.{entry_at};
     ghost use Rattle.vpf_theme.specs.Agreeing.{HaveRows};
+    ghost use Rattle.vpf_theme.specs.Inner.Repeating.{HaveOneField};
     ghost use Rattle.vpf_theme.specs.Inner.Searching.{compared_for};
-    ghost use Rattle.vpf_theme.specs.Inner.Views.{AreRows, all_rows};
+    ghost use Rattle.vpf_theme.specs.Inner.Views.{all_rows};
     ghost use Rattle.vpf_triplet.specs.Places.{Gives};
     ghost use Rattle.vpf_theme.specs.Reading.{theme_of};
     ghost use Rattle.vpf_theme.specs.Spelling.{IsThematicIndex};
@@ -168,6 +170,14 @@ impl<'a> ThemeView<'a> {
         ensures { view result ≡ (entry_at self.now.entries i).value }
     {
         sure_value(&self.layout, self.bytes, i)
+    }
+
+    /// The values of the entries are of one field, the column's.
+    pub(crate) fn have_one_field(&self)
+        ensures { HaveOneField self.now.entries }
+    {
+        let _layout = self.layout;
+        fixed_cells();
     }
 
     /// The rows of entry `i`, counted from 0.

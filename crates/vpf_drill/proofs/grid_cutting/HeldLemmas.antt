@@ -6,7 +6,7 @@ use Rattle.std.specs.Int.{w16, w32, cast_unsigned}
 use Rattle.std.specs.List.{AllByRecursion, range_with_len}
 use Rattle.std.specs.Str.{bytes_eq}
 use Rattle.vpf_base.specs.Bytes.{IsBytes}
-use Rattle.vpf_source.specs.Files.{Files, no_files}
+use Rattle.vpf_source.specs.Files.{Files, no_files, HoldsBytes}
 use Rattle.vpf_source.specs.Making.{with_all}
 use Rattle.vpf_source.specs.declared.file.File.{File}
 use Rattle.vpf_base.specs.declared.orders.Order.TheVariants.{Little}
@@ -15,7 +15,6 @@ use Rattle.vpf_head.specs.Bytes.{space}
 use Rattle.vpf_head.specs.Canonical.{canonical_text, columns_text, column_text}
 use Rattle.vpf_table.specs.Canonical.{row_text}
 use Rattle.vpf_table.specs.Grid.{Row}
-use Rattle.vpf_library_files.specs.Loading.Holding.{HoldsBytes}
 use Rattle.vpf_vectors.specs.Cells.Rows.{edge_rows, face_rows, ring_rows, node_rows}
 use Rattle.vpf_vectors.specs.Heads.{tileref_head, edge_head, face_head, ring_head, node_head, plan_head}
 use Rattle.vpf_vectors.specs.Library.{grid_files, tiles}

@@ -1,10 +1,9 @@
 -- A tree that holds the files of the grid of n by n cells, and nothing else.
 use Rattle.std.specs.Prelude.{◌≡◌, ℕ, ◌≤◌, List, [], ◌∷◌, None, Some, codes, unwrap_or}
-use Rattle.vpf_source.specs.Files.{Files, no_files}
+use Rattle.vpf_source.specs.Files.{Files, no_files, HoldsBytes}
 use Rattle.vpf_source.specs.Making.{with_all}
 use Rattle.vpf_table.specs.Canonical.{canonical_table}
 use Rattle.vpf_table.specs.Grid.{Grid}
-use Rattle.vpf_library_files.specs.Loading.Holding.{HoldsBytes}
 use Rattle.vpf_library_files.specs.Loading.Loading.{LoadedTable, loaded_file, within}
 use Rattle.vpf_vectors.specs.Cells.Rows.{plan_rows}
 use Rattle.vpf_vectors.specs.Heads.{plan_head}

@@ -5,7 +5,7 @@ ghost use Rattle.vpf_base.specs.Results.{Meets};
 ghost use Rattle.vpf_value.specs.Values.{view};
 ghost use Rattle.vpf_head.specs.Head.{Col};
 ghost use Rattle.vpf_theme.specs.Findings.{cell_of, cells_of};
-ghost use Rattle.vpf_theme.specs.Inner.Views.{AreRows};
+ghost use Rattle.vpf_theme.specs.Entries.{AreRows};
 ghost use Rattle.vpf_select.specs.Selecting.{FitsColumn, IsOwn};
 ghost use Rattle.vpf_features.specs.Inner.Views.{index_seen, table_seen};
 ghost use Rattle.vpf_feature_commands.specs.declared.classes.errors.FeatureError.TheVariants as errors;

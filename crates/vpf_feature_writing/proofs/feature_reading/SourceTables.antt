@@ -3,7 +3,7 @@ use Rattle.std.proofs.Common.{[], ◌≡◌, ℕ, ◌+◌, ◌≤◌, Bool, true
 use Rattle.std.specs.Prelude.{IfSome, option_and_then}
 use Rattle.vpf_base.specs.Bytes.{IsBytes}
 use Rattle.vpf_base.specs.Limits.{most_bytes, most_rows}
-use Rattle.vpf_source.specs.Files.{Files}
+use Rattle.vpf_source.specs.Files.{Files, HoldsBytes}
 use Rattle.vpf_base.specs.declared.orders.Order.{Order}
 use Rattle.vpf_triplet.specs.declared.places.Place.{Place}
 use Rattle.vpf_head.specs.Head.{Col, varies_in}
@@ -17,7 +17,6 @@ use Rattle.vpf_theme.specs.Entries.{Theme}
 use Rattle.vpf_theme.specs.Reading.{theme_of}
 use Rattle.vpf_library_files.specs.declared.loading.loading.LoadStop.{LoadStop}
 use Rattle.vpf_library_files.specs.declared.loading.loading.LoadStop.TheVariants as stops
-use Rattle.vpf_library_files.specs.Loading.Holding.{HoldsBytes}
 use Rattle.vpf_library_files.specs.Loading.Loading.{LoadedTable, ◌and_then◌, loaded_file, most_loaded, read_found, read_optional, read_optional_table, read_required, read_table_in, tabled, with_its_index, with_own_index, within}
 use Rattle.vpf_library_files.specs.Inner.Loading.StepLaws.{gives, graded_is, no_value, steps, stopped, value_is}
 use Rattle.vpf_feature_files.specs.SchemaRows.Items.{own_file}

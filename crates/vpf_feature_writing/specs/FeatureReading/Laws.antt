@@ -2,12 +2,12 @@
 use Rattle.std.specs.Prelude.{◌≡◌, ℕ, ◌+◌, ◌≤◌, List, [], ◌∷◌, IfSome, Option, Some, None, Ok, option_and_then}
 use Rattle.std.specs.List.{AllByRecursion}
 use Rattle.vpf_base.specs.Bytes.{IsBytes}
-use Rattle.vpf_source.specs.Files.{Files}
+use Rattle.vpf_source.specs.Files.{Files, HoldsBytes}
 use Rattle.vpf_source.specs.declared.file.File.{File}
 use Rattle.vpf_head.specs.Head.{Col}
 use Rattle.vpf_table.specs.Grid.{Grid}
 use Rattle.vpf_table.specs.Reading.{table_of}
-use Rattle.vpf_library_files.specs.Loading.Holding.{AreHeld, HoldsBytes, bytes_in}
+use Rattle.vpf_library_files.specs.Loading.Holding.{AreHeld, bytes_in}
 use Rattle.vpf_library_files.specs.Loading.Loading.{most_loaded, within}
 use Rattle.vpf_feature_files.specs.SchemaRows.Items.{own_file}
 use Rattle.vpf_feature_files.specs.SchemaRows.Joins.{feature_items}

@@ -18,10 +18,9 @@ use Rattle.vpf_theme.specs.declared.layout.Form.TheVariants as forms
 use Rattle.vpf_theme.specs.declared.layout.Layout.{Layout}
 use Rattle.vpf_theme.specs.declared.entries.Extent.{Extent}
 use Rattle.vpf_theme.specs.Layouts.{entry_start, layout_of, row_bytes}
-use Rattle.vpf_theme.specs.Entries.{Theme, entry_of, extent_of, is_marked, number_at, number_start, rows_by, theme_in}
+use Rattle.vpf_theme.specs.Entries.{Theme, entry_of, extent_of, is_marked, number_at, number_start, rows_by, theme_in, AreRows}
 use Rattle.vpf_theme.specs.Findings.{no_entry}
 use Rattle.vpf_theme.specs.Reading.{cut_line, entries_line, entry_line, entry_rows_line, fault_where, is_behind, is_row, number_line, numbers_line, sort_line, theme_of, unless_fault}
-use Rattle.vpf_theme.specs.Inner.Views.{AreRows}
 use Rattle.vpf_theme.specs.Agreeing.{HaveRows}
 use Rattle.vpf_theme.specs.Inner.FaultLaws.{entry_none}
 

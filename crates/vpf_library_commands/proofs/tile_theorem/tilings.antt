@@ -3,3 +3,4 @@ pub mod ReadLemmas
 pub mod MadeLemmas
 pub mod SourceLemmas
 pub mod TilingLemmas
+pub mod SourceDeciding

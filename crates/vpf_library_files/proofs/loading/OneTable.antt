@@ -17,7 +17,7 @@ use Rattle.vpf_library_files.specs.Loading.Holding.{AreFilesOf, AreFilesOfOption
 use Rattle.vpf_library_files.specs.Loading.Loads.{AddsOption, AddsTable, Comes, IsTableFound, LoadsAs, ReadsAs, ReadsValue, maybe}
 use Rattle.vpf_library_files.specs.Inner.Loading.StepLaws.{gives, graded_is, never_vary_both_ways, steps, value_is}
 use Rattle.vpf_library_files.proofs.loading.TableLaws.{OpenedIsRead, SpelledIsOpened}
-use Rattle.vpf_library_files.proofs.loading.HeldReads.{table_from}
+use Rattle.vpf_library_files.specs.Inner.Loading.HeldLaws.{table_of_grid}
 
 -- lists of files that begin with a file of one name
 same_file : (a b : File) (r s : List File) → a ∷ r ≡ b ∷ s → a ≡ b
@@ -104,15 +104,15 @@ same_so name x t e h = rw e at h
 
 -- the files of a table whose own bytes are read so
 with_index_read : OpenedIsRead → (held : Files) (name bytes : List ℕ) (grid : Grid) (t : LoadedTable) (n k : ℕ) (varies : Bool) → table_of bytes ≡ Ok grid → varies_in grid.head.columns ≡ varies
-    → (if varies then (read_required held (index_name name) n and_then with_own_index name bytes) else gives (table_from grid (loaded_file name bytes ∷ [])) n) ≡ (Ok t, k)
+    → (if varies then (read_required held (index_name name) n and_then with_own_index name bytes) else gives (table_of_grid grid (loaded_file name bytes ∷ [])) n) ≡ (Ok t, k)
     → AreRead name t.grid t.files
 with_index_read again held name bytes grid t n k false read v e =
-    same_so name (table_from grid (loaded_file name bytes ∷ [])) t (value_is (table_from grid (loaded_file name bytes ∷ [])) t n k e)
+    same_so name (table_of_grid grid (loaded_file name bytes ∷ [])) t (value_is (table_of_grid grid (loaded_file name bytes ∷ [])) t n k e)
     (inl (record { bytes = bytes; are = refl; read = read; one_length = v }))
 with_index_read again held name bytes grid t n k true read v e =
     let s = steps (read_required held (index_name name) n) (with_own_index name bytes) t k e in
-    let g = graded_is (index_name name) (λ own i. gives (table_from own (loaded_file name bytes ∷ loaded_file (index_name name) s.0 ∷ [])) i) (opened_of bytes (Some s.0)) s.1 t k s.3 in
-    let two = table_from g.0 (loaded_file name bytes ∷ loaded_file (index_name name) s.0 ∷ []) in
+    let g = graded_is (index_name name) (λ own i. gives (table_of_grid own (loaded_file name bytes ∷ loaded_file (index_name name) s.0 ∷ [])) i) (opened_of bytes (Some s.0)) s.1 t k s.3 in
+    let two = table_of_grid g.0 (loaded_file name bytes ∷ loaded_file (index_name name) s.0 ∷ []) in
     let own = again bytes (Some s.0) g.0 g.1 in
     let one : g.0 ≡ grid = ok_is (sym own ∙ read) in
     same_so name two t (value_is two t s.1 k g.2) (inr (record { bytes = bytes; index = s.0; are = refl; read = own; varies = rw one v }))
@@ -167,7 +167,7 @@ table_here : SpelledIsOpened → OpenedIsRead → (told : Option Files) (name : 
     → (grid : Grid) × AreFilesOf name grid added → new ≡ old ++ added
     → Comes told (λ held. read_table held name m) (λ t. AddsTable name old new t) n
 table_here spelled again None name m n old new added reads are behind = record {
-  value = table_from are.0 added;
+  value = table_of_grid are.0 added;
   is = record { behind = behind; are = are.1 };
   comes = λ held e. absurd (not_told held e);
 }
@@ -203,13 +203,13 @@ there_is name (Some t) p = sym (read_some name t.grid t.files p)
 
 abbrev some_of : Option Grid → List File → Option LoadedTable
 some_of None files = None
-some_of (Some grid) files = Some (table_from grid files)
+some_of (Some grid) files = Some (table_of_grid grid files)
 
 some_adds : SpelledIsOpened → OpenedIsRead → (name : List ℕ) (grid : Option Grid) (old new added : List File) → AreFilesOfOption name grid added → new ≡ old ++ added
     → AddsOption name old new (not (length added == 0)) (some_of grid added)
 some_adds spelled again name None old new added are behind = record { tells = rw are refl; behind = behind ∙ ap (λ x. old ++ x) are; are = refl }
 some_adds spelled again name (Some grid) old new added are behind = record {
-  tells = there_is name (Some (table_from grid added)) (files_read spelled again name grid added are);
+  tells = there_is name (Some (table_of_grid grid added)) (files_read spelled again name grid added are);
   behind = behind;
   are = are;
 }
@@ -256,7 +256,7 @@ found_here : SpelledIsOpened → OpenedIsRead → (told : Option Files) (name by
     → ((held : Files) → told ≡ Some held → ReadsValue (λ (v : List File) (t : LoadedTable). t.files ≡ v) files n (read_table_in held name bytes m))
     → AreFilesOf name grid files → Comes told (λ held. read_table_in held name bytes m) (λ t. IsTableFound grid files t) n
 found_here spelled again None name bytes grid files m n reads are = record {
-  value = table_from grid files;
+  value = table_of_grid grid files;
   is = record { grid_is = refl; files_are = refl };
   comes = λ held e. absurd (not_told held e);
 }

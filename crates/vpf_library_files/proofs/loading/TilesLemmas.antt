@@ -9,8 +9,7 @@ use Rattle.vpf_library_files.specs.declared.loading.loading.LoadStop.{LoadStop}
 use Rattle.vpf_library_files.specs.Loading.Loading.{LoadedTile, has_some, read_tile, read_tiles, tiles_files, within}
 use Rattle.vpf_library_files.specs.Loading.Loads.{AddsTile, AddsTiles, AreFilesOfTile, AreFilesOfTiles, Comes, ReadsStop}
 use Rattle.vpf_library_files.proofs.loading.LoadLemmas.{stops_all}
-use Rattle.vpf_library_files.proofs.loading.ReadSteps.{count_is}
-use Rattle.vpf_library_files.specs.Inner.Loading.StepLaws.{gives, steps, value_is}
+use Rattle.vpf_library_files.specs.Inner.Loading.StepLaws.{one_count, gives, steps, value_is}
 
 -- the paths of the tiles before tile t
 abbrev pub before_tile : List (List ℕ) → ℕ → List (List ℕ)
@@ -65,11 +64,11 @@ pub tile_stops : (held : Files) (folder : List ℕ) (done : List (List ℕ)) (pa
     → ReadsStop stop m (read_tiles held folder (done ++ path ∷ rest) n0)
 tile_stops held folder [] path rest tiles n0 n m stop e h =
     stops_all stop m (read_tile held (within folder path) n0) _
-    (subst (λ (k : ℕ). ReadsStop stop m (read_tile held (within folder path) k)) (sym (count_is {V = Tiles} [] tiles n0 n e)) h)
+    (subst (λ (k : ℕ). ReadsStop stop m (read_tile held (within folder path) k)) (sym (one_count {V = Tiles} [] tiles n0 n e)) h)
 tile_stops held folder (p ∷ done) path rest tiles n0 n m stop e h =
     let s = steps (read_tile held (within folder p) n0) _ tiles n e in
     let r = steps (read_tiles held folder done s.1) _ tiles n s.3 in
-    let same : r.1 ≡ n = count_is (s.0 ∷ r.0) tiles r.1 n r.3 in
+    let same : r.1 ≡ n = one_count (s.0 ∷ r.0) tiles r.1 n r.3 in
     let at_n : read_tiles held folder done s.1 ≡ (Ok r.0, n) = rw same at r.2 in
     let on = tile_stops held folder done path rest r.0 s.1 n m stop at_n h in
     rw s.2 (stops_all stop m (read_tiles held folder (done ++ path ∷ rest) s.1) _ on)
@@ -80,12 +79,12 @@ pub one_more : (held : Files) (folder : List ℕ) (done : List (List ℕ)) (path
     → read_tiles held folder (done ++ path ∷ []) n0 ≡ (Ok (tiles ++ tile ∷ []), m)
 one_more held folder [] path tiles tile n0 n m e h =
     let none : [] ≡ tiles = value_is {V = Tiles} [] tiles n0 n e in
-    let first : read_tile held (within folder path) n0 ≡ (Ok tile, m) = subst (λ (k : ℕ). read_tile held (within folder path) k ≡ (Ok tile, m)) (sym (count_is {V = Tiles} [] tiles n0 n e)) h in
+    let first : read_tile held (within folder path) n0 ≡ (Ok tile, m) = subst (λ (k : ℕ). read_tile held (within folder path) k ≡ (Ok tile, m)) (sym (one_count {V = Tiles} [] tiles n0 n e)) h in
     rw first (ap (λ (x : Tiles). gives (x ++ tile ∷ []) m) none)
 one_more held folder (p ∷ done) path tiles tile n0 n m e h =
     let s = steps (read_tile held (within folder p) n0) _ tiles n e in
     let r = steps (read_tiles held folder done s.1) _ tiles n s.3 in
-    let same : r.1 ≡ n = count_is (s.0 ∷ r.0) tiles r.1 n r.3 in
+    let same : r.1 ≡ n = one_count (s.0 ∷ r.0) tiles r.1 n r.3 in
     let is : s.0 ∷ r.0 ≡ tiles = value_is (s.0 ∷ r.0) tiles r.1 n r.3 in
     let at_n : read_tiles held folder done s.1 ≡ (Ok r.0, n) = rw same at r.2 in
     let on = one_more held folder done path r.0 tile s.1 n m at_n h in

@@ -4,4 +4,5 @@ pub mod FileLaws
 pub mod HeldLaws
 pub mod Laws
 pub mod Only
+pub mod ReadLaws
 pub mod StepLaws

@@ -1,7 +1,6 @@
 -- That files hold the tables of a coverage, by the grammar of tables and indexes alone.
-use Rattle.std.specs.Prelude.{◌≡◌, ◌⊎◌, ℕ, ◌+◌, ◌≤◌, true, false, List, [], ◌∷◌, ◌++◌, length, drop, Option, Some, None, is_some, IfSome, codes}
+use Rattle.std.specs.Prelude.{◌≡◌, ◌⊎◌, ℕ, ◌+◌, ◌≤◌, true, false, List, [], ◌∷◌, ◌++◌, length, drop, Option, Some, None, is_some, codes}
 use Rattle.std.specs.List.{list_any}
-use Rattle.vpf_base.specs.Bytes.{IsBytes}
 use Rattle.vpf_base.specs.Limits.{most_bytes}
 use Rattle.vpf_source.specs.Files.{Files}
 use Rattle.vpf_source.specs.declared.file.File.{File}
@@ -121,7 +120,3 @@ pub record HoldsCoverage (held : Files) (lib cov : List ℕ) (c : LoadedCoverage
   pub few : bytes_in c.files ≤ most_loaded
   pub own : LacksOfTile held (within lib cov) (tile_at c.coverage 0)
   pub tiles : LacksOfTiles held (within lib cov) c.coverage.paths (drop 1 c.coverage.tiles)
-
--- what a tree holds are bytes
-abbrev pub HoldsBytes : Files → Type 0
-HoldsBytes held = (name : List ℕ) → IfSome (held name) IsBytes

@@ -1,7 +1,6 @@
 -- Words over files have one answer.
 use Rattle.std.specs.Prelude.{◌≡◌, ℕ, List, Option, Some}
-use Rattle.vpf_source.specs.Files.{Files}
-use Rattle.vpf_library_files.specs.Loading.Holding.{HoldsBytes}
+use Rattle.vpf_source.specs.Files.{Files, HoldsBytes}
 use Rattle.vpf_run.specs.declared.command.Command.{Command}
 use Rattle.vpf_replies.specs.Answer.{Answer}
 use Rattle.vpf_run.specs.Commands.{IsAnswerTo, IsAnswer, command_of}

@@ -17,11 +17,10 @@ use Rattle.vpf_theme.specs.declared.layout.Form.TheVariants as forms
 use Rattle.vpf_theme.specs.declared.layout.Layout.{Layout}
 use Rattle.vpf_theme.specs.declared.layout.RowSize.{RowSize}
 use Rattle.vpf_theme.specs.declared.entries.Extent.{Extent}
-use Rattle.vpf_theme.specs.Entries.{Entry, is_marked, number_start}
+use Rattle.vpf_theme.specs.Entries.{Entry, is_marked, number_start, AreRows}
 use Rattle.vpf_theme.specs.Layouts.{HasValues, directory_end, entry_bytes, entry_start, form_text, header_bytes, is_count, is_indexed, row_bytes, row_size_text}
 use Rattle.vpf_theme.specs.Ordering.{value_cmp}
 use Rattle.vpf_theme.specs.Spelling.{AreEntriesAt, HoldsRow, IsThemeHeader, IsNumberAt, LiesBehind, StandsAt, ValuesRise, row_width, row_numbers_text}
-use Rattle.vpf_theme.specs.Inner.Views.{AreRows}
 
 -- ---- the header
 

@@ -1,19 +1,16 @@
--- The test for equal values tells them, so values can be keys.
-use Rattle.std.proofs.Common.{◌≡◌, ℕ, Bool, true, false, ◌&&◌, nat_eq, Option, Some, None, refl, sym, ap, ◌∙◌}
+-- The test for equal values tells them.
+use Rattle.std.proofs.Common.{◌≡◌, ℕ, Bool, true, false, ◌&&◌, nat_eq, Option, Some, None, refl, ap, ◌∙◌}
 use Rattle.std.specs.Prelude.{Decides, bytes_eq}
-use Rattle.std.specs.Cmp.{IsEquivalence, IsPartialEquivalence, partial_equiv_from_equiv}
 use Rattle.std.specs.Option.{option_eq}
 use Rattle.std.specs.Ordering.{int_eq}
 use Rattle.std.proofs.lemmas.Bool.{false≢true}
-use Rattle.std.proofs.lemmas.Bool.Decides.{Decides-eqb, Decides-int_eq, Decides-and, Decides-like, same_from_decides}
+use Rattle.std.proofs.lemmas.Bool.Decides.{Decides-eqb, Decides-int_eq, Decides-and, Decides-like}
 use Rattle.std.proofs.lemmas.Slice.Eq.{bytes_eq-Decides}
 use Rattle.vpf_triplet.specs.declared.triplets.Triplet.{Triplet}
 use Rattle.vpf_value.specs.declared.coords.WordWidth.{WordWidth}
 use Rattle.vpf_value.specs.declared.coords.WordWidth.TheVariants.{Four, Eight}
 use Rattle.vpf_value.specs.Values.{Value, TextOf, Word4Of, Word8Of, NumberOf, DateOf, Nothing, TripletOf, WordsOf}
-use Rattle.vpf_theme.specs.declared.keys.ValueKey.{ValueKey}
 use Rattle.vpf_theme.specs.Ordering.{same_value, same_triplet, same_width}
-use Rattle.vpf_theme.specs.Inner.Keys.{same_value_key, value_key, fed_value}
 
 Decides-option : (a b : Option ℕ) → Decides (option_eq nat_eq a b) (a ≡ b)
 Decides-option None None = (λ e. refl, λ e. refl)
@@ -59,19 +56,3 @@ same_no a b ne = off (same_value a b) (λ e. ne ((Decides-same_value a b).0 e))
     off : (t : Bool) → (t ≡ true → ⊥) → t ≡ false
     off true h = absurd (h refl)
     off false h = refl
-
-Decides-same_key : (a b : ValueKey) → Decides (same_value_key a b) (value_key a ≡ value_key b)
-Decides-same_key a b = Decides-same_value (value_key a) (value_key b)
-
-pub same_key_equiv : IsEquivalence same_value_key
-same_key_equiv = record {
-  refl = λ a. (Decides-same_key a a).1 refl;
-  symm = λ a b. same_from_decides (same_value_key a b) (same_value_key b a) (Decides-same_key a b) (Decides-like (same_value_key b a) (λ e. sym e) (λ e. sym e) (Decides-same_key b a));
-  congr = λ a b c h. let e = (Decides-same_key a b).0 h in same_from_decides (same_value_key a c) (same_value_key b c) (Decides-same_key a c) (Decides-like (same_value_key b c) (λ k. e ∙ k) (λ k. sym e ∙ k) (Decides-same_key b c));
-}
-
-pub same_key_partial : IsPartialEquivalence same_value_key
-same_key_partial = partial_equiv_from_equiv same_key_equiv
-
-pub same_key_fed : (a b : ValueKey) → same_value_key a b ≡ true → fed_value (value_key a) ≡ fed_value (value_key b)
-same_key_fed a b h = ap fed_value ((Decides-same_key a b).0 h)

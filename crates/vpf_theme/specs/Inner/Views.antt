@@ -1,5 +1,5 @@
 -- What contracts see of a thematic index and of the rows of an entry.
-use Rattle.std.specs.Prelude.{◌≡◌, ℕ, ◌+◌, ◌-◌, ◌*◌, ◌/◌, ◌<◌, ◌≤◌, ◌==◌, if◌then◌else◌, List, [], ◌∷◌, length, map, filter, Option, Some, None, MatchOption, All}
+use Rattle.std.specs.Prelude.{◌≡◌, ℕ, ◌+◌, ◌-◌, ◌*◌, ◌/◌, ◌<◌, ◌≤◌, ◌==◌, if◌then◌else◌, List, [], ◌∷◌, length, map, filter, Option, Some, None, MatchOption}
 use Rattle.std.specs.List.{range_with_len}
 use Rattle.std.specs.Iterator.{YieldsFirst}
 use Rattle.vpf_value.specs.Values.{Value}
@@ -58,10 +58,6 @@ HasHits h = HasData h.layout.form h.layout h.bytes.now h.extent
 -- all rows of an entry
 abbrev pub all_rows : List ℕ → Rows
 all_rows rows = record { left = rows; listed = length rows }
-
--- each is the number of a row of a table of n rows
-abbrev pub AreRows : ℕ → List ℕ → Type 0
-AreRows n rows = All (λ row. (1 ≤ row) × (row ≤ n)) rows
 
 -- a call gave the first row that was left, or none where none was, and how many are listed stays
 pub record GivesRow (old : Rows) (row : Option ℕ) (new : Rows) : Type 0 where

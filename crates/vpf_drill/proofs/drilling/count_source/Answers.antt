@@ -9,12 +9,12 @@ use Rattle.vpf_drill.proofs.drilling.count_source.Goals as goal
 
 pub load_here-requires : goal.load_here-requires
 load_here-requires c =
-    let t = c.grid_is_tiled.ensures c.args.cells c.requires.can in
+    let t = c.grid_is_tiled.ensures.tiled c.args.cells c.requires.can in
     record { held = grid_held c.args.cells; tells = c.requires.files; coverage = t.source; read = t.source_read }
 
 pub open_here-requires : goal.open_here-requires
 open_here-requires c =
-    let t = c.grid_is_tiled.ensures c.args.cells c.requires.can in
+    let t = c.grid_is_tiled.ensures.tiled c.args.cells c.requires.can in
     let are = c.in_ok-files.ensures.held (grid_held c.args.cells) t.source c.requires.files t.source_read in (
       t.source.coverage,
       subst (λ (files : List File). AreCoverageFiles grid_request.lib grid_request.cov t.source.coverage files) (sym c.deref.ensures.value) are,

@@ -14,12 +14,12 @@ use Rattle.vpf_drill.proofs.drilling.count_tiled.Goals as goal
 
 pub load_here-requires : goal.load_here-requires
 load_here-requires c =
-    let t = c.grid_is_tiled.ensures c.args.cells c.requires.can in
+    let t = c.grid_is_tiled.ensures.tiled c.args.cells c.requires.can in
     record { held = t.after; tells = c.requires.files ∙ t.made; coverage = t.tiled; read = t.tiled_read }
 
 pub open_here-requires : goal.open_here-requires
 open_here-requires c =
-    let t = c.grid_is_tiled.ensures c.args.cells c.requires.can in
+    let t = c.grid_is_tiled.ensures.tiled c.args.cells c.requires.can in
     let are = c.in_ok-files.ensures.held t.after t.tiled (c.requires.files ∙ t.made) t.tiled_read in (
       t.tiled.coverage,
       subst (λ (files : List File). AreCoverageFiles grid_request.out grid_request.cov t.tiled.coverage files) (sym c.deref.ensures.value) are,
@@ -28,7 +28,7 @@ open_here-requires c =
 
 pub cycles_of-requires : goal.cycles_of-requires
 cycles_of-requires c =
-    let t = c.grid_is_tiled.ensures c.args.cells c.requires.can in
+    let t = c.grid_is_tiled.ensures.tiled c.args.cells c.requires.can in
     let are = c.in_ok-files.ensures.held t.after t.tiled (c.requires.files ∙ t.made) t.tiled_read in
     let same =
     c.in_ok-coverage.ensures t.tiled.coverage (subst (λ (files : List File). AreCoverageFiles grid_request.out grid_request.cov t.tiled.coverage files) (sym c.deref.ensures.value) are) in

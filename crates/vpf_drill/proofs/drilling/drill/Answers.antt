@@ -10,7 +10,7 @@ use Rattle.vpf_drill.proofs.drilling.drill.Goals as goal
 pub returns : goal.returns
 returns c =
     let n = c.cells-cells.result in
-    let t = c.grid_is_tiled.ensures n c.cells-cells.ensures.can in
+    let t = c.grid_is_tiled.ensures.tiled n c.cells-cells.ensures.can in
     let of = c.in_ok-tiled.ensures t.after t.tiled t.made t.tiled_read in
     let source = c.in_ok-source.ensures.numbers t.source t.source_read in
     let tiled = of.is ∙ ap (λ (files : List File). tiled_numbers t.tiled.coverage of.cycles files) (c.made.ensures ∙ c.in_ok-cut.ensures.made) in

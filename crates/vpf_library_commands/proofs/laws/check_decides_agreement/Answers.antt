@@ -5,14 +5,14 @@ pub returns-clause-decides : goal.returns-clause-decides
 returns-clause-decides c =
     let laws = read_laws c.coverages_are_held.ensures.held c.coverages_are_held.ensures.read
     (coverage_laws c.files_are_libraries.ensures.library c.files_are_libraries.ensures.whole c.numbers_decide.ensures.coverage c.agreement_decides.ensures c.like_tiles_are_whole.ensures)
-    c.features_decide.ensures in
+    c.features_are_held.ensures.held c.features_are_held.ensures.read c.features_decide.ensures in
     check_decides laws
 
 pub returns-clause-counts : goal.returns-clause-counts
 returns-clause-counts c =
     let laws = read_laws c.coverages_are_held.ensures.held c.coverages_are_held.ensures.read
     (coverage_laws c.files_are_libraries.ensures.library c.files_are_libraries.ensures.whole c.numbers_decide.ensures.coverage c.agreement_decides.ensures c.like_tiles_are_whole.ensures)
-    c.features_decide.ensures in
+    c.features_are_held.ensures.held c.features_are_held.ensures.read c.features_decide.ensures in
     check_counts laws
 
 pub returns-clause-coverage : goal.returns-clause-coverage
@@ -21,4 +21,4 @@ returns-clause-coverage c =
     coverage_decides c.coverages_are_held.ensures.read laws
 
 pub returns-clause-read : goal.returns-clause-read
-returns-clause-read c = agreeing_is_read c.coverages_are_held.ensures.held
+returns-clause-read c = agreeing_is_read c.coverages_are_held.ensures.held c.features_are_held.ensures.held

@@ -6,7 +6,7 @@ pub returns-clause-some : goal.returns-clause-some
 returns-clause-some c =
     let laws = read_laws c.coverages_are_held.ensures.held c.coverages_are_held.ensures.read
     (coverage_laws c.files_are_libraries.ensures.library c.files_are_libraries.ensures.whole c.numbers_decide.ensures.coverage c.agreement_decides.ensures c.like_tiles_are_whole.ensures)
-    c.features_decide.ensures in
+    c.features_are_held.ensures.held c.features_are_held.ensures.read c.features_decide.ensures in
     has_answer c.one_trace.ensures.some laws
 
 pub returns-clause-one : goal.returns-clause-one
@@ -16,12 +16,12 @@ pub returns-clause-decides : goal.returns-clause-decides
 returns-clause-decides c =
     let laws = read_laws c.coverages_are_held.ensures.held c.coverages_are_held.ensures.read
     (coverage_laws c.files_are_libraries.ensures.library c.files_are_libraries.ensures.whole c.numbers_decide.ensures.coverage c.agreement_decides.ensures c.like_tiles_are_whole.ensures)
-    c.features_decide.ensures in
+    c.features_are_held.ensures.held c.features_are_held.ensures.read c.features_decide.ensures in
     trace_decides laws
 
 pub returns-clause-lists : goal.returns-clause-lists
 returns-clause-lists c =
     let laws = read_laws c.coverages_are_held.ensures.held c.coverages_are_held.ensures.read
     (coverage_laws c.files_are_libraries.ensures.library c.files_are_libraries.ensures.whole c.numbers_decide.ensures.coverage c.agreement_decides.ensures c.like_tiles_are_whole.ensures)
-    c.features_decide.ensures in
+    c.features_are_held.ensures.held c.features_are_held.ensures.read c.features_decide.ensures in
     trace_lists laws

@@ -1,8 +1,7 @@
 -- What is cut into tiles is an untiled coverage with its features: its tables are those of some bytes, their columns are right, and what they say is well
 -- formed; its features were read, and agree.
 use Rattle.std.proofs.Common.{◌≡◌, ℕ, List, Some, refl, sym, ap, ◌∙◌, subst}
-use Rattle.vpf_source.specs.Files.{Files}
-use Rattle.vpf_findings.specs.Firsts.{◌or◌}
+use Rattle.vpf_source.specs.Files.{Files, HoldsBytes}
 use Rattle.vpf_prims.specs.Coverages.{tile_at}
 use Rattle.vpf_prims.specs.Libraries.{library_of}
 use Rattle.vpf_prims.specs.Primitives.{Library, Primitives, untiled}
@@ -12,7 +11,6 @@ use Rattle.vpf_prims.specs.Tables.{TileTables}
 use Rattle.vpf_library_files.specs.Inner.Tileref.Laws.{StopsDecide}
 use Rattle.vpf_library_files.specs.Tileref.Stops.{IsBounded}
 use Rattle.vpf_library_files.specs.Tileref.Tileref.{IsTileref}
-use Rattle.vpf_library_files.specs.Loading.Holding.{HoldsBytes}
 use Rattle.vpf_library_files.specs.Loading.Loading.{LoadedCoverage, within}
 use Rattle.vpf_wing.specs.WellFormed.{IsWellFormed}
 use Rattle.vpf_cross.specs.Agreeing.{LibraryAgrees}
@@ -24,7 +22,7 @@ use Rattle.vpf_library_commands.specs.Agreeing.{CoverageDecides}
 use Rattle.vpf_library_commands.specs.Tile.{TileParts, featured_in}
 use Rattle.vpf_library_commands.specs.TileTheorem.Tilings.Cutting.{IsCutFrom}
 use Rattle.vpf_library_commands.specs.Inner.TileTheorem.Tilings.ReadLaws.{AreReadGrids, ReadsGrid as IsReadGrid, OpenedIsRead}
-use Rattle.vpf_library_commands.specs.Inner.TileTheorem.Tilings.SourceLaws.{unfound, parts_read, source_goes_on as goes_on}
+use Rattle.vpf_library_commands.specs.Inner.TileTheorem.Tilings.SourceLaws.{unfound, parts_read}
 use Rattle.vpf_library_commands.proofs.Example.{library_alone}
 
 -- ---- what is so of the source
@@ -46,7 +44,7 @@ well_formed c L same agrees =
     let own : LibraryAgrees (untiled c) = subst LibraryAgrees same agrees in
     record { numbered = own.numbered 0 refl; loops = own.loops; cycles = own.cycles 0 refl }
 
-some_tables : (a b : TileTables) → Some a ≡ Some b → a ≡ b
+pub some_tables : (a b : TileTables) → Some a ≡ Some b → a ≡ b
 some_tables a b e = cc
 
 -- what is cut into tiles is an untiled coverage that agrees with its features

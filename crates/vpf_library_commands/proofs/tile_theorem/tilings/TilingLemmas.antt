@@ -1,8 +1,8 @@
 -- A tiled library that is made agrees, and its boundary cycles are those of the coverage.
-use Rattle.std.proofs.Common.{◌≡◌, ℕ, false, true, List, ◌++◌, ◌≤◌, length, Option, None, Some, Ok, Err, refl, sym, ap, ◌∙◌, subst, append-nil}
+use Rattle.std.proofs.Common.{[], ◌≡◌, ℕ, false, true, List, ◌++◌, ◌≤◌, arith, length, Option, None, Some, Ok, Err, refl, sym, ap, ◌∙◌, subst, append-nil}
 use Rattle.std.specs.Prelude.{IsOk, codes}
 use Rattle.vpf_base.specs.Bytes.{IsBytes}
-use Rattle.vpf_source.specs.Files.{Files}
+use Rattle.vpf_source.specs.Files.{Files, HoldsBytes}
 use Rattle.vpf_source.specs.Making.{with_all}
 use Rattle.vpf_source.specs.declared.file.File.{File}
 use Rattle.vpf_base.specs.declared.orders.Order.{Order}
@@ -20,7 +20,7 @@ use Rattle.vpf_prims.specs.Primitives.{Library}
 use Rattle.vpf_prims.specs.Reading.{PrimitiveTables, primitives_of}
 use Rattle.vpf_prims.specs.Tables.{TileTables}
 use Rattle.vpf_library_files.specs.Inner.Tileref.Laws.{StopsDecide}
-use Rattle.vpf_library_files.specs.Loading.Holding.{HoldsBytes, LacksOfTile, bytes_in}
+use Rattle.vpf_library_files.specs.Loading.Holding.{LacksOfTile, bytes_in}
 use Rattle.vpf_library_files.specs.Loading.Loading.{Read, most_loaded, within}
 use Rattle.vpf_tiling.specs.declared.tileable.refusals.Refusal.{Refusal}
 use Rattle.vpf_library_files.specs.TableFiles.Adding.{files_made}
@@ -30,13 +30,16 @@ use Rattle.vpf_tiler.specs.Writable.{AreWritable, HaveFewRows}
 use Rattle.vpf_library_commands.specs.TilerLaws.{AreTilesGiven, MadeAgrees, MadeIsTileable}
 use Rattle.vpf_library_commands.specs.Folders.{HoldsExactly}
 use Rattle.vpf_library_commands.specs.Tilings.{AreInFolder, IsHeldInTiles, Tiling, tiling_of}
-use Rattle.vpf_library_commands.specs.Inner.TileTheorem.TiledFeatures.Laws.{AreMadeOf, IsHeldWithFeatures, MadeWithFeatures, StandAlone}
+use Rattle.vpf_library_commands.specs.Inner.TileTheorem.TiledFeatures.Laws.{AreMadeOf, IsHeldWithFeatures, MadeWithFeatures, NoSchemaTableIsMade, StandAlone}
 use Rattle.vpf_features.specs.FeatureAgreement.Agreeing.{FeaturesDecide}
+use Rattle.vpf_feature_writing.specs.FeatureReading.Rebuilt.{rebuilt}
 use Rattle.vpf_feature_writing.specs.Making.{Made, features_made}
 use Rattle.vpf_trace.specs.Tracing.{IsTrace}
 use Rattle.vpf_replies.specs.declared.verdict.Verdict.TheVariants.{Done, Refused}
 use Rattle.vpf_replies.specs.Answer.{Answer, done}
 use Rattle.vpf_replies.specs.Listings.{listing_text}
+use Rattle.vpf_feature_files.specs.Holding.{HoldsSchema}
+use Rattle.vpf_feature_files.specs.Inner.Laws.{ReadSchemaIsHeld}
 use Rattle.vpf_feature_files.specs.Schemas.{Schema}
 use Rattle.vpf_features.specs.Finding.{Named}
 use Rattle.vpf_library_commands.specs.Reading.{FeaturedCoverage, no_features}
@@ -71,6 +74,8 @@ pub record Known : Type 0 where
   pub traces : TraceDecides
   pub tileable : MadeIsTileable
   pub made : MadeWithFeatures
+  pub no_schema : NoSchemaTableIsMade
+  pub schemas : ReadSchemaIsHeld
 
 tables_written : KnownOfReading → (T : PrimitiveTables) → AreReadGrids T → AreWritable T
 tables_written k T g = record {
@@ -184,34 +189,64 @@ held_with k files after request parts T all names cut alone made lacks =
 
 -- which agree, as `check` is asked
 agreeing : (w : Tiling) (after : Files) (request : MakeRequest) (S : Schema) (held : IsHeldWithFeatures w request.cov after request.out S)
+    → HoldsSchema after (within request.out request.cov) (rebuilt S) (bytes_in held.tiles.loaded.files)
     → IsAgreeing after (made_request request) (with_rebuilt held.tiles.loaded S)
-agreeing w after request S held = record {
+agreeing w after request S held featured = record {
   held = held.tiles.holds;
   columns = held.tiles.columns;
   rows = held.tiles.agrees;
-  behind = held.behind;
-  featured = held.read;
+  featured = featured;
   features = held.agree;
 }
 
+-- no files of features are made
+none_made : (request : MakeRequest) (parts : TileParts) (T : TileTables) → parts.schema ≡ no_features
+    → files_made (cut_tables request parts T) ++ files_in_made (cut_features request parts) ≡ files_made (cut_tables request parts T)
+none_made request parts T none =
+    ap (λ (S : Schema). files_made (cut_tables request parts T) ++ files_in_made (features_made request.cov S)) none
+    ∙ append-nil (files_made (cut_tables request parts T))
+
+-- of a coverage without features the folder holds none
+none_held : NoSchemaTableIsMade → (files after : Files) (request : MakeRequest) (parts : TileParts) (T : TileTables) → HasNames request
+    → StandsAlone files request.out (cut_files request parts T) → with_all (cut_files request parts T) (Some files) ≡ Some after → parts.schema ≡ no_features
+    → (before : ℕ) → before ≤ most_loaded → HoldsSchema after (within request.out request.cov) no_features before
+none_held no_schema files after request parts T names alone made none before few =
+    let own : List File = files_made (cut_tables request parts T) in
+    let both : List File = own ++ files_in_made (cut_features request parts) in
+    let exact : HoldsExactly after request.out own = subst (HoldsExactly after request.out) (none_made request parts T none) (exactly files after request.out both alone made) in
+    let absent = no_schema after request.out request.cov T.tables (primitives_of T.tables) (cut_plan parts T) parts.tileref.grid names.named exact in
+    record {
+      found = [];
+      files = [];
+      are = record { fcs = []; features = []; are = refl; fcs_are = refl; features_are = refl; tables = refl };
+      there = tt;
+      few = omega (arith, few);
+      own = λ e. absent;
+      items = tt;
+    }
+
 -- the plan serves
-tileable : Known → (files : Files) (request : MakeRequest) (parts : TileParts) (T : TileTables) → HoldsBytes files → HasNames request
+pub tileable : Known → (files : Files) (request : MakeRequest) (parts : TileParts) (T : TileTables) → HoldsBytes files → HasNames request
     → IsCutFrom files request parts T → IsTileable (primitives_of T.tables) (cut_plan parts T) (length parts.tileref.grid.rows)
 tileable k files request parts T all names cut =
     let made = made_of k.reading files request parts T all cut in
     k.tileable request.cov T.tables parts.plan.grid parts.tileref.grid (files_made (cut_tables request parts T)) names.cov made.given made.tiles_are
 
--- the files that are made hold the tiled library with its features, which agree
+-- of a coverage without features the files that are made hold the tiled library, which agrees
 pub tilings_held : Known → (files after : Files) (request : MakeRequest) (parts : TileParts) (T : TileTables) → HoldsBytes files → HasNames request
     → IsCutFrom files request parts T → StandsAlone files request.out (cut_files request parts T)
     → with_all (cut_files request parts T) (Some files) ≡ Some after → LacksTheRest after request.out request.cov parts.schema
+    → parts.schema ≡ no_features
     → HoldsTiled after (made_request request) (primitives_of T.tables) (cut_plan parts T) (length parts.tileref.grid.rows) parts.schema
-tilings_held k files after request parts T all names cut alone made lacks =
+tilings_held k files after request parts T all names cut alone made lacks none =
     let held = held_with k files after request parts T all names cut alone made lacks in
+    let before = bytes_in held.tiles.loaded.files in
+    let empty = none_held k.no_schema files after request parts T names alone made none before held.tiles.holds.few in
+    let featured = subst (λ (S : Schema). HoldsSchema after (within request.out request.cov) (rebuilt S) before) (sym none) empty in
     record {
       may_be = tileable k files request parts T all names cut;
       loaded = held.tiles.loaded;
-      agrees = agreeing (tiling_of T.tables parts.plan.grid parts.tileref.grid) after request parts.schema held;
+      agrees = agreeing (tiling_of T.tables parts.plan.grid parts.tileref.grid) after request parts.schema held featured;
       library = held.tiles.says;
     }
 
@@ -224,8 +259,10 @@ pub tilings_answered : Known → (files after : Files) (request : MakeRequest) (
 tilings_answered k files after request parts T all bytes names cut alone made lacks =
     let held = held_with k files after request parts T all names cut alone made lacks in
     let read : FeaturedCoverage = with_rebuilt held.tiles.loaded parts.schema in
+    let featured = k.schemas after (within request.out request.cov) (rebuilt parts.schema) (bytes_in held.tiles.loaded.files) held.behind bytes
+    held.tiles.holds.few held.read in
     let agrees : IsAgreeing after (made_request request) read =
-    agreeing (tiling_of T.tables parts.plan.grid parts.tileref.grid) after request parts.schema held in
+    agreeing (tiling_of T.tables parts.plan.grid parts.tileref.grid) after request parts.schema held featured.0 in
     let trace = traced k after (made_request request) read bytes agrees in
     record {
       holds = record {
@@ -249,13 +286,6 @@ tilings_agree k files after request parts T all bytes names cut alone made lacks
     (tilings_answered k files after request parts T all bytes names cut alone made lacks).holds
 
 -- ---- a coverage without features
-
--- no files of features are made
-none_made : (request : MakeRequest) (parts : TileParts) (T : TileTables) → parts.schema ≡ no_features
-    → files_made (cut_tables request parts T) ++ files_in_made (cut_features request parts) ≡ files_made (cut_tables request parts T)
-none_made request parts T none =
-    ap (λ (S : Schema). files_made (cut_tables request parts T) ++ files_in_made (features_made request.cov S)) none
-    ∙ append-nil (files_made (cut_tables request parts T))
 
 -- a coverage in tiles has no edges of its own
 no_edges : (w : Tiling) (cov : List ℕ) (after : Files) (folder : List ℕ) (held : IsHeldInTiles w cov after folder)

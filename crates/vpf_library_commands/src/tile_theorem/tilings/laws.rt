@@ -1,14 +1,20 @@
 //! What is so of every tiled library that is made, and of the requests that words spell.
 
-ghost use Rattle.vpf_library_commands.specs.Inner.TileTheorem.Tilings.Laws.{NoneIsLacked, RequestsHaveNames, TilesAreMade};
+ghost use Rattle.vpf_library_commands.specs.Inner.TileTheorem.Tilings.Laws.{CutIsSource, NoneIsLacked, RequestsHaveNames, SourceIsCut, TilesAreMade};
 ghost use Rattle.vpf_library_commands.specs.Inner.TileTheorem.Tilings.Laws.{TilingsAgree, TilingsAreAnswered, TilingsAreHeld};
 
 use crate::laws::{check_decides_agreement, trace_lists_cycles};
-use crate::tile_theorem::tiled_features::laws::made_with_features;
+use crate::tile_theorem::tiled_features::laws::{made_with_features, no_schema_table_is_made};
 use crate::tiler::laws::made_agrees;
+use vpf_feature_files::laws::features_are_held;
 use vpf_features::feature_agreement::laws::features_decide;
+use vpf_library_files::loading::laws::{coverages_are_held, files_are_libraries};
 use vpf_library_files::tileref::laws::stops_decide;
-use vpf_table::laws::{opened_is_read, read_is_spelled, read_is_writable};
+use vpf_table::laws::{
+    opened_is_read, opened_is_spelled, read_is_spelled, read_is_writable, spelled_is_opened,
+};
+use vpf_tiling::plan::laws::plans_decide;
+use vpf_tiling::tileable::laws::refusals_decide;
 
 /// Where an untiled coverage agrees with its features, its plan serves and no features are joined by numbers, `tile` makes the files of its tiled library, and
 /// behind them those of its features.
@@ -33,6 +39,33 @@ pub fn tilings_agree()
     trace_lists_cycles();
     made_agrees();
     made_with_features();
+    no_schema_table_is_made();
+    features_are_held();
+}
+
+/// What `tile` reads and can cut is exactly an untiled coverage that the tree holds with its features, its table of tiles and its plan: it is well formed, its
+/// features agree, the plan serves, no features are joined by numbers, and no file passes a bound.
+pub fn sources_are_cut()
+    ensures cut { SourceIsCut }
+    ensures only { CutIsSource }
+{
+    spelled_is_opened();
+    opened_is_spelled();
+    opened_is_read();
+    read_is_spelled();
+    read_is_writable();
+    stops_decide();
+    plans_decide();
+    refusals_decide();
+    coverages_are_held();
+    files_are_libraries();
+    features_are_held();
+    features_decide();
+    check_decides_agreement();
+    trace_lists_cycles();
+    made_agrees();
+    made_with_features();
+    no_schema_table_is_made();
 }
 
 /// What features lack can't stand among the files that are made of a coverage without features.

@@ -1,7 +1,7 @@
 -- What is so of the files of every coverage.
 use Rattle.std.specs.Prelude.{◌≡◌, ℕ, List, Some, Ok}
 use Rattle.std.specs.List.{IsDistinct}
-use Rattle.vpf_source.specs.Files.{Files}
+use Rattle.vpf_source.specs.Files.{Files, HoldsBytes}
 use Rattle.vpf_source.specs.declared.file.File.{File}
 use Rattle.vpf_head.specs.Folding.{same_name}
 use Rattle.vpf_head.specs.Head.{names}
@@ -12,7 +12,7 @@ use Rattle.vpf_prims.specs.Libraries.{IsLibrary, library_of}
 use Rattle.vpf_prims.specs.Reading.{PrimitiveTables}
 use Rattle.vpf_prims.specs.Tables.{TileTables}
 use Rattle.vpf_library_files.specs.Loading.Loading.{LoadedCoverage, read_coverage}
-use Rattle.vpf_library_files.specs.Loading.Holding.{AreCoverageFiles, HoldsBytes, HoldsCoverage, bytes_in}
+use Rattle.vpf_library_files.specs.Loading.Holding.{AreCoverageFiles, HoldsCoverage, bytes_in}
 
 -- a coverage is read exactly where the tree, whose files are of bytes, holds it within the limits
 abbrev pub HeldIsRead : Type 0

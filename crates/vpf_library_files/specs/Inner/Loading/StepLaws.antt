@@ -26,6 +26,12 @@ no_value stop n k v e = no_ok v stop (sym (ap outcome e))
 pub value_is : {V : Type 0} (x y : V) (m n : ℕ) → gives x m ≡ gives y n → x ≡ y
 value_is x y m n e = ok_is (ap outcome e)
 
+abbrev outcome_count : {V : Type 0} → Read V → ℕ
+outcome_count read = read.1
+
+pub one_count : {V : Type 0} (x y : V) (m n : ℕ) → gives x m ≡ gives y n → m ≡ n
+one_count x y m n e = ap outcome_count e
+
 -- two steps that came to a value
 pub steps : {V W : Type 0} (read : Read V) (next : V → ℕ → Read W) (w : W) (k : ℕ) → (read and_then next) ≡ (Ok w, k)
     → (v : V) × (n : ℕ) × (read ≡ (Ok v, n)) × (next v n ≡ (Ok w, k))

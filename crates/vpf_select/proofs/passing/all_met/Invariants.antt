@@ -1,5 +1,5 @@
 use Rattle.std.proofs.Common.{◌≡◌, ◌++◌, length}
-use Rattle.vpf_theme.specs.Inner.Views.{AreRows}
+use Rattle.vpf_theme.specs.Entries.{AreRows}
 use Rattle.vpf_select.specs.Inner.Passing.{first_unmet}
 use Rattle.vpf_select.proofs.passing.all_met.Given as goal
 

@@ -7,8 +7,8 @@ use Rattle.vpf_table.specs.Grid.{Grid, Row}
 use Rattle.vpf_theme.specs.Findings.{cells_of}
 use Rattle.vpf_theme.specs.Ordering.{same_value}
 use Rattle.vpf_theme.specs.Agreeing.{listed}
-use Rattle.vpf_theme.specs.Entries.{found_in}
-use Rattle.vpf_theme.specs.Inner.Views.{AreRows, Rows, all_rows}
+use Rattle.vpf_theme.specs.Entries.{found_in, AreRows}
+use Rattle.vpf_theme.specs.Inner.Views.{Rows, all_rows}
 use Rattle.vpf_select.specs.Inner.Passing.{first_unmet, met_by}
 use Rattle.vpf_select.specs.Selecting.{RefusesRow, selected}
 use Rattle.vpf_select.proofs.IndexLemmas.{own_value, own_rows}

@@ -4,7 +4,7 @@ use Rattle.vpf_value.specs.Values.{view}
 use Rattle.vpf_table.specs.Grid.{Row}
 use Rattle.vpf_theme.specs.Findings.{cells_of}
 use Rattle.vpf_theme.specs.Agreeing.{scan_of}
-use Rattle.vpf_theme.specs.Inner.Views.{AreRows}
+use Rattle.vpf_theme.specs.Entries.{AreRows}
 use Rattle.vpf_select.proofs.ScanLemmas.{scan_done, scan_hit, scan_miss, scan_rows}
 use Rattle.vpf_select.proofs.scanning.scan.Goals as goal
 

@@ -1,6 +1,6 @@
 use Rattle.std.proofs.Common.{ℕ, subst}
 use Rattle.vpf_value.specs.Values.{view}
-use Rattle.vpf_theme.specs.Inner.Views.{AreRows}
+use Rattle.vpf_theme.specs.Entries.{AreRows}
 use Rattle.vpf_select.proofs.IndexLemmas.{own_value, own_rows}
 use Rattle.vpf_select.proofs.selecting.select.Goals as goal
 

@@ -1,7 +1,7 @@
 use Rattle.std.proofs.Common.{◌≡◌, ◌+◌, ◌++◌, length}
 use Rattle.vpf_value.specs.Values.{view}
 use Rattle.vpf_theme.specs.Findings.{cells_of}
-use Rattle.vpf_theme.specs.Inner.Views.{AreRows}
+use Rattle.vpf_theme.specs.Entries.{AreRows}
 use Rattle.vpf_select.specs.Selecting.{first_unlike}
 use Rattle.vpf_select.proofs.selecting.tested.Given as goal
 

@@ -3,7 +3,7 @@ use Rattle.std.specs.Prelude.{find}
 use Rattle.vpf_value.specs.Values.{view}
 use Rattle.vpf_theme.specs.Ordering.{same_value}
 use Rattle.vpf_theme.specs.Findings.{cell_of}
-use Rattle.vpf_theme.specs.Inner.Views.{AreRows}
+use Rattle.vpf_theme.specs.Entries.{AreRows}
 use Rattle.vpf_theme.proofs.agreeing.check_cells.Given as goal
 
 abbrev pub invariant-loop-row : goal.invariant-loop-row

@@ -1,6 +1,6 @@
 use Rattle.std.proofs.Common.{◌≡◌, ◌<◌, ◌+◌, ◌||◌, ◌==◌, ℕ, false, length, get_or}
 use Rattle.std.specs.List.{list_any}
-use Rattle.vpf_theme.specs.Inner.Views.{AreRows}
+use Rattle.vpf_theme.specs.Entries.{AreRows}
 use Rattle.vpf_theme.proofs.marking.mark_rows.Given as goal
 
 abbrev pub invariant-loop-row : goal.invariant-loop-row

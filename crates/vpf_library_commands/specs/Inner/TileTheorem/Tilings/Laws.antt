@@ -1,17 +1,17 @@
 -- What is so of every tiled library that is made, and of the names that words spell.
 use Rattle.std.specs.Prelude.{◌≡◌, ℕ, IsUtf8, List, Some, length}
 use Rattle.std.specs.List.{AllByRecursion}
-use Rattle.vpf_source.specs.Files.{Files}
+use Rattle.vpf_source.specs.Files.{Files, HoldsBytes}
 use Rattle.vpf_source.specs.Making.{with_all}
 use Rattle.vpf_prims.specs.Reading.{primitives_of}
 use Rattle.vpf_prims.specs.Tables.{TileTables}
-use Rattle.vpf_library_files.specs.Loading.Holding.{HoldsBytes}
 use Rattle.vpf_library_commands.specs.declared.requesting.MakeRequest.{MakeRequest}
 use Rattle.vpf_replies.specs.Making.{made_answer}
 use Rattle.vpf_library_commands.specs.Make.{make_request}
 use Rattle.vpf_library_commands.specs.Tile.{TileParts, tile_answer}
 use Rattle.vpf_library_commands.specs.Reading.{no_features}
 use Rattle.vpf_library_commands.specs.TileTheorem.Tilings.Cutting.{IsCutFrom, cut_files, cut_plan}
+use Rattle.vpf_library_commands.specs.TileTheorem.Tilings.Sources.{IsTileSource}
 use Rattle.vpf_library_commands.specs.TileTheorem.Tilings.Tilings.{AnswersTiling, HasNames, HoldsTiled, HoldsTiling, LacksTheRest, StandsAlone, made_request}
 
 -- where what was read can be cut, the answer of `tile` is to make the files of the tiled library and of its features
@@ -19,15 +19,26 @@ abbrev pub TilesAreMade : Type 0
 TilesAreMade = (files : Files) (request : MakeRequest) (parts : TileParts) (T : TileTables) → IsCutFrom files request parts T
     → tile_answer files request ≡ made_answer (cut_files request parts T)
 
--- where these files are made, stand alone, and what the features lacked isn't there, the tree holds that library with its features, and it agrees;
--- names are text, and the files that are read hold bytes
+-- what is held, and may be cut, is what is read and cut
+abbrev pub SourceIsCut : Type 0
+SourceIsCut = (files : Files) (request : MakeRequest) (parts : TileParts) (T : TileTables) → IsTileSource files request parts T → IsCutFrom files request parts T
+
+-- what is read of files of bytes, and can be cut, is such a source; names are text
+abbrev pub CutIsSource : Type 0
+CutIsSource = (files : Files) (request : MakeRequest) (parts : TileParts) (T : TileTables) → HoldsBytes files → HasNames request
+    → IsCutFrom files request parts T → IsTileSource files request parts T
+
+-- where these files are made of a coverage without features, and stand alone, the tree holds that library, and it agrees; names are text, and the files
+-- that are read hold bytes
 abbrev pub TilingsAreHeld : Type 0
 TilingsAreHeld = (files after : Files) (request : MakeRequest) (parts : TileParts) (T : TileTables) → HoldsBytes files → HasNames request
     → IsCutFrom files request parts T → StandsAlone files request.out (cut_files request parts T)
     → with_all (cut_files request parts T) (Some files) ≡ Some after → LacksTheRest after request.out request.cov parts.schema
+    → parts.schema ≡ no_features
     → HoldsTiled after (made_request request) (primitives_of T.tables) (cut_plan parts T) (length parts.tileref.grid.rows) parts.schema
 
--- and where all files hold bytes, its cycles are the coverage's
+-- where they are made, stand alone, what the features lacked isn't there, and all files hold bytes, the tree holds the library with its features, it agrees,
+-- and its cycles are the coverage's
 abbrev pub TilingsAgree : Type 0
 TilingsAgree = (files after : Files) (request : MakeRequest) (parts : TileParts) (T : TileTables) → HoldsBytes files → HoldsBytes after → HasNames request
     → IsCutFrom files request parts T → StandsAlone files request.out (cut_files request parts T)

@@ -6,12 +6,11 @@ use Rattle.vpf_table.specs.Reading.{table_of}
 use Rattle.std.specs.Prelude.{IfSome, codes}
 use Rattle.vpf_base.specs.Bytes.{IsBytes}
 use Rattle.vpf_base.specs.Limits.{most_bytes}
-use Rattle.vpf_source.specs.Files.{Files}
+use Rattle.vpf_source.specs.Files.{Files, HoldsBytes}
 use Rattle.vpf_triplet.specs.declared.places.Place.{Place}
 use Rattle.vpf_head.specs.Head.{varies_in}
 use Rattle.vpf_source.specs.Names.Indexes.{index_name}
 use Rattle.vpf_prims.specs.Reading.{PrimitiveTables}
-use Rattle.vpf_library_files.specs.Loading.Holding.{HoldsBytes}
 use Rattle.vpf_library_files.specs.Loading.Loading.{LoadedTable, LoadedTile, Read, ◌and_then◌, decided, graded, grid_in, loaded_file, loaded_tile, most_loaded, read_bytes, read_found, read_optional, read_optional_table, read_required, read_rest, read_table, read_table_in, read_tile, required, tabled, with_its_index, with_own_index, within}
 use Rattle.vpf_library_files.specs.declared.loading.loading.LoadStop.{LoadStop}
 

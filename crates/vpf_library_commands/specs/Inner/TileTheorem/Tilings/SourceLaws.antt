@@ -1,13 +1,12 @@
 -- What is cut into tiles is an untiled coverage with its features: its tables are those of some bytes, their columns are right, and what they say is well
 use Rattle.std.proofs.Common.{◌≡◌, ℕ, List, Option, None, Some, Ok, refl, ap, ◌∙◌, subst}
-use Rattle.vpf_source.specs.Files.{Files}
+use Rattle.vpf_source.specs.Files.{Files, HoldsBytes}
 use Rattle.vpf_source.specs.declared.file.File.{File}
 use Rattle.vpf_findings.specs.Findings.{Disagreement}
 use Rattle.vpf_findings.specs.Firsts.{◌or◌}
 use Rattle.vpf_findings.specs.Inner.FirstLaws.{option_map-none, or-none_both}
 use Rattle.vpf_prims.specs.Coverages.{CoverageTables}
 use Rattle.vpf_library_files.specs.Tileref.Stops.{TilerefStop, tileref_stop}
-use Rattle.vpf_library_files.specs.Loading.Holding.{HoldsBytes}
 use Rattle.vpf_library_files.specs.Loading.Loading.{LoadedCoverage, LoadedTable, LoadedTile, Read, ◌and_then◌, read_coverage, read_table, read_tile, read_tileref, tileref_name, unless_stopped, untiled_loaded, untiled_or_tiled, within}
 use Rattle.vpf_tiling.specs.Plan.PlanLoads.{read_plan}
 use Rattle.vpf_tiling.specs.Plan.Untiled.{read_untiled, tables_or_missing}

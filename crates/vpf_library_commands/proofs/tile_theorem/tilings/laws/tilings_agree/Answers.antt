@@ -17,6 +17,8 @@ returns-clause-held c = lemmas.tilings_held (record {
   traces = c.trace_lists_cycles.ensures.decides;
   tileable = c.made_agrees.ensures.tileable;
   made = c.made_with_features.ensures;
+  no_schema = c.no_schema_table_is_made.ensures;
+  schemas = c.features_are_held.ensures.read;
 })
 
 pub returns-clause-listed : goal.returns-clause-listed
@@ -35,6 +37,8 @@ returns-clause-listed c = lemmas.tilings_agree (record {
   traces = c.trace_lists_cycles.ensures.decides;
   tileable = c.made_agrees.ensures.tileable;
   made = c.made_with_features.ensures;
+  no_schema = c.no_schema_table_is_made.ensures;
+  schemas = c.features_are_held.ensures.read;
 })
 
 pub returns-clause-answered : goal.returns-clause-answered
@@ -53,4 +57,6 @@ returns-clause-answered c = lemmas.tilings_answered (record {
   traces = c.trace_lists_cycles.ensures.decides;
   tileable = c.made_agrees.ensures.tileable;
   made = c.made_with_features.ensures;
+  no_schema = c.no_schema_table_is_made.ensures;
+  schemas = c.features_are_held.ensures.read;
 })

@@ -1,0 +1,5 @@
+mod KnownLaws
+mod ColumnLemmas
+mod HeldTables
+mod HeldFeatures
+mod ReadFeatures
