@@ -8,3 +8,7 @@ mod HeldLemmas
 mod TableLemmas
 mod IndexLemmas
 mod SchemaLemmas
+mod Letters
+mod HeldFeatures
+mod TableTheme
+mod WrittenNames

@@ -148,7 +148,8 @@ pub record IsSource (src : Files) (folder : List ℕ) (fcs : Option Grid) (table
   pub schema : IsSchemaOption fcs
   pub items : AreItems src folder (feature_items (joins_of fcs)) tables
 
-abbrev schema_with : Option Grid → List FeatureTable → Schema
+-- the schema of a schema table and feature tables
+abbrev pub schema_with : Option Grid → List FeatureTable → Schema
 schema_with fcs tables = record { fcs = fcs; tables = tables }
 
 pub source_is : ReadLaws → (folder : List ℕ) (S : Schema) → (r : IsReadSchema folder S) → IsSource r.held folder S.fcs S.tables

@@ -1,7 +1,9 @@
 //! What is so of all features that are written.
 
 ghost use Rattle.vpf_feature_writing.specs.FeatureReading.Laws.{TablesAreRead, WrittenAgrees, WrittenAreRead};
+ghost use Rattle.vpf_feature_writing.specs.Inner.FeatureReading.Names.{WrittenLacksEdges, WrittenLacksTables};
 
+use vpf_feature_files::laws::features_are_held;
 use vpf_table::laws as tables;
 use vpf_theme_build::laws::{built_indexes_agree, built_indexes_are_read};
 use vpf_write::laws::written_is_read;
@@ -34,4 +36,14 @@ pub fn written_are_read()
     tables::read_is_writable();
     written_is_read();
     built_indexes_are_read();
+}
+
+/// No file of features that were read and are written has the name of a feature table that their schema table names and that wasn't there; nor that
+/// of the edges, where these were a table in the folder in which the features were read.
+pub fn written_names()
+    ensures tables { WrittenLacksTables }
+    ensures edges { WrittenLacksEdges }
+{
+    tables::read_is_spelled();
+    features_are_held();
 }
