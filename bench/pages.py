@@ -201,7 +201,7 @@ def see_places(what, lines):
 def see_architecture():
     text = page("ARCHITECTURE.md")
     see_places("layer", [line.split()[1:] for line in re.findall(r"^    (?:commands|libraries|topology|tables|bytes) .*$", text, re.M)])
-    see_places("family", [re.findall(r"\bvpf\w*", line) for line in re.findall(r"^    [1-8] \w+ .*$", text, re.M)])
+    see_places("family", [re.findall(r"\bvpf\w*", line) for line in re.findall(r"^    [1-9] \w+ .*$", text, re.M)])
     says = {name: cells[2] for cells in rows(text) if len(cells) == 3 for name in re.findall(r"vpf\w*", cells[0])}
     for crate, names in below.items():
         right_below = {name for name in names if not name.startswith("vpf") or not any(name in all_below(other) for other in names)}

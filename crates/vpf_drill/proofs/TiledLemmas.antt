@@ -1,5 +1,5 @@
 -- The grid cut into tiles: what is made of it is read as a coverage, and nothing is found in it.
-use Rattle.std.proofs.Common.{[], ◌≡◌, ℕ, ◌+◌, ◌≤◌, List, ◌∷◌, map, Option, None, Some, refl, sym, ap, ◌∙◌, subst, append-nil, arith}
+use Rattle.std.proofs.Common.{[], ◌≡◌, ℕ, ◌≤◌, List, ◌∷◌, map, Option, None, Some, refl, sym, ap, ◌∙◌, subst, append-nil, arith}
 use Rattle.std.specs.Prelude.{AllPairs, ◌≢◌, ◌++◌}
 use Rattle.vpf_source.specs.Files.{Files}
 use Rattle.vpf_source.specs.Making.{with_all}
@@ -105,7 +105,7 @@ alone k n can =
     }
 
 -- files can be made in any tree
-made_some : (files : List File) (held : Files) → (after : Files) × (with_all files (Some held) ≡ Some after)
+pub made_some : (files : List File) (held : Files) → (after : Files) × (with_all files (Some held) ≡ Some after)
 made_some [] held = (held, refl)
 made_some (file ∷ files) held = made_some files _
 
@@ -153,5 +153,5 @@ grids_are_sources k n can =
       alone = alone k n can;
       after = some.0;
       made = some.1;
-      lacks = k.lacked (grid_held n) some.0 grid_request (grid_parts n) (grid_tile_tables n) bytes (text k) cut (alone k n can) some.1 refl;
+      lacks = (k.lacked (grid_held n) some.0 grid_request (grid_parts n) (grid_tile_tables n) bytes (text k) cut (alone k n can) some.1 refl).indexes;
     }

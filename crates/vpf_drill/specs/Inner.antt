@@ -4,3 +4,4 @@ pub mod Laws
 pub mod TiledSizes
 pub mod Traced
 pub mod Trees
+pub mod Worked

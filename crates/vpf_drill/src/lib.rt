@@ -1,5 +1,5 @@
 //! `drill`: the grid of n by n cells, made in memory, cut into tiles, checked and traced, what comes of it in numbers, and the laws of the grid that
-//! it stands on.
+//! it stands on; and those of a small coverage that is cut with its features.
 #![tactic(auto)]
 
 mod counting;
@@ -12,6 +12,7 @@ mod numbers;
 mod request;
 pub mod tiled_sizes;
 mod trees;
+pub mod worked;
 
 pub use drilling::drill;
 pub use request::DrillRequest;

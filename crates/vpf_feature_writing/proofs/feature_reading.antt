@@ -8,7 +8,6 @@ mod HeldLemmas
 mod TableLemmas
 mod IndexLemmas
 mod SchemaLemmas
-mod Letters
 mod HeldFeatures
 mod TableTheme
 mod WrittenNames

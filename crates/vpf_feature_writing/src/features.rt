@@ -5,7 +5,7 @@ ghost use Rattle.vpf_base.specs.Results.{Meets};
 ghost use Rattle.vpf_library_files.specs.TableFiles.Adding.{error_seen};
 ghost use Rattle.vpf_features.specs.Inner.Views.{table_seen};
 ghost use Rattle.vpf_feature_writing.specs.Inner.Adding.{AddsMade};
-ghost use Rattle.vpf_feature_writing.specs.Making.{feature_table_made, feature_tables_made, features_made};
+ghost use Rattle.vpf_feature_writing.specs.Making.{Made, feature_table_made, feature_tables_made, features_made, made_then, then_files};
 
 use crate::indexes::add_indexes;
 use crate::tables::add_as_it_is;
@@ -65,4 +65,36 @@ pub fn feature_files(
     add_as_it_is(alloc, folder, "fcs", fcs, &mut files)?;
     add_feature_tables(alloc, folder, schema.tables(), &mut files)?;
     Ok(files)
+}
+
+/// These files of tables, and behind them those of the features, in the folder of the coverage; or the first that would pass a bound.
+fn behind(
+    alloc: Global,
+    cov: &str,
+    schema: &Schema<'_>,
+    mut files: Vec<File>,
+) -> Result<Vec<File>, AddError>
+    ensures { Meets (λ v. v.items) error_seen result (then_files files.items (features_made cov.now schema.now)) }
+{
+    let mut features = feature_files(alloc, cov, schema)?;
+    files.append(&mut features)?;
+    Ok(files)
+}
+
+/// The files of tables that were made, and behind them those of the features of a schema, each under its name in the folder of the coverage: what
+/// `feature_files` gives. Where a file would pass a bound, the answer is the limit of the first that would, in this order, and no files are given; also
+/// where there is too little memory.
+pub fn with_features(
+    alloc: Global,
+    cov: &str,
+    schema: &Schema<'_>,
+    made: Result<Vec<File>, AddError>,
+) -> Result<Vec<File>, AddError>
+    ensures { (tables : Made) → Meets (λ v. v.items) error_seen made tables
+        → Meets (λ v. v.items) error_seen result (made_then tables (features_made cov.now schema.now)) }
+{
+    match made {
+        Ok(files) => behind(alloc, cov, schema, files),
+        Err(error) => Err(error),
+    }
 }

@@ -66,7 +66,7 @@ fn in_file<'s, 'a>(tables: &'s [FeatureView<'a>], name: &Name) -> Option<&'s Fea
 }
 
 impl<'a> Schema<'a> {
-    ghost use Rattle.std.specs.Prelude.{◌≡◌, IfOk, map, option_map};
+    ghost use Rattle.std.specs.Prelude.{◌≡◌, ◌<◌, ◌^◌, IfOk, length, map, option_map};
     ghost use Rattle.vpf_feature_files.specs.SchemaRows.Joins.{join_of};
     ghost use Rattle.vpf_feature_files.specs.Schemas.{joins_of, table_called};
     ghost use Rattle.vpf_features.specs.Inner.Views.{IsRightSchemaTable, schema_seen, table_seen};
@@ -95,7 +95,8 @@ impl<'a> Schema<'a> {
 
     /// The rows of the schema table, in their order: none where there is no schema table. Takes memory for each, and fails only for want of it.
     pub fn rows(&self, alloc: Global) -> Result<Vec<SchemaRow<'a>>, AllocError>
-        ensures { IfOk result (λ rows. map join_of rows.items ≡ joins_of self.now.fcs) }
+        ensures said { IfOk result (λ rows. map join_of rows.items ≡ joins_of self.now.fcs) }
+        ensures few { IfOk result (λ rows. length rows.items < 2 ^ 31) }
     {
         match &self.fcs {
             Some(table) => schema_rows(alloc, table),

@@ -7,6 +7,8 @@ use Rattle.vpf_prims.specs.Reading.{PrimitiveTables}
 use Rattle.vpf_library_files.specs.declared.table_files.errors.AddError.{AddError}
 use Rattle.vpf_library_files.specs.TableFiles.Adding.{NamedTable, made_of_tables, table_within}
 use Rattle.vpf_primitive_tables.specs.TileTables.Grids.{tiles_made}
+use Rattle.vpf_feature_writing.specs.Schemas.{Schema}
+use Rattle.vpf_feature_writing.specs.Making.{Made, features_made, made_then}
 use Rattle.vpf_glue.specs.GluedTables.Grids.{first_tables, glued_tables, plan_grid}
 
 -- the table of tiles of the library
@@ -40,3 +42,7 @@ glued_tables_like cov c tileref (Some first) = glued_tileref tileref ∷ glued_c
 -- what gluing a coverage of this name comes to: the files of these tables, or the first limit that one of them would pass
 abbrev pub glued_made : (cov : List ℕ) → CoverageTables → (tileref : Grid) → Result (List File) AddError
 glued_made cov c tileref = made_of_tables (glued_tables_like cov c tileref (first_tables c))
+
+-- the same, and behind them the features of a schema
+abbrev pub glued_with_features : (cov : List ℕ) → CoverageTables → Schema → (tileref : Grid) → Made
+glued_with_features cov c S tileref = made_then (glued_made cov c tileref) (features_made cov S)

@@ -14,7 +14,7 @@ ghost use Rattle.vpf_primitive_tables.specs.Inner.TableForms.Models.{PairsLike};
 ghost use Rattle.vpf_library_files.specs.TableFiles.Adding.{Adds, error_seen};
 ghost use Rattle.vpf_glue.specs.GluedTables.Grids.{glued_entity_grid, glued_tables, plan_grid};
 ghost use Rattle.vpf_glue.specs.Inner.Forms.{AreGluedForms, IsEndForm, tables_by};
-ghost use Rattle.vpf_glue.specs.Tables.{glued_coverage_tables, end_tables, glued_made, last_tables};
+ghost use Rattle.vpf_glue.specs.Tables.{glued_coverage_tables, end_tables, glued_made, glued_with_features, last_tables};
 
 use crate::edges::write_edges;
 use crate::entities::write_entities;
@@ -27,6 +27,8 @@ use crate::sources::{first_end_of, first_of, numbers_are_right};
 use std::alloc::{AllocError, Global};
 use vpf_base::limits::MOST_ROWS;
 use vpf_cross::Checked;
+use vpf_feature_writing::vpf_features::Schema;
+use vpf_feature_writing::with_features;
 use vpf_findings::TableName;
 use vpf_library_files::table_files::{AddError, add_table};
 use vpf_primitive_tables::table_forms::PairForm;
@@ -175,22 +177,8 @@ fn add_coverage<'c, 'a>(
     add_all(alloc, cov, forms, &edges, &faces, files)
 }
 
-/// Joins the tiles of a tiled coverage of this name into one untiled coverage, with a plan that tells in which tile each face was: what tiling
-/// by that plan undoes (MIL-STD-2407, 5.2.3, tiled coverages and cross-tile topology).
-///
-/// The files are, in this order: the table of tiles, `tileref/tileref.aft`, whose ids are renumbered and whose other cells stay; and in the
-/// folder of the coverage `edg`, `fac`, `rng`, `cnd`, `end` where a tile has one, and `plan`, each with its index behind it where its rows
-/// vary. Each table has the header of the first tile that has the table, with numbers of 4 bytes for ids and references. Each row is a row of
-/// a tile with new numbers; its other cells stay.
-///
-/// Numbers count from 1. An edge that tiles share is one, and goes by the tile and the number of its home `+` dart, the dart whose face is
-/// in the tile. Face 1 is the universe of all tiles, and the other faces come after it by tile and number. A node goes by the least dart that
-/// begins there. Entity nodes come by tile and number. A ring of the universe stands for each walk along it, by the least dart; the rings of
-/// the other faces come after these, by their faces and in the order of their tiles.
-///
-/// Where a file would pass a bound, the answer is the limit of the first that would, under its name, and no files are given. Also where there is
-/// too little memory: the files are held until all are made, besides those that were read, and a few numbers for each dart, face and ring.
-pub fn glue(
+/// The files of the tables that the tiles of a coverage are joined into, its plan and its table of tiles; none where no tile has tables.
+fn glued_files(
     alloc: Global,
     checked: &Checked<'_, '_>,
     tileref: &TableView<'_>,
@@ -209,4 +197,34 @@ pub fn glue(
     let forms = forms_of(checked, first)?;
     add_coverage(alloc, cov, checked, &forms, &mut files)?;
     Ok(files)
+}
+
+/// Joins the tiles of a tiled coverage of this name into one untiled coverage with its features, and a plan that tells in which tile each face was: what
+/// tiling by that plan undoes (MIL-STD-2407, 5.2.3, tiled coverages, cross-tile topology and feature classes).
+///
+/// The files are, in this order: the table of tiles, `tileref/tileref.aft`, whose ids are renumbered and whose other cells stay; and in the
+/// folder of the coverage `edg`, `fac`, `rng`, `cnd`, `end` where a tile has one, and `plan`, each with its index behind it where its rows
+/// vary; and behind these the files of the features, tables as they are and thematic indexes built anew. Each table of primitives has the header of the first
+/// tile that has the table, with numbers of 4 bytes for ids and references. Each row is a row of a tile with new numbers; its other cells stay.
+///
+/// Numbers count from 1. An edge that tiles share is one, and goes by the tile and the number of its home `+` dart, the dart whose face is
+/// in the tile. Face 1 is the universe of all tiles, and the other faces come after it by tile and number. A node goes by the least dart that
+/// begins there. Entity nodes come by tile and number. A ring of the universe stands for each walk along it, by the least dart; the rings of
+/// the other faces come after these, by their faces and in the order of their tiles.
+///
+/// Where a file would pass a bound, the answer is the limit of the first that would, under its name, and no files are given. Also where there is
+/// too little memory: the files are held until all are made, besides those that were read, and a few numbers for each dart, face and ring.
+pub fn glue(
+    alloc: Global,
+    checked: &Checked<'_, '_>,
+    schema: &Schema<'_>,
+    tileref: &TableView<'_>,
+    cov: &str,
+) -> Result<Vec<File>, AddError>
+    requires tiled { checked.now.is_tiled ≡ true }
+    requires tileref { IsTileref tileref.now }
+    ensures exact { Meets (λ files. files.items) error_seen result (glued_with_features cov.now checked.now schema.now tileref.now) }
+{
+    let tables = glued_files(alloc, checked, tileref, cov);
+    with_features(alloc, cov, schema, tables)
 }

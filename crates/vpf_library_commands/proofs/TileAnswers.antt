@@ -1,14 +1,13 @@
 -- The answer of `tile` by what was read.
-use Rattle.std.proofs.Common.{[], ◌≡◌, ◌∙◌, ℕ, ◌<◌, ◌≤◌, List, ◌∷◌, ◌++◌, length, Option, None, Some, map, refl, ap, append_assoc, rules, arith}
+use Rattle.std.proofs.Common.{[], ◌≡◌, ◌∙◌, ℕ, ◌<◌, ◌≤◌, List, ◌∷◌, ◌++◌, length, Option, None, Some, map, refl, sym, ap, append_assoc, rules, arith}
 use Rattle.std.specs.Prelude.{OnOk, Result, Ok, Err}
 use Rattle.vpf_source.specs.declared.file.File.{File}
 use Rattle.vpf_table.specs.Grid.{Grid}
-use Rattle.vpf_table.specs.declared.limit.Limit.{Limit as Passed}
-use Rattle.vpf_tiling.specs.declared.tileable.refusals.Refusal.{Refusal}
 use Rattle.vpf_library_files.specs.declared.table_files.errors.AddError.TheVariants as adds
-use Rattle.vpf_feature_files.specs.Schemas.{Schema, joins_of}
+use Rattle.vpf_feature_files.specs.Schemas.{Schema}
+use Rattle.vpf_feature_writing.specs.Making.{Made}
+use Rattle.vpf_library_commands.specs.Made.{files_answer}
 use Rattle.vpf_features.specs.Finding.{Named}
-use Rattle.vpf_feature_writing.specs.Making.{Made, features_made, made_then}
 use Rattle.vpf_findings.specs.Findings.{Disagreement}
 use Rattle.vpf_findings.specs.Firsts.{◌or◌}
 use Rattle.vpf_findings.specs.Printing.{disagree_text}
@@ -18,8 +17,7 @@ use Rattle.vpf_prims.specs.Tables.{TileTables}
 use Rattle.vpf_findings.specs.Text.Texts.{◌&◌}
 use Rattle.vpf_library_files.specs.Loading.Holding.{AreUntiledFiles}
 use Rattle.vpf_tiler.specs.declared.errors.TileError.{TileError}
-use Rattle.vpf_tiler.specs.declared.errors.TileError.TheVariants as errors
-use Rattle.vpf_tiler.specs.Making.{tiled}
+use Rattle.vpf_tiler.specs.Making.{made_result, tiled_with_features}
 use Rattle.vpf_library_files.specs.Loading.Loading.{Read}
 use Rattle.vpf_library_files.specs.Loading.Loads.{ReadsStop}
 use Rattle.vpf_library_files.specs.declared.loading.loading.LoadStop.{LoadStop}
@@ -31,9 +29,7 @@ use Rattle.vpf_replies.specs.Halting.{ComesTo}
 use Rattle.vpf_featured.specs.LoadReplies.Stopping.{IsStopAnswer, stop_answer}
 use Rattle.vpf_library_commands.specs.declared.requesting.MakeRequest.{MakeRequest}
 use Rattle.vpf_library_commands.specs.Make.{make_request}
-use Rattle.vpf_library_commands.specs.Keys.{keyed_text, numbered_class}
-use Rattle.vpf_library_commands.specs.Made.{files_answer}
-use Rattle.vpf_library_commands.specs.Tile.{TileParts, cut_answer, parts_answer, parts_finding, tables_answer, tiled_answer, tiling_answer, untiled_text}
+use Rattle.vpf_library_commands.specs.Tile.{TileParts, parts_answer, parts_finding, tables_answer, tiled_answer, tiling_answer}
 
 -- ---- the request
 
@@ -88,40 +84,31 @@ tile_stopped request read stop n (Err (halts.Stop cause)) told is = is
 pub untiled_tables : (lib cov : List ℕ) (c : CoverageTables) (files : List File) → AreUntiledFiles lib cov c files → (T : TileTables) × (tile_at c 0 ≡ Some T)
 untiled_tables lib cov c files are = (record { first = 0; tables = are.tables }, ap (λ (x : CoverageTables). tile_at x 0) are.is)
 
--- tiling comes to the same of the same names and tables
-pub tiled_same : (T : PrimitiveTables) (cov cov' : List ℕ) (plan plan' tileref tileref' : Grid) → cov ≡ cov' → plan ≡ plan' → tileref ≡ tileref'
-    → tiled cov T plan tileref ≡ tiled cov' T plan' tileref'
-tiled_same T cov cov' plan plan' tileref tileref' e f h =
-    ap (λ (x : List ℕ). tiled x T plan tileref) e ∙ (ap (λ (x : Grid). tiled cov' T x tileref) f ∙ ap (λ (x : Grid). tiled cov' T plan' x) h)
+-- tiling comes to the same of the same names, tables and features
+pub tiled_same : (T : PrimitiveTables) (S : Schema) (cov cov' : List ℕ) (plan plan' tileref tileref' : Grid) → cov ≡ cov' → plan ≡ plan' → tileref ≡ tileref'
+    → tiled_with_features cov T S plan tileref ≡ tiled_with_features cov' T S plan' tileref'
+tiled_same T S cov cov' plan plan' tileref tileref' e f h =
+    ap (λ (x : List ℕ). tiled_with_features x T S plan tileref) e
+    ∙ (ap (λ (x : Grid). tiled_with_features cov' T S x tileref) f ∙ ap (λ (x : Grid). tiled_with_features cov' T S plan' x) h)
 
 -- the answer over the tables
 pub over_tables : (request : MakeRequest) (S : Schema) (c : CoverageTables) (plan tileref : Grid) (T : TileTables) (answer : Answer) → tile_at c 0 ≡ Some T
-    → answer ≡ tiled_answer request S (tiled request.cov T.tables plan tileref) → answer ≡ tables_answer request S (tile_at c 0) plan tileref
+    → answer ≡ tiled_answer request S (tiled_with_features request.cov T.tables S plan tileref) → answer ≡ tables_answer request S (tile_at c 0) plan tileref
 over_tables request S c plan tileref T answer e is = rw e is
-
--- ---- features that are joined by numbers
-
-pub keyed_so : (request : MakeRequest) (S : Schema) (class : List ℕ) (tables : Made) (answer : Answer) → Some class ≡ numbered_class (joins_of S.fcs)
-    → answer ≡ refused (keyed_text class) → answer ≡ cut_answer request S tables
-keyed_so request S class tables answer e is = rw (← e) is
-
-pub unkeyed_so : (request : MakeRequest) (S : Schema) (tables : Made) (answer : Answer) → None ≡ numbered_class (joins_of S.fcs)
-    → answer ≡ files_answer request.out (made_then tables (features_made request.cov S)) → answer ≡ cut_answer request S tables
-unkeyed_so request S tables answer e is = rw (← e) is
 
 -- ---- what tiling comes to
 
-pub refused_so : (request : MakeRequest) (S : Schema) (ought : Result (List File) TileError) (refusal : Refusal) (answer : Answer) → ought ≡ Err (errors.Refused refusal)
-    → answer ≡ refused (untiled_text refusal) → answer ≡ tiled_answer request S ought
-refused_so request S ought refusal answer e is = rw e is
+-- files that are made, or the limit of one, are answered as they are made in the folder that is asked for
+made_answered : (request : MakeRequest) (S : Schema) (made : Made) → tiled_answer request S (made_result made) ≡ files_answer request.out made
+made_answered request S (Ok files) = refl
+made_answered request S (Err (adds.Limit name limit)) = refl
+made_answered request S (Err adds.NoMemory) = refl
 
-pub limited_so : (request : MakeRequest) (S : Schema) (ought : Result (List File) TileError) (name : List ℕ) (limit : Passed) (answer : Answer)
-    → ought ≡ Err (errors.Limit name limit) → answer ≡ cut_answer request S (Err (adds.Limit name limit)) → answer ≡ tiled_answer request S ought
-limited_so request S ought name limit answer e is = rw e is
-
-pub files_so : (request : MakeRequest) (S : Schema) (ought : Result (List File) TileError) (files : List File) (answer : Answer) → ought ≡ Ok files
-    → answer ≡ cut_answer request S (Ok files) → answer ≡ tiled_answer request S ought
-files_so request S ought files answer e is = rw e is
+-- so the reply to them is the answer
+pub made_so : (request : MakeRequest) (S : Schema) (out : List ℕ) (made : Made) (ought : Result (List File) TileError) (answer : Answer) → out ≡ request.out
+    → ought ≡ made_result made → answer ≡ files_answer out made → answer ≡ tiled_answer request S ought
+made_so request S out made ought answer same e is =
+    is ∙ ap (λ (o : List ℕ). files_answer o made) same ∙ sym (made_answered request S made) ∙ ap (tiled_answer request S) (sym e)
 
 -- ---- a finding
 

@@ -8,12 +8,11 @@ use Rattle.vpf_table.specs.Grid.{Grid}
 use Rattle.vpf_table.specs.Reading.{table_of}
 use Rattle.vpf_library_files.specs.Loading.Loading.{within}
 use Rattle.vpf_library_files.specs.declared.loading.loading.LoadStop.{LoadStop}
-use Rattle.vpf_glue.specs.Tables.{glued_made}
+use Rattle.vpf_glue.specs.Tables.{glued_with_features}
 use Rattle.vpf_replies.specs.Answer.{Answer, refused}
 use Rattle.vpf_replies.specs.Refusals.{UntiledCoverage, refusal_answer}
 use Rattle.vpf_featured.specs.LoadReplies.Stopping.{stop_answer}
 use Rattle.vpf_features.specs.Finding.{Named}
-use Rattle.vpf_feature_writing.specs.Making.{features_made, made_then}
 use Rattle.vpf_featured.specs.Finding.{featured_finding}
 use Rattle.vpf_featured.specs.Reading.{FeaturedCoverage, read_featured}
 use Rattle.vpf_library_commands.specs.declared.requesting.MakeRequest.{MakeRequest}
@@ -37,7 +36,7 @@ first_table (file ∷ files) = table_read (table_of file.bytes)
 abbrev pub tileref_answer : MakeRequest → FeaturedCoverage → Option Grid → Answer
 tileref_answer request read None = refused []
 tileref_answer request read (Some tileref) =
-    files_answer request.out (made_then (glued_made request.cov read.coverage.coverage tileref) (features_made request.cov read.schema))
+    files_answer request.out (glued_with_features request.cov read.coverage.coverage read.schema tileref)
 
 -- the answer over what was read, by the first finding on the coverage and its features
 abbrev pub gluing_answer : MakeRequest → FeaturedCoverage → Option Named → Answer

@@ -22,6 +22,8 @@ pub mod TileTheorem
 pub mod Inner
 pub use Rattle.vpf_tiler.specs.Inner.TiledFiles.PairLaws
 pub use Rattle.vpf_tiler.specs.Inner.TiledFiles.WrittenLaws
+pub use Rattle.vpf_feature_writing.specs.FeatureReading.Laws as FeatureReadingLaws
+pub use Rattle.vpf_feature_writing.specs.Keys as FeatureWritingKeys
 pub use Rattle.vpf_feature_writing.specs.Making as FeatureWritingMaking
 pub use Rattle.vpf_trace.specs.Tracing as TraceTracing
 pub use Rattle.vpf_trace.specs.Inner.Laws as TraceLaws

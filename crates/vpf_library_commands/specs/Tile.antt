@@ -18,16 +18,15 @@ use Rattle.vpf_library_files.specs.declared.table_files.errors.AddError.TheVaria
 use Rattle.vpf_feature_files.specs.Reading.{read_schema}
 use Rattle.vpf_feature_files.specs.Schemas.{Schema, joins_of}
 use Rattle.vpf_features.specs.Finding.{Named}
-use Rattle.vpf_feature_writing.specs.Making.{Made, features_made, made_then}
 use Rattle.vpf_featured.specs.Finding.{featured_finding}
 use Rattle.vpf_featured.specs.Reading.{FeaturedCoverage}
 use Rattle.vpf_tiler.specs.declared.errors.TileError.{TileError}
 use Rattle.vpf_tiler.specs.declared.errors.TileError.TheVariants as errors
-use Rattle.vpf_tiler.specs.Making.{tiled}
+use Rattle.vpf_tiler.specs.Making.{tiled_with_features}
 use Rattle.vpf_replies.specs.Answer.{Answer, refused}
 use Rattle.vpf_featured.specs.LoadReplies.Stopping.{stop_answer}
 use Rattle.vpf_library_commands.specs.declared.requesting.MakeRequest.{MakeRequest}
-use Rattle.vpf_library_commands.specs.Keys.{keyed_text, numbered_class}
+use Rattle.vpf_library_commands.specs.Keys.{class_in_row, keyed_text}
 use Rattle.vpf_library_commands.specs.Made.{files_answer}
 
 -- what is read: an untiled coverage, its features, the table of tiles of its library, and its plan
@@ -75,26 +74,18 @@ refusal_reason (refusals.EntityOutside n) = codes "entity-outside node " & decim
 abbrev pub untiled_text : Refusal → List ℕ
 untiled_text refusal = codes "refused " & refusal_reason refusal & codes "\n"
 
--- the answer to files that are made of tables, or the limit of one, where no features are joined by numbers; those of features come behind
-abbrev pub keyed_answer : MakeRequest → Schema → Option (List ℕ) → Made → Answer
-keyed_answer request S None tables = files_answer request.out (made_then tables (features_made request.cov S))
-keyed_answer request S (Some class) tables = refused (keyed_text class)
-
--- .. by whether they are
-abbrev pub cut_answer : MakeRequest → Schema → Made → Answer
-cut_answer request S tables = keyed_answer request S (numbered_class (joins_of S.fcs)) tables
-
--- the answer to what tiling comes to
+-- the answer to what tiling with the features of a schema comes to
 abbrev pub tiled_answer : MakeRequest → Schema → Result (List File) TileError → Answer
-tiled_answer request S (Ok files) = cut_answer request S (Ok files)
+tiled_answer request S (Ok files) = files_answer request.out (Ok files)
 tiled_answer request S (Err (errors.Refused refusal)) = refused (untiled_text refusal)
-tiled_answer request S (Err (errors.Limit name limit)) = cut_answer request S (Err (adds.Limit name limit))
+tiled_answer request S (Err (errors.KeyInTable row)) = refused (keyed_text (class_in_row (joins_of S.fcs) row))
+tiled_answer request S (Err (errors.Limit name limit)) = files_answer request.out (Err (adds.Limit name limit))
 tiled_answer request S (Err errors.NoMemory) = refused []
 
 -- the answer over the tables of a coverage that agrees
 abbrev pub tables_answer : MakeRequest → Schema → Option TileTables → (plan tileref : Grid) → Answer
 tables_answer request S None plan tileref = refused []
-tables_answer request S (Some T) plan tileref = tiled_answer request S (tiled request.cov T.tables plan tileref)
+tables_answer request S (Some T) plan tileref = tiled_answer request S (tiled_with_features request.cov T.tables S plan tileref)
 
 -- the answer over what was read, by the first finding on the coverage and its features
 abbrev pub tiling_answer : MakeRequest → TileParts → Option Named → Answer

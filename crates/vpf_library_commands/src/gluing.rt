@@ -6,8 +6,7 @@ ghost use Rattle.vpf_prims.specs.Coverages.{CoverageTables};
 ghost use Rattle.vpf_library_files.specs.Loading.Holding.{AreTiledFiles};
 ghost use Rattle.vpf_library_files.specs.Loading.Loading.{within};
 ghost use Rattle.vpf_cross.specs.CrossFinding.{topology_finding};
-ghost use Rattle.vpf_glue.specs.Tables.{glued_made};
-ghost use Rattle.vpf_feature_writing.specs.Making.{features_made, made_then};
+ghost use Rattle.vpf_glue.specs.Tables.{glued_with_features};
 ghost use Rattle.vpf_replies.specs.Halting.{ComesTo, TellsFault};
 ghost use Rattle.vpf_replies.specs.Refusals.{UntiledCoverage, refusal_answer};
 ghost use Rattle.vpf_featured.specs.Finding.{featured_finding, placed_finding};
@@ -16,7 +15,7 @@ ghost use Rattle.vpf_featured.specs.Reading.{FeaturedCoverage, read_featured};
 ghost use Rattle.vpf_library_commands.specs.Glue.{glue_answer, gluing_answer, joined_answer, own_edges_name};
 ghost use Rattle.vpf_library_commands.specs.Made.{files_answer};
 
-use crate::making::{made_in, with_features};
+use crate::making::made_in;
 use crate::requesting::MakeRequest;
 use std::alloc::{AllocError, Global};
 use vpf_coverage::opening::open_tileref;
@@ -61,13 +60,11 @@ fn glued(
     requires files { (c : CoverageTables) × AreTiledFiles request.now.lib request.now.cov c files.now }
     requires tiled { checked.now.is_tiled ≡ true }
     ensures { (c : CoverageTables) (are : AreTiledFiles request.now.lib request.now.cov c files.now) → checked.now ≡ c
-        → IfOk result (λ reply. reply ≡ files_answer request.now.out (made_then (glued_made request.now.cov c are.tileref)
-        (features_made request.now.cov schema.now))) }
+        → IfOk result (λ reply. reply ≡ files_answer request.now.out (glued_with_features request.now.cov c schema.now are.tileref)) }
 {
     let (lib, cov) = (request.lib.as_str(), request.cov.as_str());
     let tileref = open_tileref(alloc, files, lib, cov)?;
-    let tables = vpf_glue::glue(alloc, checked, &tileref, cov);
-    let made = with_features(alloc, cov, schema, tables);
+    let made = vpf_glue::glue(alloc, checked, schema, &tileref, cov);
     made_in(alloc, request.out.as_str(), made)
 }
 

@@ -1,14 +1,12 @@
-//! The files of a library that is made of another: those of its tables, and behind them those of its features.
+//! The files that a command makes in a folder, or the first that would pass a bound.
 
 ghost use Rattle.std.specs.Prelude.{◌≡◌, IfOk, map};
 ghost use Rattle.vpf_base.specs.Results.{Meets};
 ghost use Rattle.vpf_library_files.specs.TableFiles.Adding.{error_seen};
-ghost use Rattle.vpf_feature_writing.specs.Making.{Made, features_made, made_then, then_files};
+ghost use Rattle.vpf_feature_writing.specs.Making.{Made};
 ghost use Rattle.vpf_library_commands.specs.Made.{IsUnmadeAnswer, file_within, files_answer};
 
 use std::alloc::{AllocError, Global};
-use vpf_feature_writing::feature_files;
-use vpf_features::Schema;
 use vpf_library_files::loading::within;
 use vpf_library_files::table_files::AddError;
 use vpf_replies::{Reply, limit, makes};
@@ -46,36 +44,6 @@ fn unmade(alloc: Global, out: &str, error: AddError) -> Result<Reply, AllocError
             limit(alloc, passed.what, name.as_str(), passed.found)
         }
         AddError::NoMemory => Err(AllocError),
-    }
-}
-
-/// These files of tables, and behind them those of the features, in the folder of the coverage; or the first that would pass a bound.
-fn behind(
-    alloc: Global,
-    cov: &str,
-    schema: &Schema<'_>,
-    mut files: Vec<File>,
-) -> Result<Vec<File>, AddError>
-    ensures { Meets (λ v. v.items) error_seen result (then_files files.items (features_made cov.now schema.now)) }
-{
-    let mut features = feature_files(alloc, cov, schema)?;
-    files.append(&mut features)?;
-    Ok(files)
-}
-
-/// The files of tables that were made, and behind them those of the features, in the folder of the coverage; or the first that would pass a bound.
-pub(crate) fn with_features(
-    alloc: Global,
-    cov: &str,
-    schema: &Schema<'_>,
-    made: Result<Vec<File>, AddError>,
-) -> Result<Vec<File>, AddError>
-    ensures { (tables : Made) → Meets (λ v. v.items) error_seen made tables
-        → Meets (λ v. v.items) error_seen result (made_then tables (features_made cov.now schema.now)) }
-{
-    match made {
-        Ok(files) => behind(alloc, cov, schema, files),
-        Err(error) => Err(error),
     }
 }
 

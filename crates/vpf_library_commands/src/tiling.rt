@@ -13,21 +13,19 @@ ghost use Rattle.vpf_library_files.specs.Loading.Loads.{ReadsAs};
 ghost use Rattle.vpf_cross.specs.CrossFinding.{topology_finding};
 ghost use Rattle.vpf_tiler.specs.declared.errors.TileError.{TileError};
 ghost use Rattle.vpf_tiler.specs.Making.{tile_error_seen};
-ghost use Rattle.vpf_library_files.specs.TableFiles.Adding.{error_seen};
 ghost use Rattle.vpf_library_files.specs.Inner.Loading.Only.{OnlyLoads};
 ghost use Rattle.vpf_features.specs.Finding.{TellsNamed};
-ghost use Rattle.vpf_feature_writing.specs.Making.{Made};
 ghost use Rattle.vpf_replies.specs.Answer.{refused};
 ghost use Rattle.vpf_replies.specs.Halting.{ComesTo, TellsFault};
 ghost use Rattle.vpf_featured.specs.Finding.{placed_finding, tables_or_features_finding};
 ghost use Rattle.vpf_featured.specs.Reading.{FeaturedCoverage};
 ghost use Rattle.vpf_library_commands.specs.Tile.{TileParts, parts_finding, plan_name, read_parts, read_untiled_featured};
-ghost use Rattle.vpf_library_commands.specs.Tile.{cut_answer, refusal_reason, untiled_text};
+ghost use Rattle.vpf_library_commands.specs.Tile.{refusal_reason, untiled_text};
 ghost use Rattle.vpf_library_commands.specs.Tile.{tables_answer, tile_answer, tiled_answer, tiling_answer};
 ghost use Rattle.vpf_library_commands.specs.Inner.TileFiles.{ArePartsFiles, ArePartsOf, AreOfUntiledFeatured, AreUntiledFeatured};
 
-use crate::keying::{keyed, numbered_class};
-use crate::making::{made_in, with_features};
+use crate::keying::keyed;
+use crate::making::made_in;
 use crate::requesting::MakeRequest;
 use std::alloc::{AllocError, Global};
 use vpf_cross::Checked;
@@ -156,24 +154,7 @@ fn refused(alloc: Global, refusal: Refusal) -> Result<Reply, AllocError>
     Ok(Reply::new(alloc, Verdict::Refused, text))
 }
 
-/// The reply to files that are made of tables, or to the first that would pass a bound, where no features are joined by numbers: those of the features come
-/// behind.
-fn cut(
-    alloc: Global,
-    request: &MakeRequest,
-    schema: &Schema<'_>,
-    tables: Result<Vec<File>, AddError>,
-) -> Result<Reply, AllocError>
-    ensures { (ought : Made) → Meets (λ v. v.items) error_seen tables ought → IfOk result (λ reply. reply ≡ cut_answer request.now schema.now ought) }
-{
-    if let Some(class) = numbered_class(alloc, schema)? {
-        return keyed(alloc, class);
-    }
-    let made = with_features(alloc, request.cov.as_str(), schema, tables);
-    made_in(alloc, request.out.as_str(), made)
-}
-
-/// The reply to what tiling comes to.
+/// The reply to what tiling with the features of a schema comes to.
 fn tiled_so(
     alloc: Global,
     request: &MakeRequest,
@@ -183,12 +164,16 @@ fn tiled_so(
     ensures { (ought : Result (List FileOf) TileError) → Meets (λ v. v.items) tile_error_seen made ought
         → IfOk result (λ reply. reply ≡ tiled_answer request.now schema.now ought) }
 {
+    let out = request.out.as_str();
     match made {
-        Ok(files) => cut(alloc, request, schema, Ok(files)),
+        Ok(files) => made_in(alloc, out, Ok(files)),
         Err(TileError::Refused(refusal)) => refused(alloc, refusal),
-        Err(TileError::Limit(name, passed)) => {
-            cut(alloc, request, schema, Err(AddError::Limit(name, passed)))
-        }
+        Err(TileError::KeyInTable { row }) => keyed(alloc, schema, row),
+        Err(TileError::Limit(name, passed)) => made_in(
+            alloc,
+            out,
+            Err(AddError::Limit(name, passed)),
+        ),
         Err(TileError::NoMemory) => Err(AllocError),
     }
 }
@@ -209,7 +194,8 @@ fn tiled(
     stops_decide();
     let plan = open_plan(alloc, &files.plan)?;
     let tileref = files.tileref.only(alloc)?;
-    let made = vpf_tiler::tile(alloc, checked, &plan, &tileref, request.cov.as_str());
+    let cov = request.cov.as_str();
+    let made = vpf_tiler::tile(alloc, checked, schema, &plan, &tileref, cov);
     tiled_so(alloc, request, schema, made)
 }
 

@@ -12,23 +12,25 @@ use Rattle.vpf_table.specs.declared.limit.Limit.{Limit as Passed}
 use Rattle.vpf_prims.specs.Coverages.{tile_at}
 use Rattle.vpf_prims.specs.Reading.{primitives_of}
 use Rattle.vpf_prims.specs.Tables.{TileTables}
+use Rattle.vpf_library_files.specs.Loading.Loading.{within}
 use Rattle.vpf_library_files.specs.declared.loading.loading.LoadStop.{LoadStop}
 use Rattle.vpf_tiling.specs.declared.tileable.refusals.Refusal.{Refusal}
-use Rattle.vpf_library_files.specs.TableFiles.Adding.{NamedTable, files_made, first_limit_of}
+use Rattle.vpf_library_files.specs.TableFiles.Adding.{NamedTable, files_made, first_limit_of, unless_limited}
 use Rattle.vpf_library_files.specs.declared.table_files.errors.AddError.TheVariants as adds
 use Rattle.vpf_feature_files.specs.Schemas.{Schema, joins_of}
 use Rattle.vpf_features.specs.Finding.{Named}
-use Rattle.vpf_library_commands.specs.FeatureWritingMaking.{Made, features_made, then_files}
+use Rattle.vpf_library_commands.specs.FeatureWritingKeys.{numbered_row}
+use Rattle.vpf_library_commands.specs.FeatureWritingMaking.{Made, made_then}
+use Rattle.vpf_library_commands.specs.TileError.{TileError}
 use Rattle.vpf_library_commands.specs.CutBy.{plan_refusal}
-use Rattle.vpf_library_commands.specs.TilerMaking.{unless_tile_limited, unless_refused}
+use Rattle.vpf_library_commands.specs.TilerMaking.{made_result, unless_keyed, unless_refused}
 use Rattle.vpf_replies.specs.declared.verdict.Verdict.TheVariants.{Done}
-use Rattle.vpf_replies.specs.Answer.{Answer, refused}
+use Rattle.vpf_replies.specs.Answer.{Answer}
 use Rattle.vpf_library_commands.specs.declared.requesting.MakeRequest.{MakeRequest}
-use Rattle.vpf_library_commands.specs.Keys.{keyed_text, numbered_class}
-use Rattle.vpf_library_commands.specs.Made.{file_within, files_answer}
+use Rattle.vpf_library_commands.specs.Made.{file_within}
 use Rattle.vpf_feature_commands.specs.Select.{select_request}
 use Rattle.vpf_library_commands.specs.Make.{make_request}
-use Rattle.vpf_library_commands.specs.Tile.{TileParts, keyed_answer, parts_answer, parts_finding, read_parts, tables_answer, tile_answer, tiled_answer, tiling_answer, untiled_text}
+use Rattle.vpf_library_commands.specs.Tile.{TileParts, parts_answer, parts_finding, read_parts, tables_answer, tile_answer, tiled_answer, tiling_answer}
 use Rattle.vpf_library_commands.specs.Check.{check_request}
 use Rattle.vpf_drill.specs.Request.{drill_request}
 use Rattle.vpf_table_commands.specs.Accept.{table_request}
@@ -38,8 +40,9 @@ use Rattle.vpf_table_commands.specs.Rows.{rows_request}
 use Rattle.vpf_table_commands.specs.Show.{show_request}
 use Rattle.vpf_table_commands.specs.Swap.{swap_request}
 use Rattle.vpf_drill.specs.Cutting.{IsCutFrom, cut_features, cut_files, cut_plan, cut_tables, files_in_made}
-use Rattle.vpf_drill.specs.TileTheoremLaws.{CutIsSource, RequestsHaveNames, SourceIsCut, TilesAreMade, TilingsAgree, TilingsAreAnswered}
-use Rattle.vpf_drill.specs.Tilings.{AnswersTiling, HasNames, HoldsTiling, LacksTheRest, StandsAlone, made_request}
+use Rattle.vpf_drill.specs.TileTheoremLaws.{CutIsSource, RequestsHaveNames, RestIsLacked, SourceIsCut, TilesAreMade, TilingsAgree, TilingsAreAnswered}
+use Rattle.vpf_library_commands.specs.FeatureReadingLaws.{LacksThemes}
+use Rattle.vpf_drill.specs.Tilings.{AnswersTiling, HasNames, HoldsTiling, StandsAlone, made_request}
 use Rattle.vpf_run.specs.declared.command.Command.{Command}
 use Rattle.vpf_run.specs.declared.command.Command.TheVariants.{Show, Table, Cycles, Swap, Index, Rows, Check, Trace, Tile, Glue, Select, Drill}
 use Rattle.vpf_run.specs.declared.status.Status.{Status}
@@ -100,7 +103,7 @@ pub record DoneIsCut (files : Files) (request : MakeRequest) (answer : Answer) :
 
 -- ---- nothing speaks against the plan or the features, no file passes a limit, and the files are made
 
-record IsMade (tables : List NamedTable) (out : List ℕ) (refusal : Option Refusal) (limit : Option (List ℕ × Passed)) (key : Option (List ℕ)) (features : Made)
+record IsMade (tables : List NamedTable) (out : List ℕ) (refusal : Option Refusal) (limit : Option (List ℕ × Passed)) (key : Option ℕ) (features : Made)
     (made : List File) : Type 0 where
   serves : refusal ≡ None
   fits : limit ≡ None
@@ -108,55 +111,28 @@ record IsMade (tables : List NamedTable) (out : List ℕ) (refusal : Option Refu
   features_fit : IsOk features
   is : made ≡ map (file_within out) (files_made tables ++ files_in_made features)
 
--- the answer, by whether something does
-by_parts : MakeRequest → List NamedTable → Option Refusal → Option (List ℕ × Passed) → Option (List ℕ) → Made → Answer
-by_parts request tables (Some refusal) limit key features = refused (untiled_text refusal)
-by_parts request tables None limit (Some class) features = refused (keyed_text class)
-by_parts request tables None (Some limit) None features = files_answer request.out (Err (adds.Limit limit.0 limit.1))
-by_parts request tables None None None features = files_answer request.out (then_files (files_made tables) features)
+-- what tiling comes to, by whether something does
+abbrev comes_to : List NamedTable → Option Refusal → Option (List ℕ × Passed) → Option ℕ → Made → Result (List File) TileError
+comes_to tables refusal limit key features = unless_refused refusal (unless_keyed key (made_result (made_then (unless_limited tables limit) features)))
 
-limited_is : (request : MakeRequest) (S : Schema) (tables : List NamedTable) (limit : Option (List ℕ × Passed)) (key : Option (List ℕ)) (features : Made)
-    → numbered_class (joins_of S.fcs) ≡ key → features_made request.cov S ≡ features
-    → tiled_answer request S (unless_tile_limited tables limit) ≡ by_parts request tables None limit key features
-unfolding by_parts
-limited_is request S tables (Some limit) (Some class) features a b = ap (λ (k : Option (List ℕ)). keyed_answer request S k (Err (adds.Limit limit.0 limit.1))) a
-limited_is request S tables (Some limit) None features a b = ap (λ (k : Option (List ℕ)). keyed_answer request S k (Err (adds.Limit limit.0 limit.1))) a
-limited_is request S tables None (Some class) features a b = ap (λ (k : Option (List ℕ)). keyed_answer request S k (Ok (files_made tables))) a
-limited_is request S tables None None features a b =
-    ap (λ (k : Option (List ℕ)). keyed_answer request S k (Ok (files_made tables))) a
-    ∙ ap (λ (m : Made). files_answer request.out (then_files (files_made tables) m)) b
+made_by : (request : MakeRequest) (S : Schema) (tables : List NamedTable) (refusal : Option Refusal) (limit : Option (List ℕ × Passed)) (key : Option ℕ) (features : Made)
+    → (tiled_answer request S (comes_to tables refusal limit key features)).verdict ≡ Done
+    → IsMade tables request.out refusal limit key features (tiled_answer request S (comes_to tables refusal limit key features)).made
+made_by request S tables (Some refusal) limit key features h = absurd cc
+made_by request S tables None limit (Some row) features h = absurd cc
+made_by request S tables None (Some limit) None features h = absurd cc
+made_by request S tables None None None (Err (adds.Limit name limit)) h = absurd cc
+made_by request S tables None None None (Err adds.NoMemory) h = absurd cc
+made_by request S tables None None None (Ok files) h = record { serves = refl; fits = refl; joins = refl; features_fit = search rules; is = refl }
 
-answer_is : (request : MakeRequest) (S : Schema) (tables : List NamedTable) (refusal : Option Refusal) (limit : Option (List ℕ × Passed)) (key : Option (List ℕ))
-    (features : Made) → first_limit_of tables ≡ limit → numbered_class (joins_of S.fcs) ≡ key → features_made request.cov S ≡ features
-    → tiled_answer request S (unless_refused tables refusal) ≡ by_parts request tables refusal limit key features
-unfolding by_parts
-answer_is request S tables (Some refusal) limit key features same a b = refl
-answer_is request S tables None limit key features same a b =
-    ap (λ (l : Option (List ℕ × Passed)). tiled_answer request S (unless_tile_limited tables l)) same ∙ limited_is request S tables limit key features a b
-
-made_by : (request : MakeRequest) (tables : List NamedTable) (refusal : Option Refusal) (limit : Option (List ℕ × Passed)) (key : Option (List ℕ)) (features : Made)
-    → (by_parts request tables refusal limit key features).verdict ≡ Done
-    → IsMade tables request.out refusal limit key features (by_parts request tables refusal limit key features).made
-unfolding by_parts
-made_by request tables (Some refusal) limit key features h = absurd cc
-made_by request tables None limit (Some class) features h = absurd cc
-made_by request tables None (Some limit) None features h = absurd cc
-made_by request tables None None None (Err (adds.Limit name limit)) h = absurd cc
-made_by request tables None None None (Err adds.NoMemory) h = absurd cc
-made_by request tables None None None (Ok files) h = record { serves = refl; fits = refl; joins = refl; features_fit = search rules; is = refl }
-
-made_of : (request : MakeRequest) (parts : TileParts) (T : TileTables) (refusal : Option Refusal)
-    → (tiled_answer request parts.schema (unless_refused (cut_tables request parts T) refusal)).verdict ≡ Done
-    → IsMade (cut_tables request parts T) request.out refusal (first_limit_of (cut_tables request parts T)) (numbered_class (joins_of parts.schema.fcs))
-    (cut_features request parts) (tiled_answer request parts.schema (unless_refused (cut_tables request parts T) refusal)).made
-made_of request parts T refusal h =
-    let tables = cut_tables request parts T in
-    let limit = first_limit_of tables in
-    let key = numbered_class (joins_of parts.schema.fcs) in
-    let features = cut_features request parts in
-    let same = answer_is request parts.schema tables refusal limit key features refl refl refl in
-    subst (λ (a : Answer). IsMade tables request.out refusal limit key features a.made) (sym same)
-    (made_by request tables refusal limit key features (subst (λ (a : Answer). a.verdict ≡ Done) same h))
+made_of : (request : MakeRequest) (parts : TileParts) (T : TileTables)
+    → (tables_answer request parts.schema (Some T) parts.plan.grid parts.tileref.grid).verdict ≡ Done
+    → IsMade (cut_tables request parts T) request.out (plan_refusal T.tables parts.plan.grid (length parts.tileref.grid.rows))
+    (first_limit_of (cut_tables request parts T)) (numbered_row (joins_of parts.schema.fcs)) (cut_features request parts)
+    (tables_answer request parts.schema (Some T) parts.plan.grid parts.tileref.grid).made
+made_of request parts T h =
+    made_by request parts.schema (cut_tables request parts T) (plan_refusal T.tables parts.plan.grid (length parts.tileref.grid.rows))
+    (first_limit_of (cut_tables request parts T)) (numbered_row (joins_of parts.schema.fcs)) (cut_features request parts) h
 
 cut_of_tables : (files : Files) (request : MakeRequest) (parts : TileParts) (tile : Option TileTables)
     → (read_parts files request.lib request.cov 0).0 ≡ Ok parts
@@ -165,7 +141,7 @@ cut_of_tables : (files : Files) (request : MakeRequest) (parts : TileParts) (til
     → DoneIsCut files request (tables_answer request parts.schema tile parts.plan.grid parts.tileref.grid)
 cut_of_tables files request parts None read agrees at h = absurd cc
 cut_of_tables files request parts (Some T) read agrees at h =
-    let m = made_of request parts T (plan_refusal T.tables parts.plan.grid (length parts.tileref.grid.rows)) h in
+    let m = made_of request parts T h in
     record {
       parts = parts;
       tables = T;
@@ -225,29 +201,31 @@ run_makes P cuts makes law words before after request parts T status old new com
     comes names cut made
 
 -- it leaves the tiled library of the source
-pub run_tiles : {Z : Type 0} → TilingsAgree → SourceIsCut → TilesAreMade → RequestsHaveNames
+pub run_tiles : {Z : Type 0} → TilingsAgree → RestIsLacked → SourceIsCut → TilesAreMade → RequestsHaveNames
     → (words : List (String Z)) (before after : Files) (request : MakeRequest) (parts : TileParts) (T : TileTables) (status : Status) (old new : World)
     → HoldsBytes before → HoldsBytes after
     → command_of (map string_bytes words) ≡ Some (Tile request) → old.files ≡ Some before → new.files ≡ Some after → status ≡ statuses.Done
     → IsTileSource before request parts T → StandsAlone before request.out (cut_files request parts T)
-    → LacksTheRest after request.out request.cov parts.schema
+    → LacksThemes after (within request.out request.cov) parts.schema
     → ((answer : Answer) → IsAnswer (command_of (map string_bytes words)) old.files answer → Carries answer status old new)
     → HoldsTiling after (made_request request) (primitives_of T.tables) (cut_plan parts T) (length parts.tileref.grid.rows) parts.schema
-run_tiles agree cuts makes law words before after request parts T status old new bytes later e told left done source alone lacks carries =
+run_tiles agree rest cuts makes law words before after request parts T status old new bytes later e told left done source alone lacks carries =
     run_makes (λ parts T. HoldsTiling after (made_request request) (primitives_of T.tables) (cut_plan parts T) (length parts.tileref.grid.rows) parts.schema)
     cuts makes law words before after request parts T status old new
-    (λ names cut made. agree before after request parts T bytes later names cut alone made lacks) e told left done source carries
+    (λ names cut made. agree before after request parts T bytes later names cut alone made
+    (rest before after request parts T bytes names source cut alone made lacks)) e told left done source carries
 
 -- over which `check` and `trace` are answered so
-pub run_answers : {Z : Type 0} → TilingsAreAnswered → SourceIsCut → TilesAreMade → RequestsHaveNames
+pub run_answers : {Z : Type 0} → TilingsAreAnswered → RestIsLacked → SourceIsCut → TilesAreMade → RequestsHaveNames
     → (words : List (String Z)) (before after : Files) (request : MakeRequest) (parts : TileParts) (T : TileTables) (status : Status) (old new : World)
     → HoldsBytes before → HoldsBytes after
     → command_of (map string_bytes words) ≡ Some (Tile request) → old.files ≡ Some before → new.files ≡ Some after → status ≡ statuses.Done
     → IsTileSource before request parts T → StandsAlone before request.out (cut_files request parts T)
-    → LacksTheRest after request.out request.cov parts.schema
+    → LacksThemes after (within request.out request.cov) parts.schema
     → ((answer : Answer) → IsAnswer (command_of (map string_bytes words)) old.files answer → Carries answer status old new)
     → AnswersTiling after (made_request request) (primitives_of T.tables) (cut_plan parts T) (length parts.tileref.grid.rows) parts.schema
-run_answers agree cuts makes law words before after request parts T status old new bytes later e told left done source alone lacks carries =
+run_answers agree rest cuts makes law words before after request parts T status old new bytes later e told left done source alone lacks carries =
     run_makes (λ parts T. AnswersTiling after (made_request request) (primitives_of T.tables) (cut_plan parts T) (length parts.tileref.grid.rows) parts.schema)
     cuts makes law words before after request parts T status old new
-    (λ names cut made. agree before after request parts T bytes later names cut alone made lacks) e told left done source carries
+    (λ names cut made. agree before after request parts T bytes later names cut alone made
+    (rest before after request parts T bytes names source cut alone made lacks)) e told left done source carries

@@ -24,7 +24,9 @@ ghost use Rattle.vpf_replies.specs.Making.{made_answer};
 ghost use Rattle.vpf_run.specs.Joining.{IsJoining};
 ghost use Rattle.vpf_drill.specs.Cutting.{cut_files, cut_plan};
 ghost use Rattle.vpf_drill.specs.Request.{CanBeAsked};
-ghost use Rattle.vpf_drill.specs.Tilings.{AnswersTiling, HoldsTiling, LacksTheRest, StandsAlone, made_request};
+ghost use Rattle.vpf_library_files.specs.Loading.Loading.{within};
+ghost use Rattle.vpf_library_commands.specs.FeatureReadingLaws.{LacksThemes};
+ghost use Rattle.vpf_drill.specs.Tilings.{AnswersTiling, HoldsTiling, StandsAlone, made_request};
 ghost use Rattle.vpf_library_commands.specs.Check.{agrees_text, check_request};
 ghost use Rattle.vpf_library_commands.specs.Make.{make_request};
 ghost use Rattle.vpf_darts.specs.declared.darts.TileDart.{TileDart};
@@ -53,7 +55,7 @@ use std::alloc::Global;
 use vpf_drill::drill;
 use vpf_drill::laws::{one_drill, requests_can_be_asked};
 use vpf_drill::tile_theorem::tilings::laws::{
-    requests_have_names, sources_are_cut, tiles_are_made, tilings_agree,
+    requests_have_names, rest_is_lacked, sources_are_cut, tiles_are_made, tilings_agree,
 };
 use vpf_feature_commands::laws::plain_selections;
 use vpf_feature_commands::select;
@@ -290,13 +292,13 @@ pub fn run<T: Tree, O: Sink>(alloc: Global, words: &[String], tree: &mut T, out:
         → T.files tree.old ≡ Some files → result ≡ Status.Done → HasTileSource files request }
 
     // And what it makes is that coverage: where `tile` is done, no file stood in its folder before, no two of the files that it makes have one name, they
-    // have no more bytes in all than a run reads, and what the features lacked isn't there after, then the tree holds the tiled library: it agrees, with its
+    // have no more bytes in all than a run reads, and no thematic index is there after that the features lacked, then the tree holds the tiled library: it agrees, with its
     // features, and its boundary cycles are exactly those of the coverage without its lines between tiles, each dart called by its name in the tiles.
     ensures rejoined { (before after : Files) (rest : List (List ℕ)) (request : MakeRequest) (parts : TileParts) (tables : TileTables)
         → map string_bytes words.now ≡ codes "tile" ∷ rest → make_request rest ≡ Some request
         → T.files tree.old ≡ Some before → T.files tree.new ≡ Some after
         → result ≡ Status.Done → IsTileSource before request parts tables → StandsAlone before request.out (cut_files request parts tables)
-        → LacksTheRest after request.out request.cov parts.schema → HoldsTiling after (made_request request) (primitives_of tables.tables)
+        → LacksThemes after (within request.out request.cov) parts.schema → HoldsTiling after (made_request request) (primitives_of tables.tables)
         (cut_plan parts tables) (length parts.tileref.grid.rows) parts.schema }
 
     // So `check` accepts that library, with the numbers of primitives of its tiles, and `trace` lists exactly these cycles.
@@ -304,7 +306,7 @@ pub fn run<T: Tree, O: Sink>(alloc: Global, words: &[String], tree: &mut T, out:
         → map string_bytes words.now ≡ codes "tile" ∷ rest → make_request rest ≡ Some request
         → T.files tree.old ≡ Some before → T.files tree.new ≡ Some after
         → result ≡ Status.Done → IsTileSource before request parts tables → StandsAlone before request.out (cut_files request parts tables)
-        → LacksTheRest after request.out request.cov parts.schema → AnswersTiling after (made_request request) (primitives_of tables.tables)
+        → LacksThemes after (within request.out request.cov) parts.schema → AnswersTiling after (made_request request) (primitives_of tables.tables)
         (cut_plan parts tables) (length parts.tileref.grid.rows) parts.schema }
 
     // `glue` is done only where a coverage in tiles agrees with its features. Then the tree holds besides the files of the coverage that its tiles are glued
@@ -338,6 +340,7 @@ pub fn run<T: Tree, O: Sink>(alloc: Global, words: &[String], tree: &mut T, out:
     traces_list_cycles();
     tiles_are_made();
     sources_are_cut();
+    rest_is_lacked();
     tilings_agree();
     requests_have_names();
     glue_decides_agreement();

@@ -1,12 +1,12 @@
 -- A coverage that is cut by a plan against which there is no cause, and what tiling comes to then.
-use Rattle.std.proofs.Common.{◌≡◌, ℕ, ℤ, ◌<◌, ◌≤◌, ◌^◌, refl, sym, ap, ◌∙◌, subst, List, length, Option, None, Some, Result, Ok, Err}
+use Rattle.std.proofs.Common.{◌≡◌, ℕ, ℤ, ◌<◌, ◌≤◌, ◌^◌, sym, ap, ◌∙◌, subst, List, length, Option, None, Some, Result}
 use Rattle.std.specs.Prelude.{map}
 use Rattle.std.specs.List.{range_with_len}
 use Rattle.std.proofs.lemmas.List.FromFn.{length-map-range_with_len}
 use mathlib.Core.Path.{fun_ext}
 use Rattle.vpf_base.specs.Results.{Told}
 use Rattle.vpf_source.specs.declared.file.File.{File}
-use Rattle.vpf_table.specs.declared.limit.Limit.{Limit as Passed}
+use Rattle.vpf_tiling.specs.declared.tileable.refusals.Refusal.{Refusal}
 use Rattle.vpf_table.specs.Grid.{Grid}
 use Rattle.vpf_prims.specs.Lists.{kth}
 use Rattle.vpf_prims.specs.Primitives.{Primitives}
@@ -19,15 +19,14 @@ use Rattle.vpf_tiling.specs.Inner.Tileable.Laws.{RefusalsDecide}
 use Rattle.vpf_tiling.specs.Tileable.Planning.{plan_of}
 use Rattle.vpf_tiling.specs.Tileable.Refusals.{first_refusal}
 use Rattle.vpf_cutting.specs.Inner.Cuts.{Cutting, IsPlanned, cutting_of, plan_by}
-use Rattle.vpf_library_files.specs.declared.table_files.errors.AddError.{AddError}
-use Rattle.vpf_library_files.specs.declared.table_files.errors.AddError.TheVariants as adds
-use Rattle.vpf_library_files.specs.TableFiles.Adding.{NamedTable, error_seen, first_limit_of, made_of_tables, unless_limited}
-use Rattle.vpf_tiler.specs.Inner.Errors.{tile_error}
+use Rattle.vpf_library_files.specs.TableFiles.Adding.{NamedTable, made_of_tables}
+use Rattle.vpf_feature_files.specs.Schemas.{Schema, joins_of}
+use Rattle.vpf_feature_writing.specs.Keys.{numbered_row}
+use Rattle.vpf_feature_writing.specs.Making.{features_made, made_then}
 use Rattle.vpf_tiler.specs.declared.errors.TileError.{TileError}
 use Rattle.vpf_tiler.specs.declared.errors.TileError.TheVariants as errors
 use Rattle.vpf_tiler.specs.CutBy.{IsCause, IsCutBy, names_of_faces, plan_refusal}
-use Rattle.vpf_tiler.specs.Making.{tile_error_seen, tiles_of_tables, unless_tile_limited}
-use Rattle.vpf_tiler.specs.Making.{tiled, unless_refused}
+use Rattle.vpf_tiler.specs.Making.{made_result, planned_tables, tile_error_seen, tiled_with_features, unless_keyed, unless_refused}
 use Rattle.vpf_tiler.specs.TileFiles.Tables.{library_tables}
 
 -- there is a tile, or none, for each face
@@ -72,49 +71,42 @@ cut_is T plan tiles faces named items cut is names count each = record {
 
 -- ---- what tiling comes to
 
--- the first cause against the plan
-pub refused_told : (cov : List ℕ) (tables : PrimitiveTables) (plan tileref : Grid) (tiles : ℕ) (e : TileError) → tiles ≡ length tileref.rows
-    → IsCause (plan_refusal tables plan tiles) e → Told (tile_error_seen e) (tiled cov tables plan tileref)
-refused_told cov tables plan tileref tiles (errors.Refused refusal) many h =
-    ap (unless_refused (library_tables cov tables (primitives_of tables) (plan_of (names_of_faces tables plan)) tileref))
-    (ap (plan_refusal tables plan) (sym many) ∙ h)
-refused_told cov tables plan tileref tiles (errors.Limit name limit) many h = absurd h
-refused_told cov tables plan tileref tiles errors.NoMemory many h = h
+-- what is made where nothing speaks against the plan
+abbrev planned_made : (cov : List ℕ) → PrimitiveTables → Schema → (plan tileref : Grid) → Result (List File) TileError
+planned_made cov tables S plan tileref =
+    unless_keyed (numbered_row (joins_of S.fcs)) (made_result (made_then (made_of_tables (planned_tables cov tables plan tileref)) (features_made cov S)))
 
--- where there is none, what the tables come to
-pub tiled_is : (cov : List ℕ) (tables : PrimitiveTables) (plan tileref : Grid) (tiles : ℕ) (cut : Cutting) → tiles ≡ length tileref.rows
+-- it is by the first cause against the plan, if any
+refusal_said : (cov : List ℕ) (tables : PrimitiveTables) (S : Schema) (plan tileref : Grid) (tiles : ℕ) (refusal : Option Refusal) → tiles ≡ length tileref.rows
+    → plan_refusal tables plan tiles ≡ refusal → tiled_with_features cov tables S plan tileref ≡ unless_refused refusal (planned_made cov tables S plan tileref)
+refusal_said cov tables S plan tileref tiles refusal many is =
+    ap (λ (r : Option Refusal). unless_refused r (planned_made cov tables S plan tileref)) (ap (plan_refusal tables plan) (sym many) ∙ is)
+
+-- the first cause against the plan
+pub refused_told : (cov : List ℕ) (tables : PrimitiveTables) (S : Schema) (plan tileref : Grid) (tiles : ℕ) (e : TileError) → tiles ≡ length tileref.rows
+    → IsCause (plan_refusal tables plan tiles) e → Told (tile_error_seen e) (tiled_with_features cov tables S plan tileref)
+refused_told cov tables S plan tileref tiles (errors.Refused refusal) many h = refusal_said cov tables S plan tileref tiles (Some refusal) many h
+refused_told cov tables S plan tileref tiles (errors.KeyInTable row) many h = absurd h
+refused_told cov tables S plan tileref tiles (errors.Limit name limit) many h = absurd h
+refused_told cov tables S plan tileref tiles errors.NoMemory many h = h
+
+-- where there is none, what the tables and the features come to
+pub tiled_is : (cov : List ℕ) (tables : PrimitiveTables) (S : Schema) (plan tileref : Grid) (tiles : ℕ) (cut : Cutting) → tiles ≡ length tileref.rows
     → plan_refusal tables plan tiles ≡ None → IsCutBy tables plan tiles cut
-    → tiles_of_tables (library_tables cov tables cut.source (plan_by cut.plan) tileref) ≡ tiled cov tables plan tileref
-tiled_is cov tables plan tileref tiles cut many none by =
-    ap (λ (c : Primitives). tiles_of_tables (library_tables cov tables c (plan_by cut.plan) tileref)) by.source
-    ∙ ap (λ (p : ℕ → ℕ). tiles_of_tables (library_tables cov tables (primitives_of tables) p tileref)) by.plan
-    ∙ sym (ap (unless_refused (library_tables cov tables (primitives_of tables) (plan_of (names_of_faces tables plan)) tileref))
-    (ap (plan_refusal tables plan) (sym many) ∙ none))
+    → unless_keyed (numbered_row (joins_of S.fcs))
+    (made_result (made_then (made_of_tables (library_tables cov tables cut.source (plan_by cut.plan) tileref)) (features_made cov S)))
+    ≡ tiled_with_features cov tables S plan tileref
+tiled_is cov tables S plan tileref tiles cut many none by =
+    let made : List NamedTable → Result (List File) TileError =
+    λ named. unless_keyed (numbered_row (joins_of S.fcs)) (made_result (made_then (made_of_tables named) (features_made cov S))) in
+    ap (λ (c : Primitives). made (library_tables cov tables c (plan_by cut.plan) tileref)) by.source
+    ∙ ap (λ (p : ℕ → ℕ). made (library_tables cov tables (primitives_of tables) p tileref)) by.plan
+    ∙ sym (refusal_said cov tables S plan tileref tiles None many none)
 
 -- the tables of tiles are like those of the coverage, as it is cut
 pub making_is : (cov : List ℕ) (forms tables : PrimitiveTables) (made cut : Cutting) (tileref : Grid) → forms ≡ tables → made ≡ cut
-    → tiles_of_tables (library_tables cov forms made.source (plan_by made.plan) tileref)
-    ≡ tiles_of_tables (library_tables cov tables cut.source (plan_by cut.plan) tileref)
+    → made_of_tables (library_tables cov forms made.source (plan_by made.plan) tileref)
+    ≡ made_of_tables (library_tables cov tables cut.source (plan_by cut.plan) tileref)
 making_is cov forms tables made cut tileref same is =
-    ap (λ (ts : PrimitiveTables). tiles_of_tables (library_tables cov ts made.source (plan_by made.plan) tileref)) same
-    ∙ ap (λ (k : Cutting). tiles_of_tables (library_tables cov tables k.source (plan_by k.plan) tileref)) is
-
--- ---- why tables aren't written is why a coverage isn't tiled
-
-abbrev as_tiles : Result (List File) AddError → Result (List File) TileError
-as_tiles (Ok files) = Ok files
-as_tiles (Err error) = Err (tile_error error)
-
-tiles_same : (tables : List NamedTable) (limit : Option (List ℕ × Passed)) → as_tiles (unless_limited tables limit) ≡ unless_tile_limited tables limit
-tiles_same tables None = refl
-tiles_same tables (Some limit) = refl
-
--- the files of tables are those of tiling
-pub tiles_made : (tables : List NamedTable) (files : List File) → made_of_tables tables ≡ Ok files → tiles_of_tables tables ≡ Ok files
-tiles_made tables files h = sym (tiles_same tables (first_limit_of tables)) ∙ ap as_tiles h
-
--- and so is the limit that one passes
-pub tiles_told : (tables : List NamedTable) (error : AddError) → Told (error_seen error) (made_of_tables tables)
-    → Told (tile_error_seen (tile_error error)) (tiles_of_tables tables)
-tiles_told tables (adds.Limit name limit) h = sym (tiles_same tables (first_limit_of tables)) ∙ ap as_tiles h
-tiles_told tables adds.NoMemory h = h
+    ap (λ (ts : PrimitiveTables). made_of_tables (library_tables cov ts made.source (plan_by made.plan) tileref)) same
+    ∙ ap (λ (k : Cutting). made_of_tables (library_tables cov tables k.source (plan_by k.plan) tileref)) is

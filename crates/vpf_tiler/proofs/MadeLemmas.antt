@@ -1,9 +1,8 @@
 -- The files of a tiled library in a folder of their own: the folder holds the coverage in tiles.
-use Rattle.std.proofs.Common.{◌≡◌, ℕ, ◌<◌, ◌≤◌, ◌^◌, List, length, Option, None, Some, Result, Ok, Err, Vec, Global, refl, sym, ap, ◌∙◌, subst, arith}
-use Rattle.std.specs.Prelude.{IfOk, IsUtf8}
+use Rattle.std.proofs.Common.{◌≡◌, ℕ, ◌<◌, ◌≤◌, ◌^◌, List, length, Option, None, Some, Result, Ok, Err, refl, sym, ap, ◌∙◌, subst, arith}
+use Rattle.std.specs.Prelude.{IsUtf8}
 use Rattle.std.proofs.lemmas.List.{length-map}
 use Rattle.vpf_base.specs.Limits.{most_rows}
-use Rattle.vpf_base.specs.Results.{Meets}
 use Rattle.vpf_source.specs.Files.{Files}
 use Rattle.vpf_source.specs.declared.file.File.{File}
 use Rattle.vpf_table.specs.declared.limit.Limit.{Limit as Passed}
@@ -11,7 +10,6 @@ use Rattle.vpf_table.specs.Grid.{Grid}
 use Rattle.vpf_prims.specs.Libraries.{library_of}
 use Rattle.vpf_prims.specs.Primitives.{Library}
 use Rattle.vpf_prims.specs.Reading.{PrimitiveTables, edge_in_row, primitives_of}
-use Rattle.vpf_prims.specs.Tables.{TileTables}
 use Rattle.vpf_library_files.specs.Tileref.Numbered.{most_tiles}
 use Rattle.vpf_library_files.specs.Tileref.Stops.{path_texts}
 use Rattle.vpf_library_files.specs.Loading.Holding.{HoldsCoverage, bytes_in}
@@ -27,14 +25,14 @@ use Rattle.vpf_tiling_laws.specs.Inner.Gluing.Gluing.{GluingGivesRenumbered}
 use Rattle.vpf_primitive_tables.specs.Inner.TileReading.Laws.{CutsAreRead, CutsHaveColumns}
 use Rattle.vpf_primitive_tables.specs.Inner.TileWriting.Laws.{TilerefIsRead, TilerefIsWritable, TilesAreWritable}
 use Rattle.vpf_tiler.specs.declared.errors.TileError.{TileError}
-use Rattle.vpf_library_files.specs.TableFiles.Adding.{NamedTable, files_made, first_limit_of}
-use Rattle.vpf_tiler.specs.Making.{tile_error_seen, tiles_of_tables, unless_tile_limited}
+use Rattle.vpf_library_files.specs.TableFiles.Adding.{NamedTable, files_made, first_limit_of, made_of_tables, unless_limited}
+use Rattle.vpf_feature_writing.specs.Making.{Made}
 use Rattle.vpf_tiler.specs.TileFiles.Tables.{all_tile_tables, library_tables, tileref_table}
 use Rattle.vpf_tiler.specs.Inner.TiledFiles.Folders.{CanBeMade, HoldsExactly}
 use Rattle.vpf_tiler.specs.Inner.TiledFiles.Laws.{HoldsCut, MadeIsHeld}
 use Rattle.vpf_tiler.specs.CutBy.{names_of_faces, plan_refusal}
 use Rattle.vpf_tiler.specs.Inner.Laws.{AreTilesGiven, MadeAgrees, MadeGoesOn, MadeHasCycles, MadeIsGlued, MadeIsTileable, OfFilesMade}
-use Rattle.vpf_tiler.specs.Making.{tiled, unless_refused}
+use Rattle.vpf_tiler.specs.Making.{made_result, planned_tables, tiled, unless_refused}
 use Rattle.vpf_tiler.specs.Tilings.{AreInFolder, GoesOnAs, HasCyclesOf, IsGluedTo, IsHeldInTiles, OfEachCoverage, Tiling, tiling_of}
 use Rattle.vpf_tiler.proofs.ReadableLemmas.{are_apart, are_filled}
 use Rattle.vpf_tiler.proofs.WrittenLemmas.{all_written, first_and_others}
@@ -58,28 +56,32 @@ pub record Known : Type 0 where
 -- ---- the files that tiling comes to
 
 -- nothing speaks against the plan, no table passes a bound, and these are the files of the tables
-record AreMade (w : Tiling) (cov : List ℕ) (T : PrimitiveTables) (plan tileref : Grid) (files : List File) : Type 0 where
-  serves : plan_refusal T plan (length tileref.rows) ≡ None
-  fits : first_limit_of (library_tables cov T w.coverage w.plan tileref) ≡ None
-  are : files_made (library_tables cov T w.coverage w.plan tileref) ≡ files
+pub record AreMade (w : Tiling) (cov : List ℕ) (T : PrimitiveTables) (plan tileref : Grid) (files : List File) : Type 0 where
+  pub serves : plan_refusal T plan (length tileref.rows) ≡ None
+  pub fits : first_limit_of (library_tables cov T w.coverage w.plan tileref) ≡ None
+  pub are : files_made (library_tables cov T w.coverage w.plan tileref) ≡ files
 
-limits_passed : (tables : List NamedTable) (limit : Option (List ℕ × Passed)) (files : List File) → unless_tile_limited tables limit ≡ Ok files
+-- what is answered as made is made
+pub results_passed : (made : Made) (files : List File) → made_result made ≡ Ok files → made ≡ Ok files
+results_passed (Ok made) files e = cc
+results_passed (Err error) files e = absurd cc
+
+limits_passed : (tables : List NamedTable) (limit : Option (List ℕ × Passed)) (files : List File) → unless_limited tables limit ≡ Ok files
     → (limit ≡ None) × (files_made tables ≡ files)
 limits_passed tables None files e = (refl, cc)
 limits_passed tables (Some limit) files e = absurd cc
 
-causes_passed : (tables : List NamedTable) (cause : Option Refusal) (files : List File) → unless_refused tables cause ≡ Ok files
-    → (cause ≡ None) × (tiles_of_tables tables ≡ Ok files)
-causes_passed tables None files e = (refl, e)
-causes_passed tables (Some cause) files e = absurd cc
+pub causes_passed : (cause : Option Refusal) (made : Result (List File) TileError) (files : List File) → unless_refused cause made ≡ Ok files
+    → (cause ≡ None) × (made ≡ Ok files)
+causes_passed None made files e = (refl, e)
+causes_passed (Some cause) made files e = absurd cc
 
-are_made : (cov : List ℕ) (T : PrimitiveTables) (plan tileref : Grid) (files : List File) → tiled cov T plan tileref ≡ Ok files
+pub are_made : (cov : List ℕ) (T : PrimitiveTables) (plan tileref : Grid) (files : List File) → tiled cov T plan tileref ≡ Ok files
     → AreMade (tiling_of T plan tileref) cov T plan tileref files
 are_made cov T plan tileref files e =
-    let w : Tiling = tiling_of T plan tileref in
-    let tables : List NamedTable = library_tables cov T w.coverage w.plan tileref in
-    let causes = causes_passed tables (plan_refusal T plan (length tileref.rows)) files e in
-    let limits = limits_passed tables (first_limit_of tables) files causes.1 in
+    let tables : List NamedTable = planned_tables cov T plan tileref in
+    let causes = causes_passed (plan_refusal T plan (length tileref.rows)) (made_result (made_of_tables tables)) files e in
+    let limits = limits_passed tables (first_limit_of tables) files (results_passed (made_of_tables tables) files causes.1) in
     record { serves = causes.0; fits = limits.0; are = limits.1 }
 
 -- ---- the coverage may be tiled, and its tables written
@@ -155,7 +157,7 @@ unfolding value_or
 same_read x c k n r a b = ap (value_or c) (sym a ∙ b)
 
 -- a folder holds one coverage of a name
-one_held : HeldIsRead → (held : Files) (lib cov : List ℕ) (x c : LoadedCoverage) → HoldsCoverage held lib cov x → HoldsCoverage held lib cov c → x ≡ c
+pub one_held : HeldIsRead → (held : Files) (lib cov : List ℕ) (x c : LoadedCoverage) → HoldsCoverage held lib cov x → HoldsCoverage held lib cov c → x ≡ c
 one_held read held lib cov x c a b =
     same_read x c (bytes_in x.files) (bytes_in c.files) (read_coverage held lib cov 0) (read held lib cov x a) (read held lib cov c b)
 
@@ -191,21 +193,3 @@ made_has_cycles k = of_each k HasCyclesOf (λ w may. k.listing w.coverage w.plan
 
 pub made_is_glued : Known → MadeIsGlued
 made_is_glued k = of_each k IsGluedTo (λ w may. let both = k.glued w.coverage w.plan w.tiles may in record { rows = both.0; plan = both.1 })
-
--- ---- what a call answered
-
--- where it answered files, tiling comes to these
-if_files : (r : Result (Vec File Global) TileError) (ought : Result (List File) TileError) (P : List File → Type 0)
-    → Meets (λ (files : Vec File Global). files.items) tile_error_seen r ought → ((files : List File) → ought ≡ Ok files → P files)
-    → IfOk r (λ (files : Vec File Global). P files.items)
-if_files (Ok files) ought P e so = so files.items e
-if_files (Err error) ought P e so = tt
-
--- what is so wherever tiling comes to some files is so of those that a call answered over the tables of a coverage
-pub answered : (P : Tiling → List ℕ → List File → Type 0) → OfFilesMade P → (cov : List ℕ) (S T : TileTables) (plan tileref : Grid)
-    (r : Result (Vec File Global) TileError) → S ≡ T → IsUtf8 cov → AreTilesGiven S.tables tileref
-    → Meets (λ (files : Vec File Global). files.items) tile_error_seen r (tiled cov S.tables plan tileref)
-    → IfOk r (λ (files : Vec File Global). P (tiling_of T.tables plan tileref) cov files.items)
-answered P of cov S T plan tileref r same text given e =
-    subst (λ (X : TileTables). IfOk r (λ (files : Vec File Global). P (tiling_of X.tables plan tileref) cov files.items)) same
-    (if_files r (tiled cov S.tables plan tileref) (P (tiling_of S.tables plan tileref) cov) e (λ files made. of cov S.tables plan tileref files text given made))

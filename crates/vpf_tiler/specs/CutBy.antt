@@ -24,9 +24,10 @@ pub record IsCutBy (tables : PrimitiveTables) (grid : Grid) (count : ℕ) (cut :
   pub plan : plan_by cut.plan ≡ plan_of (names_of_faces tables grid)
   pub tiles : cut.tiles ≡ count
 
--- this is why a coverage isn't cut: the first cause, or want of memory, of which nothing is said; no limit is passed
+-- this is why a coverage isn't cut: the first cause, or want of memory, of which nothing is said; no row joins by numbers, and no limit is passed
 abbrev pub IsCause : Option Refusal → TileError → Type 0
 IsCause first (errors.Refused refusal) = first ≡ Some refusal
+IsCause first (errors.KeyInTable row) = ⊥
 IsCause first (errors.Limit name limit) = ⊥
 IsCause first errors.NoMemory = Unit {0}
 

@@ -1,3 +1,3 @@
-pub mod Errors
 pub mod Laws
 pub mod TiledFiles
+pub mod TiledFeatures

@@ -11,6 +11,11 @@ use vpf_tiling::tileable::Refusal;
 pub enum TileError {
     /// There is a cause against tiling it.
     Refused(Refusal),
+    /// This row of the schema table joins features to primitives by these' numbers, which aren't those of their copies in tiles.
+    KeyInTable {
+        /// The row, counted from 1.
+        row: u32,
+    },
     /// The file of this name would pass a bound.
     Limit(Name, Limit),
     /// There was too little memory.
@@ -52,7 +57,7 @@ impl From<Refusal> for TileError {
 
 impl From<AddError> for TileError {
     ghost use Rattle.std.specs.Prelude.{◌≡◌};
-    ghost use Rattle.vpf_tiler.specs.Inner.Errors.{tile_error};
+    ghost use Rattle.vpf_tiler.specs.Making.{tile_error};
 
     ghost from_gives = { λ error e. e ≡ tile_error error };
 

@@ -6,6 +6,7 @@ mod errors;
 pub mod laws;
 mod sources;
 pub mod tile_files;
+pub mod tiled_features;
 pub mod tiled_files;
 mod tiling;
 

@@ -101,7 +101,7 @@ one_held : (b : Bool) (bytes : List ℕ) (o : Option (List ℕ)) → IsBytes byt
 one_held true bytes o new old = new
 one_held false bytes o new old = old
 
-all_held : (files : List File) (held after : Files) → HoldsBytes held → AllByRecursion (λ (f : File). IsBytes f.bytes) files
+pub all_held : (files : List File) (held after : Files) → HoldsBytes held → AllByRecursion (λ (f : File). IsBytes f.bytes) files
     → with_all files (Some held) ≡ Some after → HoldsBytes after
 all_held [] held after old all e = subst HoldsBytes (some_same held after e) old
 all_held (file ∷ files) held after old all e =

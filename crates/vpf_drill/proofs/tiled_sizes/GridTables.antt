@@ -45,7 +45,7 @@ tileref_text = rw (one, eight) (omega arith)
 -- ---- the tables of a tile
 
 -- a table of at most eight columns, whose cells can name rows
-short_by : (g : Grid) → length (canonical_text g.head) ≤ 500 → AllByRecursion (λ (c : Col). names_rows c.kind ≡ true) g.head.columns
+pub short_by : (g : Grid) → length (canonical_text g.head) ≤ 500 → AllByRecursion (λ (c : Col). names_rows c.kind ≡ true) g.head.columns
     → length g.head.columns ≤ 8 → IsShort g
 short_by g text kinds few = record { text = text; rows = each g.rows }
   where

@@ -2,14 +2,15 @@
 use Rattle.std.specs.Prelude.{◌≡◌, ℕ, None, Ok, Some}
 use Rattle.vpf_source.specs.Files.{Files}
 use Rattle.vpf_source.specs.Making.{with_all}
-use Rattle.vpf_library_files.specs.Loading.Loading.{LoadedCoverage, read_coverage}
+use Rattle.vpf_library_files.specs.Loading.Loading.{LoadedCoverage, read_coverage, within}
 use Rattle.vpf_prims.specs.Libraries.{library_of}
 use Rattle.vpf_cross.specs.Agreeing.{LibraryAgrees}
 use Rattle.vpf_replies.specs.Answer.{Answer}
 use Rattle.vpf_library_commands.specs.Check.{coverage_finding}
 use Rattle.vpf_library_commands.specs.TileTheorem.Tilings.Cutting.{cut_files}
 use Rattle.vpf_library_commands.specs.TileTheorem.Tilings.Sources.{IsTileSource}
-use Rattle.vpf_library_commands.specs.TileTheorem.Tilings.Tilings.{LacksTheRest, StandsAlone}
+use Rattle.vpf_library_commands.specs.TileTheorem.Tilings.Tilings.{StandsAlone}
+use Rattle.vpf_library_commands.specs.FeatureReadingLaws.{LacksThemes}
 use Rattle.vpf_drill.specs.GridCutting.Held.{grid_held}
 use Rattle.vpf_drill.specs.GridCutting.Reading.{grid_parts, grid_request, grid_tile_tables}
 use Rattle.vpf_drill.specs.Drill.{IsDrill, cut_grid}
@@ -33,13 +34,13 @@ abbrev pub GridIsTiled : Type 0
 GridIsTiled = (n : ℕ) → CanBeAsked n → IsGridTiled n
 
 -- all that is asked of what `tile` cuts, and of what it makes of that, is so of the grid: it is a source, the files made of it stand alone, and where they are
--- put beside it, what the features lacked isn't there
+-- put beside it, no thematic index is there that the features lacked
 pub record IsGridSource (n : ℕ) : Type 0 where
   pub source : IsTileSource (grid_held n) grid_request (grid_parts n) (grid_tile_tables n)
   pub alone : StandsAlone (grid_held n) grid_request.out (cut_files grid_request (grid_parts n) (grid_tile_tables n))
   pub after : Files
   pub made : with_all (cut_files grid_request (grid_parts n) (grid_tile_tables n)) (Some (grid_held n)) ≡ Some after
-  pub lacks : LacksTheRest after grid_request.out grid_request.cov (grid_parts n).schema
+  pub lacks : LacksThemes after (within grid_request.out grid_request.cov) (grid_parts n).schema
 
 -- so it is of each grid that can be asked for
 abbrev pub GridsAreSources : Type 0

@@ -21,7 +21,7 @@ use Rattle.vpf_feature_files.specs.Holding.{AreFeatureFiles, AreItemsFiles, AreT
 use Rattle.vpf_feature_files.specs.SchemaRows.Items.{own_file}
 use Rattle.vpf_feature_files.specs.SchemaRows.Joins.{feature_items}
 use Rattle.vpf_feature_files.specs.Schemas.{FeatureTable, Index, Schema, joins_of, table_in_file}
-use Rattle.vpf_feature_writing.proofs.feature_reading.Letters.{EndsIn, NamesFeatures, feature_ends, items_name}
+use Rattle.vpf_feature_writing.specs.Inner.FeatureReading.EndingLaws.{EndsIn, NamesFeatures, feature_ends, items_name}
 
 -- ---- what was held
 

@@ -32,10 +32,10 @@ use Rattle.vpf_feature_files.specs.SchemaRows.Joins.{feature_items}
 use Rattle.vpf_feature_files.specs.Schemas.{FeatureTable, Index, Schema, joins_of, table_in_file}
 use Rattle.vpf_feature_writing.specs.FeatureReading.Laws.{IsReadSchema}
 use Rattle.vpf_feature_writing.specs.Inner.FeatureReading.HeldLaws.{no_ok, ok_is}
-use Rattle.vpf_feature_writing.specs.Inner.FeatureReading.Names.{HaveOtherNames, WrittenLacksEdges, WrittenLacksTables}
+use Rattle.vpf_feature_writing.specs.Inner.FeatureReading.Names.{HaveOtherNames, ReadLacksTables, WrittenLacksEdges, WrittenLacksTables}
 use Rattle.vpf_feature_writing.specs.Making.{Made, feature_table_made, feature_tables_made, features_made, index_made, index_made_by, indexes_made, made_then, schema_made, table_made}
 use Rattle.vpf_feature_writing.proofs.feature_reading.HeldFeatures.{IsHeldOption, IsHeldSource, IsHeldTable, IsLacking, source_held}
-use Rattle.vpf_feature_writing.proofs.feature_reading.Letters.{EndsIn, NamesFeatures, edges_end, ends_within, feature_ends, index_ends, items_name, one_within, other_ends, schema_ends}
+use Rattle.vpf_feature_writing.specs.Inner.FeatureReading.EndingLaws.{EndsIn, NamesFeatures, edges_end, ends_within, feature_ends, index_ends, items_name, one_within, other_ends, schema_ends}
 use Rattle.vpf_feature_writing.proofs.feature_reading.SourceLemmas.{schema_with}
 use Rattle.vpf_feature_writing.proofs.feature_reading.TableLemmas.{made_is}
 use Rattle.vpf_feature_writing.proofs.feature_reading.TableTheme.{not_both}
@@ -221,6 +221,14 @@ written_lacks_tables held source folder S made w = by S.fcs refl
         let there = held_there held source S grid w.read is in
         let lacks = subst (λ (x : Option Grid). AllByRecursion (IsLacking w.read.held source S.tables) (feature_items (joins_of x))) is there.lacks in
         items_others w.read.held source folder (feature_items (joins_of (Some grid))) S made there.tables w.files_are (items_name (joins_of (Some grid))) lacks
+
+pub read_lacks_tables : ReadSchemaIsHeld → ReadLacksTables
+read_lacks_tables held folder S r = by S.fcs refl
+  where
+    by : (fcs : Option Grid) → S.fcs ≡ fcs → AllByRecursion (IsLacking r.held folder S.tables) (feature_items (joins_of fcs))
+    by None is = tt
+    by (Some grid) is =
+        subst (λ (x : Option Grid). AllByRecursion (IsLacking r.held folder S.tables) (feature_items (joins_of x))) is (held_there held folder S grid r is).lacks
 
 -- ---- edges
 

@@ -73,11 +73,15 @@ LacksIndexes held folder (column ∷ columns) (None ∷ indexes) =
     ((file : List ℕ) → option_and_then own_file column.theme ≡ Some file → Lacks held folder file) × LacksIndexes held folder columns indexes
 LacksIndexes held folder (column ∷ columns) (Some index ∷ indexes) = LacksIndexes held folder columns indexes
 
+-- .. and so of all its feature tables
+abbrev pub LacksThemes : Files → (folder : List ℕ) → Schema → Type 0
+LacksThemes held folder S = AllByRecursion (λ (table : FeatureTable). LacksIndexes held folder table.grid.head.columns table.indexes) S.tables
+
 -- what a folder lacks of a schema, and of its schema table where there is none
 pub record LacksOfSchema (held : Files) (folder : List ℕ) (S : Schema) : Type 0 where
   pub fcs : S.fcs ≡ None → held (schema_name folder) ≡ None
   pub tables : LacksTables held folder S
-  pub indexes : AllByRecursion (λ (table : FeatureTable). LacksIndexes held folder table.grid.head.columns table.indexes) S.tables
+  pub indexes : LacksThemes held folder S
 
 -- what is written of features that agree is read, in any tree that holds the files that are made and lacks what wasn't there
 abbrev pub WrittenAreRead : Type 0

@@ -1,7 +1,7 @@
 //! What is so of all features that are written.
 
 ghost use Rattle.vpf_feature_writing.specs.FeatureReading.Laws.{TablesAreRead, WrittenAgrees, WrittenAreRead};
-ghost use Rattle.vpf_feature_writing.specs.Inner.FeatureReading.Names.{WrittenLacksEdges, WrittenLacksTables};
+ghost use Rattle.vpf_feature_writing.specs.Inner.FeatureReading.Names.{ReadLacksTables, WrittenLacksEdges, WrittenLacksTables};
 
 use vpf_feature_files::laws::features_are_held;
 use vpf_table::laws as tables;
@@ -38,9 +38,10 @@ pub fn written_are_read()
     built_indexes_are_read();
 }
 
-/// No file of features that were read and are written has the name of a feature table that their schema table names and that wasn't there; nor that
-/// of the edges, where these were a table in the folder in which the features were read.
+/// Where features were read, each feature table that their schema table names was read or wasn't there. No file of them that is written has the name of one
+/// that wasn't there; nor that of the edges, where these were a table in the folder in which the features were read.
 pub fn written_names()
+    ensures read { ReadLacksTables }
     ensures tables { WrittenLacksTables }
     ensures edges { WrittenLacksEdges }
 {

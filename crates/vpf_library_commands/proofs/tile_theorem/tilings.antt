@@ -4,3 +4,4 @@ pub mod MadeLemmas
 pub mod SourceLemmas
 pub mod TilingLemmas
 pub mod SourceDeciding
+mod RestLemmas

@@ -1,2 +1,1 @@
-pub mod TiledFeatures
 pub mod Tilings

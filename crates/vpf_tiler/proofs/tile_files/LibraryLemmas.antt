@@ -14,7 +14,6 @@ use Rattle.vpf_library_files.specs.Tileref.Stops.{path_texts}
 use Rattle.vpf_tiling.specs.Inner.RankLaws.{up-last}
 use Rattle.vpf_tiling.specs.Ranks.{up_to}
 use Rattle.vpf_library_files.specs.declared.table_files.errors.AddError.{AddError}
-use Rattle.vpf_library_files.specs.declared.table_files.errors.AddError.TheVariants as errors
 use Rattle.vpf_library_files.specs.TableFiles.Adding.{AreAdded, FailsAdding, NamedTable, error_seen, made_of_tables}
 use Rattle.vpf_tiler.specs.TileFiles.Tables.{all_tile_tables, library_tables, tileref_table}
 use Rattle.vpf_library_files.specs.Inner.TableFiles.AddLaws.{added_then, fails_first, fails_then, made_are, made_fail}

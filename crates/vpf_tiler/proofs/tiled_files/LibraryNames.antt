@@ -189,6 +189,25 @@ tiles_apart cov paths tiles own s t x y less p q =
     let one : s ≡ t = own.apart s t p.from_one p.to_last q.from_one q.to_last same in
     omega (arith, one, less))
 
+-- a table in the folder of some tile
+pub record IsTileTable (cov : List ℕ) (table : NamedTable) : Type 0 where
+  pub path : List ℕ
+  pub inner : IsInner path
+  pub in_folder : IsInFolder (within cov path) table
+
+-- so are all tables of tiles
+pub tables_of_tiles : (cov : List ℕ) (T : PrimitiveTables) (c : Primitives) (plan : ℕ → ℕ) (tileref : Grid) → IsUtf8 cov → IsTileref tileref
+    → AllByRecursion (IsTileTable cov) (all_tile_tables cov (path_texts tileref) T c plan (length tileref.rows))
+tables_of_tiles cov T c plan tileref u right =
+    let paths = path_texts tileref in
+    let tiles = length tileref.rows in
+    let own = own_paths tileref right in
+    let made = tables_if_made cov paths T c plan tiles in
+    all_of_lists (IsTileTable cov) made
+    (λ t. all_weaker (IsOfTile cov paths tiles t) (IsTileTable cov)
+    (λ x p. record { path = kth paths t []; inner = own.inner t p.from_one p.to_last; in_folder = p.in_folder }) (made t)
+    (of_tile cov paths T c plan tiles t u own).0) (up_to tiles)
+
 -- ---- the library
 
 tileref_stem : without_last (codes "tileref/tileref.aft") ≡ codes "tileref/tileref." ++ 97 ∷ 102 ∷ []

@@ -9,7 +9,7 @@ use Rattle.vpf_feature_files.specs.SchemaRows.Items.{own_file}
 use Rattle.vpf_feature_files.specs.SchemaRows.Joins.{feature_items}
 use Rattle.vpf_feature_files.specs.Schemas.{Schema, joins_of, table_in_file}
 use Rattle.vpf_feature_writing.specs.Making.{features_made}
-use Rattle.vpf_feature_writing.specs.FeatureReading.Laws.{IsReadSchema}
+use Rattle.vpf_feature_writing.specs.FeatureReading.Laws.{IsReadSchema, LacksTables}
 
 -- the features of a schema, which were read in the folder `source`, are written into another folder as these files
 pub record AreWritten (source folder : List ℕ) (S : Schema) (made : List File) : Type 0 where
@@ -19,6 +19,10 @@ pub record AreWritten (source folder : List ℕ) (S : Schema) (made : List File)
 -- none of these files has this name in the folder
 abbrev pub HaveOtherNames : (made : List File) → (folder name : List ℕ) → Type 0
 HaveOtherNames made folder name = AllByRecursion (λ (file : File). file.name ≢ within folder name) made
+
+-- where features were read, the tree lacked each feature table that the schema table names and that wasn't there
+abbrev pub ReadLacksTables : Type 0
+ReadLacksTables = (folder : List ℕ) (S : Schema) → (r : IsReadSchema folder S) → LacksTables r.held folder S
 
 -- no file that is written has the name of a feature table that the schema table names and that wasn't there
 abbrev pub WrittenLacksTables : Type 0

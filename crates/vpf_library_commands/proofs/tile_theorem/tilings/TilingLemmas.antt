@@ -23,24 +23,26 @@ use Rattle.vpf_library_files.specs.Inner.Tileref.Laws.{StopsDecide}
 use Rattle.vpf_library_files.specs.Loading.Holding.{LacksOfTile, bytes_in}
 use Rattle.vpf_library_files.specs.Loading.Loading.{Read, most_loaded, within}
 use Rattle.vpf_tiling.specs.declared.tileable.refusals.Refusal.{Refusal}
-use Rattle.vpf_library_files.specs.TableFiles.Adding.{files_made}
+use Rattle.vpf_library_files.specs.TableFiles.Adding.{files_made, made_of_tables, unless_limited}
 use Rattle.vpf_tiling.specs.Plans.{IsTileable}
-use Rattle.vpf_library_commands.specs.TilerMaking.{unless_tile_limited, tiled, unless_refused}
+use Rattle.vpf_library_commands.specs.TilerMaking.{made_result, tiled, tiled_with_features, unless_keyed, unless_refused}
 use Rattle.vpf_tiler.specs.Writable.{AreWritable, HaveFewRows}
 use Rattle.vpf_library_commands.specs.TilerLaws.{AreTilesGiven, MadeAgrees, MadeIsTileable}
 use Rattle.vpf_library_commands.specs.Folders.{HoldsExactly}
 use Rattle.vpf_library_commands.specs.Tilings.{AreInFolder, IsHeldInTiles, Tiling, tiling_of}
-use Rattle.vpf_library_commands.specs.Inner.TileTheorem.TiledFeatures.Laws.{AreMadeOf, IsHeldWithFeatures, MadeWithFeatures, NoSchemaTableIsMade, StandAlone}
+use Rattle.vpf_tiler.specs.Inner.TiledFeatures.Laws.{AreMadeOf, IsReadWithFeatures, MadeWithFeatures, NoSchemaTableIsMade, StandAlone}
+use Rattle.vpf_tiler.specs.Inner.TiledFeatures.Folders.{LacksTheRest}
 use Rattle.vpf_features.specs.FeatureAgreement.Agreeing.{FeaturesDecide}
 use Rattle.vpf_feature_writing.specs.FeatureReading.Rebuilt.{rebuilt}
-use Rattle.vpf_feature_writing.specs.Making.{Made, features_made}
+use Rattle.vpf_feature_writing.specs.Keys.{numbered_row}
+use Rattle.vpf_feature_writing.specs.Making.{Made, features_made, made_then}
 use Rattle.vpf_trace.specs.Tracing.{IsTrace}
 use Rattle.vpf_replies.specs.declared.verdict.Verdict.TheVariants.{Done, Refused}
 use Rattle.vpf_replies.specs.Answer.{Answer, done}
 use Rattle.vpf_replies.specs.Listings.{listing_text}
 use Rattle.vpf_feature_files.specs.Holding.{HoldsSchema}
 use Rattle.vpf_feature_files.specs.Inner.Laws.{ReadSchemaIsHeld}
-use Rattle.vpf_feature_files.specs.Schemas.{Schema}
+use Rattle.vpf_feature_files.specs.Schemas.{Schema, joins_of}
 use Rattle.vpf_features.specs.Finding.{Named}
 use Rattle.vpf_library_commands.specs.Reading.{FeaturedCoverage, no_features}
 use Rattle.vpf_library_commands.specs.declared.requesting.MakeRequest.{MakeRequest}
@@ -50,7 +52,7 @@ use Rattle.vpf_library_commands.specs.Check.{read_finding}
 use Rattle.vpf_library_commands.specs.Trace.{HasTraceAnswer, IsReadTrace, IsTraceAnswer, IsTracedAnswer, TraceDecides}
 use Rattle.vpf_library_commands.specs.Tile.{TileParts}
 use Rattle.vpf_library_commands.specs.TileTheorem.Tilings.Cutting.{IsCutFrom, cut_features, cut_files, cut_plan, cut_tables, files_in_made}
-use Rattle.vpf_library_commands.specs.TileTheorem.Tilings.Tilings.{AnswersTiling, HasNames, HoldsTiled, HoldsTiling, LacksTheRest, StandsAlone, made_request, with_rebuilt}
+use Rattle.vpf_library_commands.specs.TileTheorem.Tilings.Tilings.{AnswersTiling, HasNames, HoldsTiled, HoldsTiling, StandsAlone, made_request, with_rebuilt}
 use Rattle.vpf_library_commands.proofs.tile_theorem.tilings.MadeLemmas.{exactly, few_within}
 use Rattle.vpf_library_commands.proofs.tile_theorem.tilings.ReadLemmas.{grid_few, grid_writable}
 use Rattle.vpf_library_commands.specs.Inner.TileTheorem.Tilings.ReadLaws.{AreReadGrids, OpenedIsRead}
@@ -111,8 +113,8 @@ given k parts T s = record {
 pub comes_to : (files : Files) (request : MakeRequest) (parts : TileParts) (T : TileTables) → IsCutFrom files request parts T
     → tiled request.cov T.tables parts.plan.grid parts.tileref.grid ≡ Ok (files_made (cut_tables request parts T))
 comes_to files request parts T cut =
-    ap (λ (r : Option Refusal). unless_refused (cut_tables request parts T) r) cut.serves
-    ∙ ap (λ (l : Option (List ℕ × Passed)). unless_tile_limited (cut_tables request parts T) l) cut.fits
+    ap (λ (r : Option Refusal). unless_refused r (made_result (made_of_tables (cut_tables request parts T)))) cut.serves
+    ∙ ap (λ (l : Option (List ℕ × Passed)). made_result (unless_limited (cut_tables request parts T) l)) cut.fits
 
 made_fit : (made : Made) → IsOk made → made ≡ Ok (files_in_made made)
 made_fit (Ok files) fit = refl
@@ -122,6 +124,18 @@ made_fit (Err error) fit = absurd (let e : false ≡ true = fit in cc)
 pub features_come_to : (files : Files) (request : MakeRequest) (parts : TileParts) (T : TileTables) → IsCutFrom files request parts T
     → cut_features request parts ≡ Ok (files_in_made (cut_features request parts))
 features_come_to files request parts T cut = made_fit (cut_features request parts) cut.features_fit
+
+-- so tiling comes to both
+pub both_come_to : (files : Files) (request : MakeRequest) (parts : TileParts) (T : TileTables) → IsCutFrom files request parts T
+    → tiled_with_features request.cov T.tables parts.schema parts.plan.grid parts.tileref.grid
+    ≡ Ok (files_made (cut_tables request parts T) ++ files_in_made (cut_features request parts))
+both_come_to files request parts T cut =
+    let own : Made = made_of_tables (cut_tables request parts T) in
+    let features : Made = cut_features request parts in
+    ap (λ (r : Option Refusal). unless_refused r (unless_keyed (numbered_row (joins_of parts.schema.fcs)) (made_result (made_then own features)))) cut.serves
+    ∙ ap (λ (k : Option ℕ). unless_keyed k (made_result (made_then own features))) cut.joins
+    ∙ ap (λ (l : Option (List ℕ × Passed)). made_result (made_then (unless_limited (cut_tables request parts T) l) features)) cut.fits
+    ∙ ap (λ (m : Made). made_result (made_then (Ok (files_made (cut_tables request parts T))) m)) (features_come_to files request parts T cut)
 
 -- the folder that is asked for holds exactly these
 in_folder : (files after : Files) (request : MakeRequest) (parts : TileParts) (T : TileTables) → HasNames request
@@ -135,9 +149,7 @@ in_folder files after request parts T names alone made lacks =
       named = names.named;
       exactly = exactly files after request.out own alone made;
       few = few_within files request.out own alone;
-      tables = lacks.tables;
-      indexes = lacks.indexes;
-      edges = lacks.edges;
+      lacks = lacks;
     }
 
 source_read : KnownOfReading → (files : Files) (request : MakeRequest) (parts : TileParts) (T : TileTables) → HoldsBytes files
@@ -181,14 +193,14 @@ traced k held request read bytes agrees =
 held_with : Known → (files after : Files) (request : MakeRequest) (parts : TileParts) (T : TileTables) → HoldsBytes files → HasNames request
     → IsCutFrom files request parts T → StandsAlone files request.out (cut_files request parts T)
     → with_all (cut_files request parts T) (Some files) ≡ Some after → LacksTheRest after request.out request.cov parts.schema
-    → IsHeldWithFeatures (tiling_of T.tables parts.plan.grid parts.tileref.grid) request.cov after request.out parts.schema
+    → IsReadWithFeatures (tiling_of T.tables parts.plan.grid parts.tileref.grid) request.cov after request.out parts.schema
 held_with k files after request parts T all names cut alone made lacks =
     k.made request.cov T.tables parts.plan.grid parts.tileref.grid parts.schema (files_made (cut_tables request parts T))
     (files_in_made (cut_features request parts)) after request.out names.cov (made_of k.reading files request parts T all cut)
     (in_folder files after request parts T names alone made lacks)
 
 -- which agree, as `check` is asked
-agreeing : (w : Tiling) (after : Files) (request : MakeRequest) (S : Schema) (held : IsHeldWithFeatures w request.cov after request.out S)
+agreeing : (w : Tiling) (after : Files) (request : MakeRequest) (S : Schema) (held : IsReadWithFeatures w request.cov after request.out S)
     → HoldsSchema after (within request.out request.cov) (rebuilt S) (bytes_in held.tiles.loaded.files)
     → IsAgreeing after (made_request request) (with_rebuilt held.tiles.loaded S)
 agreeing w after request S held featured = record {

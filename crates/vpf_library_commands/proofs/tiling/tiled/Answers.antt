@@ -4,7 +4,7 @@ use Rattle.vpf_prims.specs.Coverages.{CoverageTables, tile_at}
 use Rattle.vpf_library_files.specs.Loading.Loading.{tileref_name}
 use Rattle.vpf_library_files.specs.Tileref.Stops.{IsBounded}
 use Rattle.vpf_library_files.specs.Tileref.Tileref.{IsTileref}
-use Rattle.vpf_tiler.specs.Making.{tile_error_seen, tiled}
+use Rattle.vpf_tiler.specs.Making.{tile_error_seen, tiled_with_features}
 use Rattle.vpf_replies.specs.Answer.{Answer}
 use Rattle.vpf_library_commands.specs.Tile.{plan_name, tables_answer, tiled_answer}
 use Rattle.vpf_library_commands.proofs.TileAnswers.{over_tables, tiled_same, untiled_tables}
@@ -31,10 +31,10 @@ returns c parts are same =
     let there = ap (λ (x : CoverageTables). tile_at x 0) same ∙ T.1 in
     let plan_is : c.in_ok-plan.plan ≡ parts.plan.grid = c.in_ok-plan.ensures.table (plan_name request.lib request.cov) parts.plan.grid are.plan.are in
     let tileref_is : c.in_ok-tileref.tileref ≡ parts.tileref.grid = c.in_ok-tileref.ensures (tileref_name request.lib) parts.tileref.grid are.tileref in
-    let ought = tiled request.cov T.0.tables parts.plan.grid parts.tileref.grid in
+    let ought = tiled_with_features request.cov T.0.tables S parts.plan.grid parts.tileref.grid in
     let told : Meets (λ v. v.items) tile_error_seen c.tile-made.result ought =
     subst (Meets (λ v. v.items) tile_error_seen c.tile-made.result)
-    (tiled_same T.0.tables c.as_str.result.now request.cov c.in_ok-plan.plan parts.plan.grid c.in_ok-tileref.tileref parts.tileref.grid c.as_str.ensures plan_is tileref_is)
+    (tiled_same T.0.tables S c.as_str-cov.result.now request.cov c.in_ok-plan.plan parts.plan.grid c.in_ok-tileref.tileref parts.tileref.grid c.as_str-cov.ensures plan_is tileref_is)
     (c.tile-made.ensures.exact T.0 there) in
     if_ok_more (λ (reply : Answer). reply ≡ tiled_answer request S ought)
     (λ (reply : Answer). reply ≡ tables_answer request S (tile_at parts.coverage.coverage 0) parts.plan.grid parts.tileref.grid) c.tiled_so.result

@@ -11,8 +11,8 @@ use Rattle.vpf_library_commands.specs.CutBy.{names_of_faces, plan_refusal}
 use Rattle.vpf_library_commands.specs.Tables.{library_tables}
 use Rattle.vpf_library_commands.specs.declared.requesting.MakeRequest.{MakeRequest}
 use Rattle.vpf_feature_files.specs.Schemas.{joins_of}
+use Rattle.vpf_feature_writing.specs.Keys.{numbered_row}
 use Rattle.vpf_feature_writing.specs.Making.{Made, features_made}
-use Rattle.vpf_library_commands.specs.Keys.{numbered_class}
 use Rattle.vpf_library_commands.specs.Made.{file_within}
 use Rattle.vpf_library_commands.specs.Tile.{TileParts, parts_finding, read_parts}
 
@@ -45,5 +45,5 @@ pub record IsCutFrom (files : Files) (request : MakeRequest) (parts : TileParts)
   pub agrees : parts_finding request parts ≡ None
   pub serves : plan_refusal T.tables parts.plan.grid (length parts.tileref.grid.rows) ≡ None
   pub fits : first_limit_of (cut_tables request parts T) ≡ None
-  pub joins : numbered_class (joins_of parts.schema.fcs) ≡ None
+  pub joins : numbered_row (joins_of parts.schema.fcs) ≡ None
   pub features_fit : IsOk (cut_features request parts)

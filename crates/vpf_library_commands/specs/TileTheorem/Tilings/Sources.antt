@@ -16,8 +16,8 @@ use Rattle.vpf_tiling.specs.Plans.{IsTileable}
 use Rattle.vpf_feature_files.specs.Holding.{HoldsSchema}
 use Rattle.vpf_feature_files.specs.Schemas.{joins_of}
 use Rattle.vpf_features.specs.FeatureAgreement.Agreeing.{FeaturesAgree}
+use Rattle.vpf_feature_writing.specs.Keys.{numbered_row}
 use Rattle.vpf_library_commands.specs.declared.requesting.MakeRequest.{MakeRequest}
-use Rattle.vpf_library_commands.specs.Keys.{numbered_class}
 use Rattle.vpf_library_commands.specs.Tile.{TileParts, plan_name}
 use Rattle.vpf_library_commands.specs.TileTheorem.Tilings.Cutting.{cut_features, cut_plan, cut_tables}
 
@@ -42,7 +42,7 @@ pub record IsTileSource (files : Files) (request : MakeRequest) (parts : TilePar
   pub columns : HaveColumns parts.coverage.coverage
   pub may_be : IsTileable (primitives_of T.tables) (cut_plan parts T) (length parts.tileref.grid.rows)
   pub features : FeaturesAgree parts.schema
-  pub joins : numbered_class (joins_of parts.schema.fcs) ≡ None
+  pub joins : numbered_row (joins_of parts.schema.fcs) ≡ None
   pub fits : first_limit_of (cut_tables request parts T) ≡ None
   pub features_fit : IsOk (cut_features request parts)
 

@@ -1,7 +1,6 @@
 -- A tiled library that was made of an untiled coverage and its features: it agrees, and its boundary cycles are those of the coverage (MIL-STD-2407,
 -- 5.2.3, tiled coverages, cross-tile topology and feature classes).
-use Rattle.std.specs.Prelude.{◌≡◌, ◌≢◌, ◌≤◌, ℕ, AllPairs, IsUtf8, List, [], None, codes}
-use Rattle.std.specs.List.{AllByRecursion}
+use Rattle.std.specs.Prelude.{◌≡◌, ◌≢◌, ◌≤◌, ℕ, AllPairs, IsUtf8, List, [], None}
 use Rattle.vpf_source.specs.Files.{Files}
 use Rattle.vpf_source.specs.declared.file.File.{File}
 use Rattle.vpf_darts.specs.declared.darts.TileDart.{TileDart}
@@ -15,8 +14,7 @@ use Rattle.vpf_tiling.specs.Tiles.{tiled_library}
 use Rattle.vpf_library_commands.specs.Tilings.{AreNamedCycles}
 use Rattle.vpf_replies.specs.Answer.{done}
 use Rattle.vpf_replies.specs.Listings.{listing_text}
-use Rattle.vpf_feature_files.specs.Schemas.{FeatureTable, Schema}
-use Rattle.vpf_feature_writing.specs.FeatureReading.Laws.{LacksIndexes, LacksTables}
+use Rattle.vpf_feature_files.specs.Schemas.{Schema}
 use Rattle.vpf_feature_writing.specs.FeatureReading.Rebuilt.{rebuilt}
 use Rattle.vpf_library_commands.specs.Reading.{FeaturedCoverage}
 use Rattle.vpf_library_commands.specs.declared.checking.CheckRequest.{CheckRequest}
@@ -30,13 +28,6 @@ pub record StandsAlone (files : Files) (folder : List ℕ) (made : List File) : 
   pub empty : (name : List ℕ) → files (within folder name) ≡ None
   pub apart : AllPairs (λ (a b : File). a.name ≢ b.name) made
   pub few : bytes_in made ≤ most_loaded
-
--- What the features of the coverage lacked isn't there: none of the files that are made stands where a feature table or a thematic index would that is
--- named and wasn't there; and no thematic index has the name of the edges of an untiled coverage.
-pub record LacksTheRest (after : Files) (folder cov : List ℕ) (S : Schema) : Type 0 where
-  pub tables : LacksTables after (within folder cov) S
-  pub indexes : AllByRecursion (λ (table : FeatureTable). LacksIndexes after (within folder cov) table.grid.head.columns table.indexes) S.tables
-  pub edges : after (within (within folder cov) (codes "edg")) ≡ None
 
 -- the names of the folder and of the coverage of a request are text, and the coverage has one
 pub record HasNames (request : MakeRequest) : Type 0 where

@@ -1,12 +1,15 @@
 //! What is so of every tiled library that is made, and of the requests that words spell.
 
-ghost use Rattle.vpf_library_commands.specs.Inner.TileTheorem.Tilings.Laws.{CutIsSource, NoneIsLacked, RequestsHaveNames, SourceIsCut, TilesAreMade};
+ghost use Rattle.vpf_library_commands.specs.Inner.TileTheorem.Tilings.Laws.{CutIsSource, NoneIsLacked, RequestsHaveNames, RestIsLacked, SourceIsCut, TilesAreMade};
 ghost use Rattle.vpf_library_commands.specs.Inner.TileTheorem.Tilings.Laws.{TilingsAgree, TilingsAreAnswered, TilingsAreHeld};
 
 use crate::laws::{check_decides_agreement, trace_lists_cycles};
-use crate::tile_theorem::tiled_features::laws::{made_with_features, no_schema_table_is_made};
 use crate::tiler::laws::made_agrees;
+use crate::tiler::tiled_features::laws::{
+    made_with_features, no_schema_table_is_made, own_names_are_free,
+};
 use vpf_feature_files::laws::features_are_held;
+use vpf_feature_writing::feature_reading::laws::written_names;
 use vpf_features::feature_agreement::laws::features_decide;
 use vpf_library_files::loading::laws::{coverages_are_held, files_are_libraries};
 use vpf_library_files::tileref::laws::stops_decide;
@@ -66,6 +69,18 @@ pub fn sources_are_cut()
     made_agrees();
     made_with_features();
     no_schema_table_is_made();
+}
+
+/// Where the files of a source are made in an empty folder, none of the feature tables stands there that its features lacked, and no thematic index is called
+/// as the edges of an untiled coverage.
+pub fn rest_is_lacked()
+    ensures { RestIsLacked }
+{
+    spelled_is_opened();
+    opened_is_read();
+    features_are_held();
+    written_names();
+    own_names_are_free();
 }
 
 /// What features lack can't stand among the files that are made of a coverage without features.

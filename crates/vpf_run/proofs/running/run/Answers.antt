@@ -65,14 +65,14 @@ pub returns-clause-rejoined : goal.returns-clause-rejoined
 returns-clause-rejoined g c before after rest request parts tables e a told left done source alone lacks =
     let bytes = told_bytes _ before (g.met.T.Tree.of_bytes c.args.tree.now) told in
     let later = told_bytes _ after (g.met.T.Tree.of_bytes c.do_words.new.tree) left in
-    run_tiles c.tilings_agree.ensures.listed c.sources_are_cut.ensures.cut c.tiles_are_made.ensures c.requests_have_names.ensures c.args.words.now before after request
+    run_tiles c.tilings_agree.ensures.listed c.rest_is_lacked.ensures c.sources_are_cut.ensures.cut c.tiles_are_made.ensures c.requests_have_names.ensures c.args.words.now before after request
     parts tables _ _ _ bytes later (tile_words _ rest request e a) told left done source alone lacks c.do_words.ensures.answer
 
 pub returns-clause-answered : goal.returns-clause-answered
 returns-clause-answered g c before after rest request parts tables e a told left done source alone lacks =
     let bytes = told_bytes _ before (g.met.T.Tree.of_bytes c.args.tree.now) told in
     let later = told_bytes _ after (g.met.T.Tree.of_bytes c.do_words.new.tree) left in
-    run_answers c.tilings_agree.ensures.answered c.sources_are_cut.ensures.cut c.tiles_are_made.ensures c.requests_have_names.ensures c.args.words.now before after
+    run_answers c.tilings_agree.ensures.answered c.rest_is_lacked.ensures c.sources_are_cut.ensures.cut c.tiles_are_made.ensures c.requests_have_names.ensures c.args.words.now before after
     request parts tables _ _ _ bytes later (tile_words _ rest request e a) told left done source alone lacks c.do_words.ensures.answer
 
 pub returns-clause-joined : goal.returns-clause-joined

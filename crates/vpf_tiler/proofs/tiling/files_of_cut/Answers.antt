@@ -4,8 +4,8 @@ use Rattle.vpf_base.specs.Results.{Meets}
 use Rattle.vpf_source.specs.declared.file.File.{File}
 use Rattle.vpf_prims.specs.Reading.{primitives_of}
 use Rattle.vpf_cutting.specs.Inner.Cuts.{Cutting}
-use Rattle.vpf_tiler.specs.declared.errors.TileError.{TileError}
-use Rattle.vpf_tiler.specs.Making.{tile_error_seen}
+use Rattle.vpf_library_files.specs.declared.table_files.errors.AddError.{AddError}
+use Rattle.vpf_library_files.specs.TableFiles.Adding.{error_seen}
 use Rattle.vpf_tiler.proofs.CutLemmas.{making_is}
 use Rattle.vpf_tiler.proofs.tiling.files_of_cut.Goals as goal
 
@@ -26,6 +26,6 @@ returns-in_err-making c =
 
 pub returns : goal.returns
 returns c =
-    subst (λ (o : Result (List File) TileError). Meets (λ (files : Vec File Global). files.items) tile_error_seen c.files_with.result o)
+    subst (λ (o : Result (List File) AddError). Meets (λ (files : Vec File Global). files.items) error_seen c.files_with.result o)
     (making_is c.args.cov.now c.in_ok-making.making.forms c.args.source.now.tables c.in_ok-making.making.cut.now c.args.cut.now c.args.tileref.now
     c.in_ok-making.ensures.forms c.in_ok-making.ensures.cut) c.files_with.ensures

@@ -1,6 +1,5 @@
 -- The files of the tiled library of a coverage, in a folder that holds them and no others, are the coverage cut into tiles.
-use Rattle.std.proofs.Common.{[], ◌≡◌, ◌<◌, ℕ, suc, List, length, map, get_or, sym, subst, ◌∙◌, arith}
-use Rattle.std.specs.Prelude.{All}
+use Rattle.std.proofs.Common.{[], ◌≡◌, ◌<◌, ℕ, suc, List, length, get_or, sym, subst, ◌∙◌, arith}
 use Rattle.std.specs.List.{AllByRecursion}
 use Rattle.std.proofs.lemmas.List.{get_or-map, get_or_default, length-map}
 use Rattle.std.proofs.lemmas.List.Elements.{All-map, recursion_from_All}

@@ -39,7 +39,7 @@ OtherStem a b = without_last a.name ≢ without_last b.name
 stems_apart : (s t : List ℕ) (a b : File) → s ≢ t → IsOfStem s a → IsOfStem t b → OtherFile a b
 stems_apart s t a b ne p q e = ne (cut_ends s t (p.letter ∷ []) (q.letter ∷ []) refl (sym p.is ∙ e ∙ q.is)).0
 
-files_of_stem : (table : NamedTable) → HasLetter table → AllByRecursion (IsOfStem (without_last table.name)) (files_of_table table)
+pub files_of_stem : (table : NamedTable) → HasLetter table → AllByRecursion (IsOfStem (without_last table.name)) (files_of_table table)
 files_of_stem table h = (record { letter = h.letter; is = h.is }, by (canonical_index table.grid))
   where
     by : (index : Option (List ℕ)) → AllByRecursion (IsOfStem (without_last table.name)) (index_files table.name index)

@@ -1,5 +1,5 @@
 -- Lists whose members are apart from each other, and what is so of all members of lists that are joined.
-use Rattle.std.proofs.Common.{[], ℕ, ◌+◌, List, ◌∷◌, ◌++◌, map}
+use Rattle.std.proofs.Common.{[], ℕ, List, ◌∷◌, ◌++◌, map}
 use Rattle.std.specs.Prelude.{flat_map}
 use Rattle.std.specs.List.{AllByRecursion}
 use Rattle.vpf_base.proofs.Lists.{all_joined as all_both}

@@ -1,5 +1,5 @@
 -- The files of tiles within a folder, as they are read there.
-use Rattle.std.proofs.Common.{[], ◌≡◌, ◌≢◌, ℕ, ◌+◌, List, ◌∷◌, ◌++◌, Option, Some, None, sym, ap, ◌∙◌, append_assoc, ◌<◌}
+use Rattle.std.proofs.Common.{[], ◌≡◌, ◌≢◌, ℕ, List, ◌∷◌, ◌++◌, Option, Some, None, sym, ap, ◌∙◌, append_assoc, ◌<◌}
 use Rattle.std.specs.Prelude.{IsUtf8, codes}
 use Rattle.vpf_table.specs.Canonical.{IsWritable}
 use Rattle.vpf_table.specs.Grid.{Grid}

@@ -5,6 +5,9 @@ use Rattle.vpf_source.specs.Files.{Files, HoldsBytes}
 use Rattle.vpf_source.specs.Making.{with_all}
 use Rattle.vpf_prims.specs.Reading.{primitives_of}
 use Rattle.vpf_prims.specs.Tables.{TileTables}
+use Rattle.vpf_library_files.specs.Loading.Loading.{within}
+use Rattle.vpf_feature_writing.specs.FeatureReading.Laws.{LacksThemes}
+use Rattle.vpf_tiler.specs.Inner.TiledFeatures.Folders.{LacksTheRest}
 use Rattle.vpf_library_commands.specs.declared.requesting.MakeRequest.{MakeRequest}
 use Rattle.vpf_replies.specs.Making.{made_answer}
 use Rattle.vpf_library_commands.specs.Make.{make_request}
@@ -12,7 +15,7 @@ use Rattle.vpf_library_commands.specs.Tile.{TileParts, tile_answer}
 use Rattle.vpf_library_commands.specs.Reading.{no_features}
 use Rattle.vpf_library_commands.specs.TileTheorem.Tilings.Cutting.{IsCutFrom, cut_files, cut_plan}
 use Rattle.vpf_library_commands.specs.TileTheorem.Tilings.Sources.{IsTileSource}
-use Rattle.vpf_library_commands.specs.TileTheorem.Tilings.Tilings.{AnswersTiling, HasNames, HoldsTiled, HoldsTiling, LacksTheRest, StandsAlone, made_request}
+use Rattle.vpf_library_commands.specs.TileTheorem.Tilings.Tilings.{AnswersTiling, HasNames, HoldsTiled, HoldsTiling, StandsAlone, made_request}
 
 -- where what was read can be cut, the answer of `tile` is to make the files of the tiled library and of its features
 abbrev pub TilesAreMade : Type 0
@@ -52,6 +55,13 @@ TilingsAreAnswered = (files after : Files) (request : MakeRequest) (parts : Tile
     → IsCutFrom files request parts T → StandsAlone files request.out (cut_files request parts T)
     → with_all (cut_files request parts T) (Some files) ≡ Some after → LacksTheRest after request.out request.cov parts.schema
     → AnswersTiling after (made_request request) (primitives_of T.tables) (cut_plan parts T) (length parts.tileref.grid.rows) parts.schema
+
+-- where the files of a source are made and stand alone, and no thematic index is there that its features lacked, nothing else that they lacked is there
+abbrev pub RestIsLacked : Type 0
+RestIsLacked = (files after : Files) (request : MakeRequest) (parts : TileParts) (T : TileTables) → HoldsBytes files → HasNames request
+    → IsTileSource files request parts T → IsCutFrom files request parts T → StandsAlone files request.out (cut_files request parts T)
+    → with_all (cut_files request parts T) (Some files) ≡ Some after → LacksThemes after (within request.out request.cov) parts.schema
+    → LacksTheRest after request.out request.cov parts.schema
 
 -- a coverage without features lacks none of the rest
 abbrev pub NoneIsLacked : Type 0

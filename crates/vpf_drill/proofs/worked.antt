@@ -1,0 +1,14 @@
+pub mod HeaderLemmas
+pub mod ReadLemmas
+pub mod ThemeLemmas
+pub mod LoadLemmas
+pub mod PartLemmas
+pub mod WordLemmas
+pub mod UnfoundLemmas
+pub mod PlanLemmas
+pub mod ByteLemmas
+pub mod CutLemmas
+pub mod NameLemmas
+pub mod AloneLemmas
+pub mod LackLemmas
+pub mod SourceLemmas

@@ -1,0 +1,4 @@
+pub mod Tables
+pub mod Held
+pub mod Request
+pub mod Laws
